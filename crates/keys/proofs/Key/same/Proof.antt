@@ -1,0 +1,15 @@
+use Rattle.keys.specs.Keys.{same-count, other-count}
+use borrow.Author.Needs.{needs}
+use Rattle.keys.proofs.Key.same.Statement.{statement}
+use Rattle.keys.proofs.Key.same.Tie as tie
+use Rattle.keys.proofs.Key.same.Reads as reads
+use Rattle.keys.proofs.Key.same.Lts as lts
+
+returns : tie.Need-returns
+returns c = let a = c .before .before .before .before .before .args in same-count (a .self) (a .other) (c .before .before .if1 .taken)
+
+returns-2 : tie.Need-returns-2
+returns-2 c = let a = c .before .before .before .args in other-count (a .self) (a .other) (c .if1 .left)
+
+pub same-spec : {M : Type 1} → statement M
+same-spec = tie.close (tie.spec returns returns-2)

@@ -1,0 +1,3 @@
+-- Keys and masks: what they are as numbers.
+pub mod Keys
+pub mod Masks

@@ -1,0 +1,9 @@
+-- Folds over the numbers below n, each as a definition with its laws. Everything above cites these; nothing above proves such an induction again.
+pub mod Tests
+pub mod All
+pub mod Sum
+pub mod First
+pub mod Last
+pub mod Turns
+pub mod Picked
+pub mod Words
