@@ -1,9 +1,8 @@
+-- `keys::mask_within` meets its contract: a mask is below 2^k where nothing is left of it after k shifts.
 use Rattle.keys.specs.Masks.{zero-mask, shifted-mask}
 use borrow.Author.Needs.{needs}
 use Rattle.keys.proofs.mask_within.Statement.{statement}
 use Rattle.keys.proofs.mask_within.Tie as tie
-use Rattle.keys.proofs.mask_within.Reads as reads
-use Rattle.keys.proofs.mask_within.Lts as lts
 
 returns : tie.Need-returns
 returns c = zero-mask _ _ (c .if1 .taken)

@@ -1,3 +1,4 @@
+-- `keys::servers_in` meets its contract: `n` counts the servers of the mask that the loop has passed.
 use Prim.Native.Nat.{_≤_, _-_}
 use mathlib.Core.Path.{_≡_, sym, _∙_}
 use mathlib.Core.Logic.{⊎-elim}
@@ -7,9 +8,6 @@ use Rattle.keys.specs.Masks.{hasServer}
 use borrow.Author.Needs.{needs}
 use Rattle.keys.proofs.servers_in.Statement.{statement}
 use Rattle.keys.proofs.servers_in.Tie as tie
-use Rattle.keys.proofs.servers_in.Reads as reads
-use Rattle.keys.proofs.servers_in.Lts as lts
-use Rattle.keys.proofs.has_server.Reads as has-server-reads
 
 abbrev Inv-loop : tie.InvT-loop
 Inv-loop mask n₀ server₀ n server = (server ≤ 16) × (n ≡ countBelow (hasServer mask) server)

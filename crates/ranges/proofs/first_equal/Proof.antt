@@ -1,3 +1,4 @@
+-- `ranges::first_equal` meets its contract: the loop has found no equal word before `at`, so the first one it meets, or the end, is the first.
 use Prim.Native.Nat.{_-_}
 use Rattle.ranges.specs.Words.{equalFrom}
 use borrow.Author.Tests.{eq-eqb, ne-eqb}

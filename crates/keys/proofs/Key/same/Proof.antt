@@ -1,9 +1,8 @@
+-- `keys::Key::same` meets its contract: each way out is a case law of `sameKey`.
 use Rattle.keys.specs.Keys.{same-count, other-count}
 use borrow.Author.Needs.{needs}
 use Rattle.keys.proofs.Key.same.Statement.{statement}
 use Rattle.keys.proofs.Key.same.Tie as tie
-use Rattle.keys.proofs.Key.same.Reads as reads
-use Rattle.keys.proofs.Key.same.Lts as lts
 
 returns : tie.Need-returns
 returns c = let a = c .before .before .before .before .before .args in same-count (a .self) (a .other) (c .before .before .if1 .taken)

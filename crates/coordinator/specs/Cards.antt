@@ -1,0 +1,16 @@
+-- Starred card: "Log: opening, then (1, 0) mask 1. Key at tag 1: station 0 (1, 0), station 1 (0, 0)."
+use Prim.Native.Nat.{ℕ}
+use mathlib.Core.Path.{_≡_, refl}
+use mathlib.Core.List.{List, [], _∷_}
+use lib.ListN.{replicate}
+use Rattle.ranges.specs.Last.{lastBelow}
+use Rattle.keys.specs.Keys.{keyOf, opening}
+use Rattle.tables.specs.Layout.{putEntry}
+use Rattle.coordinator.specs.Latest.{latestKey}
+
+abbrev log : List ℕ
+log = putEntry (putEntry (0 ∷ 0 ∷ 0 ∷ 0 ∷ []) 0 opening 3) 1 (keyOf 1 0) 1
+
+pub log-card : (latestKey log 0 1 ≡ keyOf 1 0) × (latestKey log 1 1 ≡ keyOf 0 0)
+unfolding lastBelow
+log-card = (refl, refl)

@@ -1,0 +1,4 @@
+pub mod Log
+pub mod Latest
+pub mod LatestLaws
+pub mod Cards

@@ -1,0 +1,16 @@
+-- `server::append` meets its contract: full or stored, each a case law of `appended`.
+use Rattle.server.specs.Held.{append-full, append-stored}
+use borrow.Author.Needs.{needs}
+use Rattle.server.proofs.append.Statement.{statement}
+use Rattle.server.proofs.append.Tie as tie
+
+returns : tie.Need-returns
+returns c = let a = c .before .before .before .before .before .before .args in append-full (a .counts .now) (a .keys .now) (a .values .now) (a .server) (a .key) (a .setpoint) (c .before .count-at .ensures) (c .if1 .taken)
+
+returns-2 : tie.Need-returns-2
+returns-2 c = let a = c .before .before .before .before .before .before .before .before .before .before .before .before .before .before .before .before .before .args in append-stored (a .counts .now) (a .keys .now) (a .values .now) (a .server) (a .key) (a .setpoint) (c .before .before .before .before .before .before .before .before .before .before .before .before .count-at .ensures) (c .before .before .before .before .before .before .before .before .before .before .before .if1 .left) (c .before .before .before .before .before .before .before .before .put-version .ensures .0) (c .before .before .before .before .before .before .before .before .put-version .ensures .1) (c .before .before .put-count .ensures)
+
+pub append-spec : {M : Type 1} → statement M
+append-spec =
+    tie.close
+    (tie.spec (λ c. search needs) (λ c κs. search needs) (λ c. search needs) (λ c. search needs) returns (λ c. search needs) (λ c κs. search needs) (λ c. search needs) (λ c. search needs) (λ c κs. search needs) (λ c. search needs) (λ c. search needs) (λ c. search needs) returns-2)

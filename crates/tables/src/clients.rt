@@ -1,0 +1,35 @@
+// A client's row: state, last count, mask, tag, 16 setpoints, and the n received from each of 17 targets.
+ghost use mathlib.Core.Path.{_≡_};
+ghost use Prim.Native.Nat.{_<_};
+ghost use Rattle.tables.specs.Rows.{HasRow};
+ghost use Rattle.tables.specs.Layout.{clientWidth, clientWord, putClientWord};
+
+pub const WIDTH: usize = 37;
+
+pub const STATE: usize = 0;
+
+pub const COUNT: usize = 1;
+
+pub const MASK: usize = 2;
+
+pub const TAG: usize = 3;
+// The setpoint of server i stands at SETPOINTS + i.
+pub const SETPOINTS: usize = 4;
+// The n received from target i stands at RECEIVED + i.
+pub const RECEIVED: usize = 20;
+
+pub fn client_word(clients: &[u32], client: usize, field: usize) -> u32
+    requires { ⌜ HasRow clientWidth (now clients) client ⌝ }
+    requires { ⌜ field < clientWidth ⌝ }
+    ensures { λ r. ⌜ r ≡ clientWord (now (clients .entry)) client field ⌝ }
+{
+    clients[WIDTH * client + field]
+}
+
+pub fn put_client_word(clients: &mut [u32], client: usize, field: usize, value: u32)
+    requires { ⌜ HasRow clientWidth (now clients) client ⌝ }
+    requires { ⌜ field < clientWidth ⌝ }
+    ensures { λ _. ⌜ now (clients .exit) ≡ putClientWord (now (clients .entry)) client field value ⌝ }
+{
+    clients[WIDTH * client + field] = value;
+}

@@ -1,0 +1,91 @@
+// The links: what the wire holds between a client and a target. A row of three words: kind, key, number.
+ghost use mathlib.Core.Path.{_≡_};
+ghost use Prim.Native.Nat.{_+_, _<_};
+ghost use mathlib.Core.List.{[], _∷_};
+ghost use lib.ListN.{length};
+ghost use lib.Seq.{sets};
+ghost use Rattle.tables.specs.Rows.{HasRow};
+ghost use Rattle.tables.specs.Links.{linkWidth, linkRow, linkAt, putLink};
+use keys::Key;
+
+// What a request or a reply carries. The number is the setpoint, mask, tag or n; what a message does not carry is 0.
+pub struct Contents {
+    pub key: Key,
+    pub number: u32,
+}
+
+pub enum Content {
+    Nothing,
+    Request(Contents),
+    Reply(Contents),
+}
+
+pub struct Link {
+    pub content: Content,
+}
+
+const WIDTH: usize = 3;
+
+const KIND: usize = 0;
+
+const KEY: usize = 1;
+
+const NUMBER: usize = 2;
+// The targets of a client: servers 0 to 15, and the coordinator.
+pub const TARGETS: usize = 17;
+
+pub const COORDINATOR: usize = 16;
+
+pub fn link_at(links: &[u32], client: usize, target: usize) -> Link
+    requires { ⌜ HasRow linkWidth (now links) (linkRow client target) ⌝ }
+    ensures { λ r. ⌜ r ≡ linkAt (now (links .entry)) client target ⌝ }
+{
+    let at = WIDTH * (TARGETS * client + target);
+    let kind = links[at + KIND];
+    let contents = Contents {
+        key: Key::at_word(links[at + KEY]),
+        number: links[at + NUMBER],
+    };
+    if kind == 1 {
+        return Link {
+            content: Content::Request(contents),
+        };
+    }
+    if kind == 2 {
+        return Link {
+            content: Content::Reply(contents),
+        };
+    }
+    Link {
+        content: Content::Nothing,
+    }
+}
+
+// Three words from a place on.
+fn put_words(links: &mut [u32], at: usize, kind: u32, key: u32, number: u32)
+    requires { ⌜ at + 2 < length (now links) ⌝ }
+    ensures { λ _. ⌜ now (links .exit) ≡ sets (now (links .entry)) at (kind ∷ key ∷ number ∷ []) ⌝ }
+{
+    links[at] = kind;
+    links[at + 1] = key;
+    links[at + 2] = number;
+}
+
+pub fn put_link(links: &mut [u32], client: usize, target: usize, link: Link)
+    requires { ⌜ HasRow linkWidth (now links) (linkRow client target) ⌝ }
+    ensures { λ _. ⌜ now (links .exit) ≡ putLink (now (links .entry)) client target (link .content) ⌝ }
+{
+    let at = WIDTH * (TARGETS * client + target);
+    let content = link.content;
+    match content {
+        Content::Nothing => {
+            put_words(links, at, 0, 0, 0);
+        }
+        Content::Request(contents) => {
+            put_words(links, at, 1, contents.key.word(), contents.number);
+        }
+        Content::Reply(contents) => {
+            put_words(links, at, 2, contents.key.word(), contents.number);
+        }
+    }
+}
