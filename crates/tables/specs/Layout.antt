@@ -38,8 +38,9 @@ abbrev pub countAt : List ℕ → ℕ → ℕ
 countAt counts field = getD counts field 0
 
 -- A client's row. "Per panel: state, last count, mask, tag, setpoints and, under C, the n received from each target in this READ".
+-- Besides: the place of the record of its transaction in progress, so that a step finds the record at once.
 abbrev pub clientWidth : ℕ
-clientWidth = 37
+clientWidth = 38
 
 abbrev pub stateField : ℕ
 stateField = 0
@@ -53,11 +54,14 @@ maskField = 2
 abbrev pub tagField : ℕ
 tagField = 3
 
+abbrev pub recordField : ℕ
+recordField = 4
+
 abbrev pub setpointsField : ℕ
-setpointsField = 4
+setpointsField = 5
 
 abbrev pub receivedField : ℕ
-receivedField = 20
+receivedField = 21
 
 abbrev pub clientWord : List ℕ → ℕ → ℕ → ℕ
 clientWord clients q field = wordAt clientWidth clients q field

@@ -1,10 +1,10 @@
-// A client's row: state, last count, mask, tag, 16 setpoints, and the n received from each of 17 targets.
+// A client's row: state, last count, mask, tag, the place of the record in progress, 16 setpoints, and the n received from each of 17 targets.
 ghost use mathlib.Core.Path.{_≡_};
 ghost use Prim.Native.Nat.{_<_};
 ghost use Rattle.tables.specs.Rows.{HasRow};
 ghost use Rattle.tables.specs.Layout.{clientWidth, clientWord, putClientWord};
 
-pub const WIDTH: usize = 37;
+pub const WIDTH: usize = 38;
 
 pub const STATE: usize = 0;
 
@@ -13,10 +13,12 @@ pub const COUNT: usize = 1;
 pub const MASK: usize = 2;
 
 pub const TAG: usize = 3;
+// The place of the record of the transaction in progress.
+pub const RECORD: usize = 4;
 // The setpoint of server i stands at SETPOINTS + i.
-pub const SETPOINTS: usize = 4;
+pub const SETPOINTS: usize = 5;
 // The n received from target i stands at RECEIVED + i.
-pub const RECEIVED: usize = 20;
+pub const RECEIVED: usize = 21;
 
 pub fn client_word(clients: &[u32], client: usize, field: usize) -> u32
     requires { ⌜ HasRow clientWidth (now clients) client ⌝ }
