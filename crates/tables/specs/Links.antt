@@ -1,7 +1,7 @@
 -- The links: "Each link (panel, target) holds nothing, a request or a reply with its contents." A row of three words: kind, key, number.
 use Prim.Native.Nat.{ℕ, _+_, _*_, _<_}
 use mathlib.Core.Path.{_≡_, refl, _∙_}
-use mathlib.Core.Bool.{Bool, cond}
+use mathlib.Core.Bool.{Bool, true, false, cond}
 use mathlib.Core.List.{List, [], _∷_}
 use native.Mathlib.Omega.{arith}
 use lib.ListN.{length, getD}
@@ -45,6 +45,12 @@ linkAt links q i =
 
 unfoldable pub putLink : List ℕ → ℕ → ℕ → Content → List ℕ
 putLink links q i content = putRow linkWidth links (linkRow q i) (contentWords content)
+
+-- nothing stands on the link
+abbrev pub isEmpty : Content → Bool
+isEmpty Nothing = true
+isEmpty (Request w) = false
+isEmpty (Reply w) = false
 
 -- the key of a content has a count and a client of a byte each
 abbrev pub ContentFits : Content → Type 0
@@ -113,3 +119,16 @@ module _ (links : List ℕ) (q i : ℕ) where
   pub is-nothing : (wordOf 0 ≡ 1 → ⊥) → (wordOf 0 ≡ 2 → ⊥) → record { content = Nothing } ≡ linkAt links q i
   unfolding linkAt
   is-nothing f g = rw (ne-eqb _ _ f, ne-eqb _ _ g)
+
+  -- whether a link holds anything
+  pub full-request : wordOf 0 ≡ 1 → false ≡ isEmpty (linkAt links q i .content)
+  unfolding linkAt
+  full-request e = rw e
+
+  pub full-reply : (wordOf 0 ≡ 1 → ⊥) → wordOf 0 ≡ 2 → false ≡ isEmpty (linkAt links q i .content)
+  unfolding linkAt
+  full-reply f e = rw (ne-eqb _ _ f, eq-eqb _ _ e)
+
+  pub none-there : (wordOf 0 ≡ 1 → ⊥) → (wordOf 0 ≡ 2 → ⊥) → true ≡ isEmpty (linkAt links q i .content)
+  unfolding linkAt
+  none-there f g = rw (ne-eqb _ _ f, ne-eqb _ _ g)

@@ -5,7 +5,7 @@ ghost use mathlib.Core.List.{[], _∷_};
 ghost use lib.ListN.{length};
 ghost use lib.Seq.{sets};
 ghost use Rattle.tables.specs.Rows.{HasRow};
-ghost use Rattle.tables.specs.Links.{linkWidth, linkRow, linkAt, putLink};
+ghost use Rattle.tables.specs.Links.{linkWidth, linkRow, linkAt, putLink, isEmpty};
 use keys::Key;
 
 // What a request or a reply carries. The number is the setpoint, mask, tag or n; what a message does not carry is 0.
@@ -88,4 +88,19 @@ pub fn put_link(links: &mut [u32], client: usize, target: usize, link: Link)
             put_words(links, at, 2, contents.key.word(), contents.number);
         }
     }
+}
+
+// Whether a link holds nothing.
+pub fn is_empty(links: &[u32], client: usize, target: usize) -> bool
+    requires { ⌜ HasRow linkWidth (now links) (linkRow client target) ⌝ }
+    ensures { λ r. ⌜ r ≡ isEmpty (linkAt (now (links .entry)) client target .content) ⌝ }
+{
+    let kind = links[WIDTH * (TARGETS * client + target) + KIND];
+    if kind == 1 {
+        return false;
+    }
+    if kind == 2 {
+        return false;
+    }
+    true
 }

@@ -1,0 +1,99 @@
+-- "Begin a WRITE" and "Begin a READ": what an accepted begin changes.
+use Prim.Native.Nat.{ℕ, _+_, _-_}
+use mathlib.Core.Bool.{cond}
+use mathlib.Core.List.{List}
+use lib.ListN.{getD}
+use lib.Dec.{eqb}
+use Rattle.ranges.specs.Turns.{turns}
+use Rattle.ranges.specs.Picked.{picked}
+use Rattle.keys.specs.declared.Key.{Key}
+use Rattle.keys.specs.Keys.{keyOf, opening}
+use Rattle.keys.specs.Masks.{hasServer}
+use Rattle.coordinator.specs.Latest.{latestKey}
+use Rattle.tables.specs.Layout.{writesField, readsField, countField, tagField, setpointsField, putClientWord}
+use Rattle.tables.specs.Links.{putLink}
+use Rattle.tables.specs.Tables.{Tables, tablesOf, methodOf, serversOf, entriesOf, writesOf, readsOf, countOf}
+use Rattle.rules.specs.Common.{writing, askingKeys, askingSetpoints, askingAll, coordinator, request, begunCounts, begunRecords, startedClient}
+
+-- "a WRITE also [stores] its k setpoints"
+abbrev pub storeSetpoint : ℕ → List ℕ → ℕ → List ℕ → List ℕ
+storeSetpoint q setpoints i clients = putClientWord clients q (setpointsField + i) (getD setpoints i 0)
+
+abbrev pub storedSetpoints : ℕ → List ℕ → ℕ → List ℕ → List ℕ
+storedSetpoints q setpoints k clients = turns (storeSetpoint q setpoints) k clients
+
+-- "a request to each masked station"
+abbrev pub sendSet : ℕ → Key → List ℕ → ℕ → List ℕ → List ℕ
+sendSet q key setpoints i links = putLink links q i (request key (getD setpoints i 0))
+
+abbrev pub sentSets : ℕ → ℕ → Key → List ℕ → ℕ → List ℕ → List ℕ
+sentSets q mask key setpoints k links = turns (picked (hasServer mask) (sendSet q key setpoints)) k links
+
+-- "Begin a WRITE: next count; a request to each masked station; state 1."
+abbrev pub nextCount : Tables → ℕ → ℕ
+nextCount t q = countOf t q + 1
+
+unfoldable pub begunWrite : ℕ → ℕ → List ℕ → Tables → Tables
+begunWrite q mask setpoints t =
+    tablesOf
+    (begunCounts writesField (t .counts))
+    (storedSetpoints q setpoints (serversOf t) (putClientWord (startedClient writing mask (writesOf t) q (t .clients)) q countField (nextCount t q)))
+    (sentSets q mask (keyOf (nextCount t q) q) setpoints (serversOf t) (t .links))
+    (t .keys) (t .values) (t .log)
+    (begunRecords writesField (t .counts) q (nextCount t q) (t .writes))
+    (t .reads)
+
+-- "then ask each masked station for its key": the key of the station at a tag
+abbrev pub sendGet : ℕ → List ℕ → ℕ → ℕ → List ℕ → List ℕ
+sendGet q log tag i links = putLink links q i (request (latestKey log i tag) 0)
+
+abbrev pub sentGets : ℕ → ℕ → List ℕ → ℕ → ℕ → List ℕ → List ℕ
+sentGets q mask log tag k links = turns (picked (hasServer mask) (sendGet q log tag)) k links
+
+-- a request that carries nothing: which keys, get all, get log
+abbrev pub sendAsk : ℕ → ℕ → List ℕ → List ℕ
+sendAsk q i links = putLink links q i (request opening 0)
+
+abbrev pub sentAsks : ℕ → ℕ → ℕ → List ℕ → List ℕ
+sentAsks q mask k links = turns (picked (hasServer mask) (sendAsk q)) k links
+
+-- what a READ changes in the client's row and its links, by method
+pub record Asking : Type 0 where
+  pub clients : List ℕ
+  pub links : List ℕ
+
+abbrev pub asking : List ℕ → List ℕ → Asking
+asking clients links = record { clients = clients; links = links }
+
+-- "the last tag"
+abbrev pub lastTag : Tables → ℕ
+lastTag t = entriesOf t - 1
+
+-- "A: take the last tag and its keys from panel 0's log, then ask each masked station for its key."
+abbrev pub askingByA : ℕ → ℕ → Tables → Asking
+askingByA q mask t =
+    asking (putClientWord (startedClient askingSetpoints mask (readsOf t) q (t .clients)) q tagField (lastTag t))
+    (sentGets q mask (t .log) (lastTag t) (serversOf t) (t .links))
+
+-- "B: ask the head"
+abbrev pub askingByB : ℕ → ℕ → Tables → Asking
+askingByB q mask t = asking (startedClient askingKeys mask (readsOf t) q (t .clients)) (sendAsk q coordinator (t .links))
+
+-- "C: ask all masked stations and the head together"
+abbrev pub askingByC : ℕ → ℕ → Tables → Asking
+askingByC q mask t = asking (startedClient askingAll mask (readsOf t) q (t .clients)) (sendAsk q coordinator (sentAsks q mask (serversOf t) (t .links)))
+
+abbrev pub askingBy : ℕ → ℕ → ℕ → Tables → Asking
+askingBy method q mask t = cond (eqb method 1) (askingByA q mask t) (cond (eqb method 2) (askingByB q mask t) (askingByC q mask t))
+
+abbrev pub begunReadWith : ℕ → ℕ → Asking → Tables → Tables
+begunReadWith q mask a t =
+    tablesOf
+    (begunCounts readsField (t .counts))
+    (a .clients)
+    (a .links)
+    (t .keys) (t .values) (t .log) (t .writes)
+    (begunRecords readsField (t .counts) q mask (t .reads))
+
+unfoldable pub begunRead : ℕ → ℕ → Tables → Tables
+begunRead q mask t = begunReadWith q mask (askingBy (methodOf t) q mask t) t

@@ -1,0 +1,73 @@
+-- What several steps share.
+use Prim.Native.Nat.{ℕ, _+_}
+use mathlib.Core.Bool.{Bool, true, false, not}
+use mathlib.Core.List.{List, [], _∷_}
+use lib.ListN.{set}
+use Rattle.ranges.specs.All.{anyBelow}
+use Rattle.keys.specs.declared.Key.{Key}
+use Rattle.keys.specs.Keys.{opening}
+use Rattle.tables.specs.Layout.{stepField, countAt, putClientWord, stateField, maskField, recordField, putRecordWord, tagOfRecord, endOfRecord, putBegun}
+use Rattle.tables.specs.Links.{targets, linkAt, putLink, isEmpty}
+use Rattle.tables.specs.Tables.{Tables, withCounts, stepOf}
+use Rattle.tables.specs.declared.links.Content.{Content}
+use Rattle.tables.specs.declared.links.Content.the-variants.{Nothing, Request, Reply}
+
+-- "States: 0 idle, 1 writing setpoints, 2 waiting for its tag, 3 (B only) asking the head, 4 (A, B) asking for setpoints, 5 (C only) asking all."
+abbrev pub idle : ℕ
+idle = 0
+
+abbrev pub writing : ℕ
+writing = 1
+
+abbrev pub entering : ℕ
+entering = 2
+
+abbrev pub askingKeys : ℕ
+askingKeys = 3
+
+abbrev pub askingSetpoints : ℕ
+askingSetpoints = 4
+
+abbrev pub askingAll : ℕ
+askingAll = 5
+
+-- "Target 16 means the head."
+abbrev pub coordinator : ℕ
+coordinator = 16
+
+-- A message carries a key and a number, or one of them, or neither: what it does not carry is written as 0.
+abbrev pub request : Key → ℕ → Content
+request key number = Request (record { key = key; number = number })
+
+-- a reply carries a number at most
+abbrev pub reply : ℕ → Content
+reply number = Reply (record { key = opening; number = number })
+
+-- "The opening is step 1; each accepted step adds 1."
+abbrev pub nextStep : Tables → ℕ
+nextStep t = stepOf t + 1
+
+abbrev pub counted : List ℕ → List ℕ
+counted counts = set counts stepField (countAt counts stepField + 1)
+
+-- some link of the client holds a request or a reply
+abbrev pub pending : List ℕ → ℕ → Bool
+pending links q = anyBelow (λ i. not (isEmpty (linkAt links q i .content))) targets
+
+-- a begin: "Records stand in order of begin." The record in the next place, with no tag and no end; one transaction of its kind more, one step more.
+abbrev pub begunCounts : ℕ → List ℕ → List ℕ
+begunCounts field counts = set (set counts field (countAt counts field + 1)) stepField (countAt counts stepField + 1)
+
+abbrev pub begunRecords : ℕ → List ℕ → ℕ → ℕ → List ℕ → List ℕ
+begunRecords field counts q number records = putBegun records (countAt counts field) q number (countAt counts stepField + 1)
+
+-- "A begin stores the mask"; the client is in a state, and its record is at a place
+abbrev pub startedClient : ℕ → ℕ → ℕ → ℕ → List ℕ → List ℕ
+startedClient state mask place q clients = putClientWord (putClientWord (putClientWord clients q stateField state) q maskField mask) q recordField place
+
+-- an end: the step number goes into the record; "a READ's [tag is recorded] at its end"
+abbrev pub endedRecord : ℕ → ℕ → List ℕ → List ℕ
+endedRecord place step records = putRecordWord records place endOfRecord step
+
+abbrev pub taggedRecord : ℕ → ℕ → List ℕ → List ℕ
+taggedRecord place tag records = putRecordWord records place tagOfRecord tag

@@ -1,0 +1,133 @@
+-- The delivery of a reply: "reply to nothing". What it changes and answers goes by the state of the client; 9 where the link has no reply.
+use Prim.Native.Nat.{ℕ, _+_, _-_}
+use mathlib.Core.Bool.{cond}
+use mathlib.Core.List.{List}
+use lib.ListN.{set, replicate}
+use lib.Dec.{eqb}
+use Rattle.ranges.specs.Turns.{turns}
+use Rattle.ranges.specs.Picked.{picked}
+use Rattle.keys.specs.Keys.{keyOf}
+use Rattle.keys.specs.Masks.{hasServer}
+use Rattle.tables.specs.Layout.{putClientWord, clientWord, stateField, tagField, setpointsField, receivedField, versionWord}
+use Rattle.tables.specs.Links.{targets, putLink}
+use Rattle.tables.specs.Tables.{Tables, withCounts, withClients, withLinks, withWrites, withReads, serversOf, stateOf, countOf, maskOf, tagOf, recordOf, receivedOf, contentAt}
+use Rattle.tables.specs.declared.links.Contents.{Contents}
+use Rattle.tables.specs.declared.links.Content.{Content}
+use Rattle.tables.specs.declared.links.Content.the-variants.{Nothing, Request, Reply}
+use Rattle.rules.specs.declared.Arrival.{Arrival}
+use Rattle.rules.specs.declared.Arrival.the-variants.{Wait, Next, Write, Read, Refused}
+use Rattle.rules.specs.declared.Delivered.{Delivered}
+use Rattle.rules.specs.Answers.{Arrived, arrived, nothingShown}
+use Rattle.rules.specs.Common.{idle, writing, entering, askingKeys, askingSetpoints, coordinator, request, nextStep, counted, pending, endedRecord, taggedRecord}
+use Rattle.rules.specs.Begin.{sentGets}
+use Rattle.rules.specs.Choice.{versionAt, chosenTag}
+
+abbrev pub said : Arrival → Tables → Arrived
+said a t = arrived (nothingShown a) t
+
+-- the step counts, and the client's row and links are as given
+abbrev pub moved : List ℕ → List ℕ → Tables → Tables
+moved clients links t = withCounts (counted (t .counts)) (withClients clients (withLinks links t))
+
+-- the link of the reply holds nothing now
+abbrev pub emptied : ℕ → ℕ → Tables → List ℕ
+emptied q i t = putLink (t .links) q i Nothing
+
+-- a READ shows the setpoints of its masked stations
+abbrev pub showSetpoint : List ℕ → ℕ → ℕ → List ℕ → List ℕ
+showSetpoint clients q i shown = set shown i (clientWord clients q (setpointsField + i))
+
+abbrev pub shownSetpoints : List ℕ → ℕ → ℕ → List ℕ
+shownSetpoints clients q mask = turns (picked (hasServer mask) (showSetpoint clients q)) 16 (replicate 16 0)
+
+abbrev pub readShown : ℕ → List ℕ → ℕ → ℕ → Delivered
+readShown tag clients q mask = record { arrival = Read tag; setpoints = shownSetpoints clients q mask }
+
+-- a READ ends: its record gets tag and end, and the answer shows the setpoints
+abbrev pub endedRead : ℕ → ℕ → List ℕ → List ℕ → Tables → Arrived
+endedRead q tag clients links t =
+    arrived (readShown tag clients q (maskOf t q))
+    (withReads (endedRecord (recordOf t q) (nextStep t) (taggedRecord (recordOf t q) tag (t .reads))) (moved (putClientWord clients q stateField idle) links t))
+
+-- "When the last acknowledgement arrives, key and mask go to the head."
+unfoldable pub onSetDone : ℕ → ℕ → Tables → Arrived
+onSetDone q i t =
+    cond (pending (emptied q i t) q)
+    (said Wait (moved (t .clients) (emptied q i t) t))
+    (said Next (moved (putClientWord (t .clients) q stateField entering) (putLink (emptied q i t) q coordinator (request (keyOf (countOf t q) q) (maskOf t q))) t))
+
+-- "The tag's arrival ends the WRITE."
+unfoldable pub onEntered : Contents → ℕ → ℕ → Tables → Arrived
+onEntered w q i t =
+    said (Write (w .number))
+    (withWrites (endedRecord (recordOf t q) (nextStep t) (t .writes))
+    (moved (putClientWord (putClientWord (t .clients) q tagField (w .number)) q stateField idle) (emptied q i t) t))
+
+-- "B: … its reply has the last tag and all k keys; then as A." The number is that of the log's entries when the head answered.
+unfoldable pub onKeys : Contents → ℕ → ℕ → Tables → Arrived
+onKeys w q i t =
+    said Next
+    (moved (putClientWord (putClientWord (t .clients) q tagField (w .number - 1)) q stateField askingSetpoints)
+    (sentGets q (maskOf t q) (t .log) (w .number - 1) (serversOf t) (emptied q i t)) t)
+
+-- "each wanted setpoint [is] stored in the panel"; the last one ends the READ
+abbrev pub gotSetpoint : Contents → ℕ → ℕ → Tables → List ℕ
+gotSetpoint w q i t = putClientWord (t .clients) q (setpointsField + i) (w .number)
+
+unfoldable pub onGot : Contents → ℕ → ℕ → Tables → Arrived
+onGot w q i t =
+    cond (pending (emptied q i t) q)
+    (said Wait (moved (gotSetpoint w q i t) (emptied q i t) t))
+    (endedRead q (tagOf t q) (gotSetpoint w q i t) (emptied q i t) t)
+
+-- C: "when all replies are in", the tag is chosen, and the setpoint of each masked station at that tag is stored
+abbrev pub gotNumber : Contents → ℕ → ℕ → Tables → List ℕ
+gotNumber w q i t = putClientWord (t .clients) q (receivedField + i) (w .number)
+
+abbrev pub receivedIn : List ℕ → ℕ → ℕ → ℕ
+receivedIn clients q i = clientWord clients q (receivedField + i)
+
+-- the setpoint of server i at a tag, as its versions received have it
+abbrev pub setpointAt : ℕ → List ℕ → ℕ → Tables → ℕ → ℕ
+setpointAt tag clients q t i = versionWord (t .values) i (versionAt (t .keys) (t .log) i tag (receivedIn clients q i))
+
+abbrev pub keepSetpoint : (ℕ → ℕ) → ℕ → ℕ → List ℕ → List ℕ
+keepSetpoint setpoint q i clients = putClientWord clients q (setpointsField + i) (setpoint i)
+
+-- "an end sets state 0 and n to 0"
+abbrev pub forget : ℕ → ℕ → List ℕ → List ℕ
+forget q i clients = putClientWord clients q (receivedField + i) 0
+
+abbrev pub tagChosen : List ℕ → ℕ → Tables → ℕ
+tagChosen clients q t = chosenTag (t .keys) (t .log) (maskOf t q) (receivedIn clients q) (serversOf t) (receivedIn clients q coordinator)
+
+-- the client's row at the end: the setpoints at the tag, the n forgotten, the tag
+abbrev pub concluded : ℕ → List ℕ → ℕ → Tables → List ℕ
+concluded tag clients q t =
+    putClientWord
+    (turns (forget q) targets (turns (picked (hasServer (maskOf t q)) (keepSetpoint (setpointAt tag clients q t) q)) (serversOf t) clients))
+    q tagField tag
+
+abbrev pub endedByC : ℕ → List ℕ → ℕ → List ℕ → Tables → Arrived
+endedByC tag clients q links t = endedRead q tag (concluded tag clients q t) links t
+
+unfoldable pub onAll : Contents → ℕ → ℕ → Tables → Arrived
+onAll w q i t =
+    cond (pending (emptied q i t) q)
+    (said Wait (moved (gotNumber w q i t) (emptied q i t) t))
+    (endedByC (tagChosen (gotNumber w q i t) q t) (gotNumber w q i t) q (emptied q i t) t)
+
+unfoldable pub onReplyIn : ℕ → Contents → ℕ → ℕ → Tables → Arrived
+onReplyIn state w q i t =
+    cond (eqb state writing) (onSetDone q i t)
+    (cond (eqb state entering) (onEntered w q i t)
+    (cond (eqb state askingKeys) (onKeys w q i t)
+    (cond (eqb state askingSetpoints) (onGot w q i t) (onAll w q i t))))
+
+abbrev pub onReply : Content → ℕ → ℕ → Tables → Arrived
+onReply Nothing q i t = said (Refused 9) t
+onReply (Request w) q i t = said (Refused 9) t
+onReply (Reply w) q i t = onReplyIn (stateOf t q) w q i t
+
+unfoldable pub replyDelivered : ℕ → ℕ → Tables → Arrived
+replyDelivered q i t = onReply (contentAt t q i) q i t

@@ -1,0 +1,34 @@
+// The rules of the steps: what each accepted step changes and answers, as definitions in specs/. The answers are declared here.
+ghost use mathlib.Core.Path.{_≡_};
+ghost use Rattle.rules.specs.Answers.{nothingShown};
+
+// What an opening, a begin and a delivered request answer.
+pub enum Answer {
+    Ok,
+    Refused(u8),
+}
+
+// What a delivered reply answers. A tag is a place of the log.
+pub enum Arrival {
+    Wait,
+    Next,
+    Write(u32),
+    Read(u32),
+    Refused(u8),
+}
+
+// A delivered reply's answer, and beside it the setpoints that a READ shows; 0 where it shows none.
+pub struct Delivered {
+    pub arrival: Arrival,
+    pub setpoints: [u32; 16],
+}
+
+// An answer that shows no setpoint.
+pub fn showing_nothing(arrival: Arrival) -> Delivered
+    ensures { λ r. ⌜ r ≡ nothingShown arrival ⌝ }
+{
+    Delivered {
+        arrival: arrival,
+        setpoints: [0; 16],
+    }
+}

@@ -1,0 +1,2 @@
+-- Sound tables: the definition, condition by condition, and the same as records of facts for proofs.
+pub mod Sound

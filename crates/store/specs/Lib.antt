@@ -1,0 +1,3 @@
+-- The public steps: the refusals in their order, then the change.
+pub mod Refusals
+pub mod Steps

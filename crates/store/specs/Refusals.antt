@@ -1,0 +1,54 @@
+-- "Refused": for each step the causes in the order of their numbers, 0 where none refuses. Numbers 8 and 9 are found by the delivery itself, in `rules`.
+use Prim.Native.Nat.{ℕ}
+use mathlib.Core.Bool.{Bool, true, false, cond, not, _&&_, _||_}
+use mathlib.Core.List.{List}
+use lib.ListN.{length}
+use lib.Dec.{eqb, leb, ltb}
+use Rattle.keys.specs.Masks.{maskWithin}
+use Rattle.tables.specs.Layout.{recordPlaces}
+use Rattle.tables.specs.Tables.{Tables, methodOf, serversOf, clientsOf, stepOf, writesOf, readsOf, stateOf}
+use Rattle.rules.specs.Common.{idle, coordinator}
+use Rattle.soundness.specs.Sound.{longEnough, pressFits, sound}
+
+-- 1 "method, k or p wrong; not k setpoints", 2 "opening: too short"
+unfoldable pub openRefusal : ℕ → ℕ → ℕ → List ℕ → Tables → ℕ
+openRefusal method k p setpoints t =
+    cond (not (pressFits method k p && eqb (length setpoints) k)) 1
+    (cond (not (longEnough k p t)) 2 0)
+
+-- 7 "any step but an opening at step number 2^32 − 1"
+abbrev pub atLastStep : Tables → Bool
+atLastStep t = leb 4294967295 (stepOf t)
+
+-- 2 "tables not sound", 3 "no such panel or target", 4 "method 1: panel 0 writes, another reads", 5 "panel not idle",
+-- 6 "mask zero or beyond k; not k setpoints in a WRITE", 7 "255 WRITEs (or, for a READ, READs) begun; any step … at step number 2^32 − 1"
+unfoldable pub writeRefusal : ℕ → ℕ → List ℕ → Tables → ℕ
+writeRefusal q mask setpoints t =
+    cond (not (sound t)) 2
+    (cond (leb (clientsOf t) q) 3
+    (cond (eqb (methodOf t) 1 && eqb q 0) 4
+    (cond (not (eqb (stateOf t q) idle)) 5
+    (cond (not (maskWithin mask (serversOf t) && eqb (length setpoints) (serversOf t))) 6
+    (cond (leb recordPlaces (writesOf t) || atLastStep t) 7 0)))))
+
+unfoldable pub readRefusal : ℕ → ℕ → Tables → ℕ
+readRefusal q mask t =
+    cond (not (sound t)) 2
+    (cond (leb (clientsOf t) q) 3
+    (cond (eqb (methodOf t) 1 && not (eqb q 0)) 4
+    (cond (not (eqb (stateOf t q) idle)) 5
+    (cond (not (maskWithin mask (serversOf t))) 6
+    (cond (leb recordPlaces (readsOf t) || atLastStep t) 7 0)))))
+
+-- "Targets 0..k−1 and 16": a station's number, or the head's
+abbrev pub isTargetOf : ℕ → ℕ → Bool
+isTargetOf k i = ltb i k || eqb i coordinator
+
+abbrev pub isTarget : Tables → ℕ → Bool
+isTarget t i = isTargetOf (serversOf t) i
+
+unfoldable pub deliveryRefusal : ℕ → ℕ → Tables → ℕ
+deliveryRefusal q i t =
+    cond (not (sound t)) 2
+    (cond (leb (clientsOf t) q || not (isTarget t i)) 3
+    (cond (atLastStep t) 7 0))

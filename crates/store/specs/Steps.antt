@@ -1,0 +1,36 @@
+-- The five public steps, for every input: refused by number with all as before, or accepted and changed as `rules` says.
+use Prim.Native.Nat.{ℕ, zero, suc}
+use mathlib.Core.List.{List}
+use Rattle.tables.specs.Tables.{Tables}
+use Rattle.rules.specs.declared.Answer.the-variants.{Ok}
+use Rattle.rules.specs.declared.Arrival.the-variants as arrival
+use Rattle.rules.specs.Answers.{Left, left, Arrived}
+use Rattle.rules.specs.Open.{opened}
+use Rattle.rules.specs.Begin.{begunWrite, begunRead}
+use Rattle.rules.specs.Request.{refused, requestDelivered}
+use Rattle.rules.specs.Reply.{said, replyDelivered}
+use Rattle.store.specs.Refusals.{openRefusal, writeRefusal, readRefusal, deliveryRefusal}
+
+-- number 0 refuses nothing
+abbrev pub unless : ℕ → Left → Tables → Left
+unless zero x t = x
+unless (suc n) x t = refused (suc n) t
+
+abbrev pub unlessArrived : ℕ → Arrived → Tables → Arrived
+unlessArrived zero x t = x
+unlessArrived (suc n) x t = said (arrival.Refused (suc n)) t
+
+unfoldable pub open′ : ℕ → ℕ → ℕ → List ℕ → Tables → Left
+open′ method k p setpoints t = unless (openRefusal method k p setpoints t) (left Ok (opened method k p setpoints t)) t
+
+unfoldable pub beginWrite : ℕ → ℕ → List ℕ → Tables → Left
+beginWrite q mask setpoints t = unless (writeRefusal q mask setpoints t) (left Ok (begunWrite q mask setpoints t)) t
+
+unfoldable pub beginRead : ℕ → ℕ → Tables → Left
+beginRead q mask t = unless (readRefusal q mask t) (left Ok (begunRead q mask t)) t
+
+unfoldable pub deliverRequest : ℕ → ℕ → Tables → Left
+deliverRequest q i t = unless (deliveryRefusal q i t) (requestDelivered q i t) t
+
+unfoldable pub deliverReply : ℕ → ℕ → Tables → Arrived
+deliverReply q i t = unlessArrived (deliveryRefusal q i t) (replyDelivered q i t) t

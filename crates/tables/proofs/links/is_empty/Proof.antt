@@ -1,0 +1,19 @@
+-- `tables::links::is_empty` meets its contract: each kind is a case law of `isEmpty`.
+use Rattle.tables.specs.Links.{full-request, full-reply, none-there}
+use borrow.Author.Needs.{needs}
+use Rattle.tables.proofs.links.is_empty.Statement.{statement}
+use Rattle.tables.proofs.links.is_empty.Tie as tie
+
+returns : tie.Need-returns
+returns c = let a = c .before .before .args in full-request (a .links .now) (a .client) (a .target) (c .if1 .taken)
+
+returns-2 : tie.Need-returns-2
+returns-2 c = let a = c .before .before .before .args in full-reply (a .links .now) (a .client) (a .target) (c .before .if1 .left) (c .if2 .taken)
+
+returns-3 : tie.Need-returns-3
+returns-3 c = let a = c .before .before .before .args in none-there (a .links .now) (a .client) (a .target) (c .before .if1 .left) (c .if2 .left)
+
+pub is-empty-spec : {M : Type 1} → statement M
+is-empty-spec =
+    tie.close
+    (tie.spec (λ c. search needs) (λ c. search needs) (λ c. search needs) (λ c. search needs) (λ c. search needs) (λ c. search needs) returns returns-2 returns-3)
