@@ -6,14 +6,12 @@ use lib.ListN.{length}
 use lib.Dec.{eqb, leb, ltb}
 use Rattle.ranges.specs.All.{allBelow}
 use Rattle.ranges.specs.Sum.{sumBelow, countBelow}
-use Rattle.keys.specs.declared.Key.{Key}
 use Rattle.keys.specs.Keys.{keyWord, opening}
 use Rattle.keys.specs.Masks.{hasServer, maskWithin}
 use Rattle.tables.specs.Rows.{wordAt}
 use Rattle.tables.specs.Layout.{countWords, clientWidth, serverPlaces, logPlaces, entryWidth, recordPlaces, recordWidth, versionWord, entryMask, recordWord, clientOfRecord, numberOfRecord, tagOfRecord, endOfRecord}
 use Rattle.tables.specs.Links.{targets, linkWidth, linkRow, isEmpty}
 use Rattle.tables.specs.Tables.{Tables, methodOf, serversOf, clientsOf, stepOf, entriesOf, writesOf, readsOf, heldOf, stateOf, countOf, maskOf, tagOf, recordOf, receivedOf, contentAt}
-use Rattle.tables.specs.declared.links.Contents.{Contents}
 use Rattle.tables.specs.declared.links.Content.{Content}
 use Rattle.tables.specs.declared.links.Content.the-variants.{Nothing, Request, Reply}
 use Rattle.rules.specs.Common.{idle, writing, entering, askingKeys, askingSetpoints, askingAll, coordinator, pending}
@@ -93,34 +91,35 @@ uses state mask i =
 abbrev pub holding : Tables → ℕ → ℕ
 holding t i = cond (eqb i coordinator) (entriesOf t) (heldOf t i)
 
--- a WRITE's own key: of the link's client, with a count of at least 1
-abbrev pub ownKey : ℕ → Key → Bool
-ownKey q key = eqb (key .client) q && leb 1 (key .count)
+-- a WRITE's own key, as a word: a count of 1 to 255 and the link's client
+abbrev pub ownKey : ℕ → ℕ → Bool
+ownKey q word = between 256 word 65535 && eqb (word % 256) q
 
--- what a request carries, by the state that sent it
-unfoldable pub requestSound : ℕ → ℕ → Contents → Tables → Bool
-requestSound state q w t =
-    cond (eqb state writing) (ownKey q (w .key))
-    (cond (eqb state entering) (ownKey q (w .key) && maskWithin (w .number) (serversOf t))
-    (cond (eqb state askingSetpoints) (keyInRange (clientsOf t) (keyWord (w .key))) true))
+-- what a request carries, by the state that sent it: a key and a number
+unfoldable pub requestSound : ℕ → ℕ → ℕ → ℕ → Tables → Bool
+requestSound state q word number t =
+    cond (eqb state writing) (ownKey q word)
+    (cond (eqb state entering) (ownKey q word && maskWithin number (serversOf t))
+    (cond (eqb state askingSetpoints) (keyInRange (clientsOf t) word) true))
 
 -- "n, in replies too, no more than is held; a reply's n at least 1"; an entered reply's tag is within the log, from 1
-unfoldable pub replySound : ℕ → ℕ → Contents → Tables → Bool
-replySound state i w t =
-    cond (eqb state entering) (leb 1 (w .number) && ltb (w .number) (entriesOf t))
-    (cond (eqb state askingKeys || eqb state askingAll) (between 1 (w .number) (holding t i)) true)
+unfoldable pub replySound : ℕ → ℕ → ℕ → Tables → Bool
+replySound state i number t =
+    cond (eqb state entering) (leb 1 number && ltb number (entriesOf t))
+    (cond (eqb state askingKeys || eqb state askingAll) (between 1 number (holding t i)) true)
 
-unfoldable pub contentSound : ℕ → ℕ → ℕ → Content → Tables → Bool
-contentSound state q i Nothing t = true
-contentSound state q i (Request w) t = uses state (maskOf t q) i && requestSound state q w t
-contentSound state q i (Reply w) t = uses state (maskOf t q) i && replySound state i w t
+-- the word of the key on a link
+abbrev pub keyOn : Tables → ℕ → ℕ → ℕ
+keyOn t q i = wordAt linkWidth (t .links) (linkRow q i) 1
 
--- a link's kind and key are in their ranges
+unfoldable pub contentSound : Content → ℕ → ℕ → ℕ → Tables → Bool
+contentSound Nothing state q i t = true
+contentSound (Request w) state q i t = uses state (maskOf t q) i && requestSound state q (keyOn t q i) (w .number) t
+contentSound (Reply w) state q i t = uses state (maskOf t q) i && replySound state i (w .number) t
+
+-- a link's kind is nothing, a request or a reply
 unfoldable pub linkSound : Tables → ℕ → ℕ → Bool
-linkSound t q i =
-    leb (wordAt linkWidth (t .links) (linkRow q i) 0) 2
-    && leb (wordAt linkWidth (t .links) (linkRow q i) 1) 65535
-    && contentSound (stateOf t q) q i (contentAt t q i) t
+linkSound t q i = leb (wordAt linkWidth (t .links) (linkRow q i) 0) 2 && contentSound (contentAt t q i) (stateOf t q) q i t
 
 -- "a panel's [n] above 0 exactly in state 5 for the masked stations and head whose link is empty"
 unfoldable pub receivedSound : Tables → ℕ → ℕ → Bool
