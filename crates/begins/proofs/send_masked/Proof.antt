@@ -1,0 +1,15 @@
+-- `begins::send_masked` meets its contract: sent or not, by the mask.
+use mathlib.Core.Path.{sym, _∙_}
+use borrow.Author.Needs.{needs}
+use Rattle.begins.proofs.send_masked.Statement.{statement}
+use Rattle.begins.proofs.send_masked.Tie as tie
+
+returns : tie.Need-returns
+returns c = rw (sym (c .before .before .before .before .before .has-server .ensures) ∙ c .before .before .before .before .if1 .taken) (c .before .before .send .ensures)
+
+returns-2 : tie.Need-returns-2
+returns-2 c = rw (sym (c .before .has-server .ensures) ∙ c .if1 .left)
+
+pub send-masked-spec : {M : Type 1} → statement M
+send-masked-spec =
+    tie.close (tie.spec (λ c κs. search needs) (λ c κs. search needs) (λ c. search needs) returns returns-2)

@@ -1,0 +1,43 @@
+-- The cases of the beginnings, as the code meets them.
+use Prim.Native.Nat.{ℕ, _+_, _-_}
+use mathlib.Core.Path.{_≡_}
+use mathlib.Core.Bool.{cond}
+use mathlib.Core.List.{List}
+use lib.ListN.{length}
+use lib.Dec.{eqb}
+use borrow.Author.Tests.{eq-eqb, ne-eqb}
+use Rattle.keys.specs.declared.Key.{Key}
+use Rattle.keys.specs.Keys.{keyOf}
+use Rattle.tables.specs.Layout.{countAt, countField, methodField, serversField, entriesField, writesField, readsField, tagField, clientWord, putClientWord}
+use Rattle.tables.specs.Tables.{Tables, tablesOf, methodOf, serversOf, entriesOf, writesOf, readsOf, countOf}
+use Rattle.rules.specs.Common.{writing, coordinator, startedClient, begunCounts, begunRecords}
+use Rattle.rules.specs.Begin.{storedSetpoints, sentSets, sentGets, sentAsks, sendAsk, begunWrite, Asking, asking, askingByA, askingByB, askingByC, askingBy, begunRead, begunReadWith}
+
+-- what a WRITE leaves in the client's row
+abbrev pub startedWrite : ℕ → ℕ → ℕ → ℕ → List ℕ → ℕ → List ℕ → List ℕ
+startedWrite q mask place count setpoints k clients = storedSetpoints q setpoints k (putClientWord (startedClient writing mask place q clients) q countField count)
+
+module _ (q mask : ℕ) (t : Tables) where
+  -- the methods; m is what was read of the counts, x what was asked
+  module _ {m : ℕ} {x : Asking} (d : m ≡ methodOf t) where
+    pub by-a : m ≡ 1 → x ≡ askingByA q mask t → x ≡ askingBy (methodOf t) q mask t
+    by-a e f = rw (← d, eq-eqb m 1 e) f
+
+    pub by-b : (m ≡ 1 → ⊥) → m ≡ 2 → x ≡ askingByB q mask t → x ≡ askingBy (methodOf t) q mask t
+    by-b a e f = rw (← d, ne-eqb m 1 a, eq-eqb m 2 e) f
+
+    pub by-c : (m ≡ 1 → ⊥) → (m ≡ 2 → ⊥) → x ≡ askingByC q mask t → x ≡ askingBy (methodOf t) q mask t
+    by-c a b f = rw (← d, ne-eqb m 1 a, ne-eqb m 2 b) f
+
+  pub read-begun : {counts clients links reads : List ℕ} → asking clients links ≡ askingBy (methodOf t) q mask t → counts ≡ begunCounts readsField (t .counts) →
+      reads ≡ begunRecords readsField (t .counts) q mask (t .reads) → tablesOf counts clients links (t .keys) (t .values) (t .log) (t .writes) reads ≡ begunRead q mask t
+  unfolding begunRead
+  read-begun e c r = rw (c, r, ← e)
+
+-- a WRITE: count and place are what was read
+pub write-begun : (q mask : ℕ) (setpoints : List ℕ) (t : Tables) {counts clients links writes : List ℕ} {n place : ℕ} {key : Key} → length setpoints ≡ serversOf t → n ≡ countOf t q → place ≡ writesOf t →
+    clients ≡ startedWrite q mask place (n + 1) setpoints (length setpoints) (t .clients) → key ≡ keyOf (n + 1) q → links ≡ sentSets q mask key setpoints (length setpoints) (t .links) →
+    counts ≡ begunCounts writesField (t .counts) → writes ≡ begunRecords writesField (t .counts) q (n + 1) (t .writes) →
+    tablesOf counts clients links (t .keys) (t .values) (t .log) writes (t .reads) ≡ begunWrite q mask setpoints t
+unfolding begunWrite
+write-begun q mask setpoints t k n p c y l s w = rw (c, l, y, s, w, n, p, k)

@@ -1,0 +1,283 @@
+// The beginnings of transactions, on tables known to be sound.
+ghost use mathlib.Core.Path.{_≡_};
+ghost use mathlib.Core.List.{List};
+ghost use Prim.Native.Nat.{ℕ, _≤_, _<_};
+ghost use lib.ListN.{length};
+ghost use mathlib.Core.Bool.{cond};
+ghost use Rattle.keys.specs.Masks.{hasServer};
+ghost use Rattle.tables.specs.Tables.{tablesOf};
+ghost use Rattle.tables.specs.Rows.{HasRow};
+ghost use Rattle.tables.specs.Layout.{clientWidth, entryWidth, countWords, countAt, methodField, serversField, readsField};
+ghost use Rattle.tables.specs.Links.{linkWidth, linkRow, putLink};
+ghost use Rattle.rules.specs.Common.{startedClient, request};
+ghost use Rattle.rules.specs.Begin.{storedSetpoints, sentSets, sentGets, sentAsks, sendGet, begunWrite, asking, askingByA, askingByB, askingByC, askingBy, begunRead};
+ghost use Rattle.history.specs.Ready.{BeginReady};
+ghost use Rattle.begins.specs.Ready.{HasLinks, AskReady, WriteReady};
+ghost use Rattle.begins.specs.Cases.{startedWrite};
+use keys::Key;
+use tables::clients;
+use tables::counts;
+use tables::links;
+use tables::links::Contents;
+
+// The client is in a state, has a mask, and its record stands at a place.
+pub fn start_client(clients: &mut [u32], client: usize, state: u32, mask: u32, place: u32)
+    requires { ⌜ HasRow clientWidth (now clients) client ⌝ }
+    ensures { λ _. ⌜ now (clients .exit) ≡ startedClient state mask place client (now (clients .entry)) ⌝ }
+{
+    clients::put_client_word(clients, client, clients::STATE, state);
+    clients::put_client_word(clients, client, clients::MASK, mask);
+    clients::put_client_word(clients, client, clients::RECORD, place);
+}
+
+// A WRITE stores its setpoints, one for each server.
+fn store_setpoints(clients: &mut [u32], client: usize, setpoints: &[u32])
+    requires { ⌜ (HasRow clientWidth (now clients) client) × (length (now setpoints) ≤ 16) ⌝ }
+    ensures { λ _. ⌜ now (clients .exit) ≡ storedSetpoints client (now (setpoints .entry)) (length (now (setpoints .entry))) (now (clients .entry)) ⌝ }
+{
+    let mut server = 0;
+    while server < setpoints.len() {
+        clients::put_client_word(
+            clients,
+            client,
+            clients::SETPOINTS + server,
+            setpoints[server],
+        );
+        server += 1;
+    }
+}
+
+// A request with a key and a number.
+pub fn send(links: &mut [u32], client: usize, target: usize, key: Key, number: u32)
+    requires { ⌜ HasRow linkWidth (now links) (linkRow client target) ⌝ }
+    ensures { λ _. ⌜ now (links .exit) ≡ putLink (now (links .entry)) client target (request key number) ⌝ }
+{
+    let contents = Contents {
+        key: key,
+        number: number,
+    };
+    links::put_link(
+        links,
+        client,
+        target,
+        links::Link {
+            content: links::Content::Request(contents),
+        },
+    );
+}
+
+// A request with a key and a number to a server, if the mask has it.
+fn send_masked(links: &mut [u32], client: usize, mask: u32, key: Key, number: u32, server: usize)
+    requires { ⌜ (HasRow linkWidth (now links) (linkRow client server)) × (server < 16) ⌝ }
+    ensures { λ _. ⌜ now (links .exit) ≡ cond (hasServer mask server) (putLink (now (links .entry)) client server (request key number)) (now (links .entry)) ⌝ }
+{
+    if keys::has_server(mask, server) {
+        send(links, client, server, key, number);
+    }
+}
+
+// A set request to each masked server.
+fn send_sets(links: &mut [u32], client: usize, mask: u32, key: Key, setpoints: &[u32])
+    requires { ⌜ (HasLinks (now links) client) × (length (now setpoints) ≤ 16) ⌝ }
+    ensures { λ _. ⌜ now (links .exit) ≡ sentSets client mask key (now (setpoints .entry)) (length (now (setpoints .entry))) (now (links .entry)) ⌝ }
+{
+    let mut server = 0;
+    while server < setpoints.len() {
+        send_masked(links, client, mask, key, setpoints[server], server);
+        server += 1;
+    }
+}
+
+// A get request, for its key at a tag, to a server that the mask has.
+fn send_get(links: &mut [u32], log: &[u32], client: usize, mask: u32, tag: usize, server: usize)
+    requires { ⌜ (HasRow linkWidth (now links) (linkRow client server)) × (server < 16) ⌝ }
+    requires { ⌜ HasRow entryWidth (now log) tag ⌝ }
+    ensures { λ _. ⌜ now (links .exit) ≡ cond (hasServer mask server) (sendGet client (now (log .entry)) tag server (now (links .entry))) (now (links .entry)) ⌝ }
+{
+    if keys::has_server(mask, server) {
+        let key = coordinator::latest_key(log, server, tag);
+        send(links, client, server, key, 0);
+    }
+}
+
+// A get request, for its key at a tag, to each masked server.
+pub fn send_gets(
+    links: &mut [u32],
+    log: &[u32],
+    client: usize,
+    mask: u32,
+    tag: usize,
+    servers: usize,
+)
+    requires { ⌜ (HasLinks (now links) client) × (servers ≤ 16) ⌝ }
+    requires { ⌜ HasRow entryWidth (now log) tag ⌝ }
+    ensures { λ _. ⌜ now (links .exit) ≡ sentGets client mask (now (log .entry)) tag servers (now (links .entry)) ⌝ }
+{
+    let mut server = 0;
+    while server < servers {
+        send_get(links, log, client, mask, tag, server);
+        server += 1;
+    }
+}
+
+// A request that carries nothing to each masked server.
+fn send_asks(links: &mut [u32], client: usize, mask: u32, servers: usize)
+    requires { ⌜ (HasLinks (now links) client) × (servers ≤ 16) ⌝ }
+    ensures { λ _. ⌜ now (links .exit) ≡ sentAsks client mask servers (now (links .entry)) ⌝ }
+{
+    let mut server = 0;
+    while server < servers {
+        send_masked(links, client, mask, Key::OPENING, 0, server);
+        server += 1;
+    }
+}
+
+// A WRITE's client: state 1, its mask, count and setpoints.
+fn start_write(
+    clients: &mut [u32],
+    client: usize,
+    mask: u32,
+    place: u32,
+    count: u32,
+    setpoints: &[u32],
+)
+    requires { ⌜ (HasRow clientWidth (now clients) client) × (length (now setpoints) ≤ 16) ⌝ }
+    ensures { λ _. ⌜ now (clients .exit) ≡ startedWrite client mask place count (now (setpoints .entry)) (length (now (setpoints .entry))) (now (clients .entry)) ⌝ }
+{
+    start_client(clients, client, 1, mask, place);
+    clients::put_client_word(clients, client, clients::COUNT, count);
+    store_setpoints(clients, client, setpoints);
+}
+
+// Begins a WRITE: the next count, a request to each masked server, the record.
+pub fn begin_write(
+    counts: &mut [u32],
+    clients: &mut [u32],
+    links: &mut [u32],
+    writes: &mut [u32],
+    client: usize,
+    mask: u32,
+    setpoints: &[u32],
+)
+    requires { ⌜ WriteReady (now counts) (now clients) (now links) (now writes) client (now setpoints) ⌝ }
+    ensures { λ _. ⌜ ((keys values log reads : List ℕ) →
+        tablesOf (now (counts .exit)) (now (clients .exit)) (now (links .exit)) keys values log (now (writes .exit)) reads
+        ≡ begunWrite client mask (now (setpoints .entry)) (tablesOf (now (counts .entry)) (now (clients .entry)) (now (links .entry)) keys values log (now (writes .entry)) reads)) ⌝ }
+{
+    let count = clients::client_word(clients, client, clients::COUNT) + 1;
+    let place = counts::count_at(counts, counts::WRITES);
+    start_write(clients, client, mask, place, count, setpoints);
+    send_sets(
+        links,
+        client,
+        mask,
+        Key::new(count as u8, client as u8),
+        setpoints,
+    );
+    history::begin(counts, writes, counts::WRITES, client as u32, count);
+}
+
+// A: takes the last tag and its keys from the log, and asks each masked server for its key.
+fn ask_by_a(
+    counts: &[u32],
+    clients: &mut [u32],
+    links: &mut [u32],
+    log: &[u32],
+    client: usize,
+    mask: u32,
+)
+    requires { ⌜ AskReady (now counts) (now clients) (now links) (now log) client ⌝ }
+    ensures { λ _. ⌜ ((keys values writes reads : List ℕ) →
+        asking (now (clients .exit)) (now (links .exit)) ≡ askingByA client mask (tablesOf (now (counts .entry)) (now (clients .entry)) (now (links .entry)) keys values (now (log .entry)) writes reads)) ⌝ }
+{
+    let tag = counts::count_at(counts, counts::ENTRIES) - 1;
+    let servers = counts::count_at(counts, counts::SERVERS);
+    start_client(
+        clients,
+        client,
+        4,
+        mask,
+        counts::count_at(counts, counts::READS),
+    );
+    clients::put_client_word(clients, client, clients::TAG, tag);
+    send_gets(links, log, client, mask, tag as usize, servers as usize);
+}
+
+// B: asks the coordinator.
+fn ask_by_b(counts: &[u32], clients: &mut [u32], links: &mut [u32], client: usize, mask: u32)
+    requires { ⌜ (countWords ≤ length (now counts)) × ((HasRow clientWidth (now clients) client) × (HasLinks (now links) client)) ⌝ }
+    ensures { λ _. ⌜ ((keys values log writes reads : List ℕ) →
+        asking (now (clients .exit)) (now (links .exit)) ≡ askingByB client mask (tablesOf (now (counts .entry)) (now (clients .entry)) (now (links .entry)) keys values log writes reads)) ⌝ }
+{
+    start_client(
+        clients,
+        client,
+        3,
+        mask,
+        counts::count_at(counts, counts::READS),
+    );
+    send(links, client, links::COORDINATOR, Key::OPENING, 0);
+}
+
+// C: asks all masked servers and the coordinator together.
+fn ask_by_c(counts: &[u32], clients: &mut [u32], links: &mut [u32], client: usize, mask: u32)
+    requires { ⌜ (countWords ≤ length (now counts)) × (countAt (now counts) serversField ≤ 16) ⌝ }
+    requires { ⌜ (HasRow clientWidth (now clients) client) × (HasLinks (now links) client) ⌝ }
+    ensures { λ _. ⌜ ((keys values log writes reads : List ℕ) →
+        asking (now (clients .exit)) (now (links .exit)) ≡ askingByC client mask (tablesOf (now (counts .entry)) (now (clients .entry)) (now (links .entry)) keys values log writes reads)) ⌝ }
+{
+    let servers = counts::count_at(counts, counts::SERVERS);
+    start_client(
+        clients,
+        client,
+        5,
+        mask,
+        counts::count_at(counts, counts::READS),
+    );
+    send_asks(links, client, mask, servers as usize);
+    send(links, client, links::COORDINATOR, Key::OPENING, 0);
+}
+
+// What a READ asks, by the method.
+fn ask(
+    counts: &[u32],
+    clients: &mut [u32],
+    links: &mut [u32],
+    log: &[u32],
+    client: usize,
+    mask: u32,
+)
+    requires { ⌜ AskReady (now counts) (now clients) (now links) (now log) client ⌝ }
+    ensures { λ _. ⌜ ((keys values writes reads : List ℕ) →
+        asking (now (clients .exit)) (now (links .exit))
+        ≡ askingBy (countAt (now (counts .entry)) methodField) client mask (tablesOf (now (counts .entry)) (now (clients .entry)) (now (links .entry)) keys values (now (log .entry)) writes reads)) ⌝ }
+{
+    let method = counts::count_at(counts, counts::METHOD);
+    if method == 1 {
+        return ask_by_a(counts, clients, links, log, client, mask);
+    }
+    if method == 2 {
+        return ask_by_b(counts, clients, links, client, mask);
+    }
+    ask_by_c(counts, clients, links, client, mask)
+}
+
+// Begins a READ: what its method asks first, and the record.
+pub fn begin_read(
+    counts: &mut [u32],
+    clients: &mut [u32],
+    links: &mut [u32],
+    log: &[u32],
+    reads: &mut [u32],
+    client: usize,
+    mask: u32,
+)
+    requires { ⌜ AskReady (now counts) (now clients) (now links) (now log) client ⌝ }
+    requires { ⌜ (BeginReady (now counts) (now reads) readsField) × (client < 16) ⌝ }
+    ensures { λ _. ⌜ ((keys values writes : List ℕ) →
+        tablesOf (now (counts .exit)) (now (clients .exit)) (now (links .exit)) keys values (now (log .entry)) writes (now (reads .exit))
+        ≡ begunRead client mask (tablesOf (now (counts .entry)) (now (clients .entry)) (now (links .entry)) keys values (now (log .entry)) writes (now (reads .entry)))) ⌝ }
+{
+    ask(&*counts, clients, links, log, client, mask);
+    history::begin(counts, reads, counts::READS, client as u32, mask);
+}

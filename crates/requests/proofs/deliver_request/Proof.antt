@@ -1,0 +1,26 @@
+-- `requests::deliver_request` meets its contract: each content of the link is a case law of `requestDelivered`.
+use mathlib.Core.Path.{sym, _∙_, ap}
+use Rattle.tables.specs.Tables.{tablesOf}
+use Rattle.tables.specs.declared.links.Link.{Link}
+use Rattle.requests.specs.Cases.{by-nothing, by-reply, by-request}
+use borrow.Author.Needs.{needs}
+use Rattle.requests.proofs.deliver_request.Statement.{statement}
+use Rattle.requests.proofs.deliver_request.Tie as tie
+use Rattle.requests.proofs.deliver_request.Reads as reads
+
+answer-in-state-requires : tie.Need-answer-in-state-requires
+answer-in-state-requires c κs = let p = c .before .before .before .before .before .before .before .before .before .before .before .before .before .before .before .before .before .before .pre in (p .answerable, ((p .row, p .target), p .asks _ (ap (λ (k : Link). k .content) (sym (c .before .before .before .before .before .before .before .before .before .link-at .ensures)) ∙ c .before .before .before .before .before .before .before .content .given .1)))
+
+returns : tie.Need-returns
+returns c = let a = c .before .before .before .before .before .before .before .before .before .before .before .args in λ reads. by-nothing (a .client) (a .target) (tablesOf (a .counts .now) (a .clients .now) (a .links .now) (a .keys .now) (a .values .now) (a .log .now) (a .writes .now) reads) (c .before .before .link-at .ensures) (c .enum-told .given .1)
+
+returns-2 : tie.Need-returns-2
+returns-2 c = let a = c .before .before .before .before .before .before .before .before .before .before .before .args in λ reads. by-reply (a .client) (a .target) (tablesOf (a .counts .now) (a .clients .now) (a .links .now) (a .keys .now) (a .values .now) (a .log .now) (a .writes .now) reads) (c .before .before .link-at .ensures) (c .enum-told2 .given .1)
+
+returns-3 : tie.Need-returns-3
+returns-3 c = let a = c .before .before .before .before .before .before .before .before .before .before .before .before .before .before .before .before .before .before .before .before .before .before .before .before .before .before .before .before .before .before .before .args in λ reads. by-request (a .client) (a .target) (tablesOf (a .counts .now) (a .clients .now) (a .links .now) (a .keys .now) (a .values .now) (a .log .now) (a .writes .now) reads) (c .before .before .before .before .before .before .before .before .before .before .before .before .before .before .before .before .before .before .before .before .before .before .link-at .ensures) (c .before .before .before .before .before .before .before .before .before .before .before .before .before .before .before .before .before .before .before .before .content .given .1) (c .before .before .before .before .before .before .before .before .before .before .before .before .answer-in-state .ensures reads)
+
+pub deliver-request-spec : {M : Type 1} → statement M
+deliver-request-spec =
+    tie.close
+    (tie.spec (λ c κs. search needs) (λ c. search needs) (λ c. search needs) (λ c. search needs) answer-in-state-requires (λ c. search needs) returns (λ c. search needs) returns-2 (λ c. search needs) (λ c. search needs) (λ c. search needs) (λ c. search needs) (λ c. search needs) (λ c. search needs) returns-3)

@@ -1,0 +1,20 @@
+-- `requests::get` meets its contract: found or missing, each a case law of `onGet`.
+use Rattle.tables.specs.Tables.{tablesOf}
+use Rattle.requests.specs.Cases.{get-found, get-missing}
+use borrow.Author.Needs.{needs}
+use Rattle.requests.proofs.get.Statement.{statement}
+use Rattle.requests.proofs.get.Tie as tie
+use Rattle.requests.proofs.get.Reads as reads
+
+returns : tie.Need-returns
+returns c = let a = c .before .before .before .before .before .before .before .before .before .before .before .before .before .before .before .before .before .args in λ clients log writes reads.
+    get-found (a .contents) (a .client) (a .target) (tablesOf (a .counts .now) clients (a .links .now) (a .keys .now) (a .values .now) log writes reads) (c .before .before .before .before .before .before .before .before .before .before .before .count-at .ensures) (c .before .before .before .before .before .before .before .before .before .find .ensures) (c .before .before .before .before .before .before .before .before .if1 .taken) (c .before .before .before .before .before .before .before .version-setpoint .ensures) (c .before .before .before .before .answer .ensures)
+
+returns-2 : tie.Need-returns-2
+returns-2 c = let a = c .before .before .before .before .before .before .before .before .before .args in λ clients log writes reads.
+    get-missing (a .contents) (a .client) (a .target) (tablesOf (a .counts .now) clients (a .links .now) (a .keys .now) (a .values .now) log writes reads) (c .before .before .before .count-at .ensures) (c .before .find .ensures) (c .if1 .left)
+
+pub get-spec : {M : Type 1} → statement M
+get-spec =
+    tie.close
+    (tie.spec (λ c. search needs) (λ c κs. search needs) (λ c. search needs) (λ c κs. search needs) (λ c κs. search needs) (λ c κs. search needs) (λ c. search needs) (λ c. search needs) returns (λ c. search needs) returns-2)

@@ -1,0 +1,20 @@
+-- `requests::get_all` meets its contract: the log or a server, each a case law of `onGetAll`.
+use Rattle.tables.specs.Tables.{tablesOf}
+use Rattle.requests.specs.Cases.{all-entries, all-held}
+use borrow.Author.Needs.{needs}
+use Rattle.requests.proofs.get_all.Statement.{statement}
+use Rattle.requests.proofs.get_all.Tie as tie
+use Rattle.requests.proofs.get_all.Reads as reads
+
+returns : tie.Need-returns
+returns c = let a = c .before .before .before .before .before .before .before .before .before .before .before .before .args in λ clients keys values log writes reads.
+    all-entries (a .client) (a .target) (tablesOf (a .counts .now) clients (a .links .now) keys values log writes reads) (c .before .before .before .before .answer .ensures) (c .before .before .before .before .before .before .before .before .before .if1 .taken) (c .before .before .before .before .before .before .before .count-at .ensures)
+
+returns-2 : tie.Need-returns-2
+returns-2 c = let a = c .before .before .before .before .before .before .before .before .before .before .before .before .args in λ clients keys values log writes reads.
+    all-held (a .client) (a .target) (tablesOf (a .counts .now) clients (a .links .now) keys values log writes reads) (c .before .before .before .before .answer2 .ensures) (c .before .before .before .before .before .before .before .before .before .if1 .left) (c .before .before .before .before .before .before .before .count-at2 .ensures)
+
+pub get-all-spec : {M : Type 1} → statement M
+get-all-spec =
+    tie.close
+    (tie.spec (λ c κs. search needs) (λ c κs. search needs) (λ c. search needs) (λ c. search needs) returns (λ c. search needs) (λ c κs. search needs) (λ c κs. search needs) (λ c. search needs) (λ c. search needs) returns-2)

@@ -1,0 +1,27 @@
+-- `requests::set` meets its contract: stored or full, each a case law of `onSet`.
+use mathlib.Core.Path.{sym}
+use native.Mathlib.Omega.{arith}
+use Rattle.tables.specs.Tables.{tablesOf}
+use Rattle.requests.specs.Cases.{set-step, set-stored, set-full}
+use borrow.Author.Needs.{needs}
+use Rattle.requests.proofs.set.Statement.{statement}
+use Rattle.requests.proofs.set.Tie as tie
+use Rattle.requests.proofs.set.Reads as reads
+
+answer-requires : tie.Need-answer-requires
+answer-requires c κs = let a = c .before .before .before .before .before .before .before .before .before .before .before .before .before .before .before .before .before .before .args in let p = c .before .before .before .before .before .before .before .before .before .before .before .before .before .before .before .before .before .before .pre .0 in
+    let n = set-step (a .contents) (a .client) (a .target) (tablesOf (a .counts .now) (a .counts .now) (a .links .now) (a .keys .now) (a .values .now) (a .counts .now) (a .counts .now) (a .counts .now)) (c .before .before .before .before .before .before .before .before .before .append .ensures) in
+    record { counted = search needs; stepped = rw n (p .stepped); linked = p .linked }
+
+returns : tie.Need-returns
+returns c = let a = c .before .before .before .before .before .before .before .before .before .before .before .before .before .before .before .before .before .before .before .before .before .before .before .args in λ clients log writes reads.
+    set-stored (a .contents) (a .client) (a .target) (tablesOf (a .counts .now) clients (a .links .now) (a .keys .now) (a .values .now) log writes reads) (c .before .before .before .before .before .before .before .before .before .before .before .before .before .before .append .ensures) (c .before .before .before .before .before .before .before .if1 .taken) (c .before .before .before .before .answer .ensures)
+
+returns-2 : tie.Need-returns-2
+returns-2 c = let a = c .before .before .before .before .before .before .before .before .before .before .before .before .before .before .before .before .args in λ clients log writes reads.
+    set-full (a .contents) (a .client) (a .target) (tablesOf (a .counts .now) clients (a .links .now) (a .keys .now) (a .values .now) log writes reads) (c .before .before .before .before .before .before .before .append .ensures) (c .if1 .left)
+
+pub set-spec : {M : Type 1} → statement M
+set-spec =
+    tie.close
+    (tie.spec (λ c κs. search needs) answer-requires (λ c. search needs) (λ c. search needs) (λ c. search needs) (λ c. search needs) returns (λ c. search needs) (λ c. search needs) (λ c. search needs) returns-2)

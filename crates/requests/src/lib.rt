@@ -1,0 +1,235 @@
+// The delivery of a request, on tables known to be sound: the target answers, and the reply takes the request's place.
+ghost use mathlib.Core.Path.{_≡_};
+ghost use mathlib.Core.List.{List};
+ghost use Prim.Native.Nat.{ℕ, _<_};
+ghost use Rattle.tables.specs.Tables.{tablesOf};
+ghost use Rattle.tables.specs.Rows.{HasRow};
+ghost use Rattle.tables.specs.Layout.{clientWidth, clientWord, stateField};
+ghost use Rattle.tables.specs.Links.{targets};
+ghost use Rattle.rules.specs.Answers.{left};
+ghost use Rattle.rules.specs.Request.{onSet, onEnter, onWhichKeys, onGet, onGetAll, onRequestIn, requestDelivered};
+ghost use Rattle.requests.specs.Ready.{Answerable, AtServer, Enterable, Asks, RequestReady};
+ghost use Rattle.requests.specs.Cases.{Answered};
+use keys::Key;
+use rules::Answer;
+use tables::clients;
+use tables::counts;
+use tables::links;
+use tables::links::Contents;
+use tables::records;
+use tables::versions;
+
+// The reply with a number takes the request's place, and the step counts.
+fn answer(
+    counts: &mut [u32],
+    links: &mut [u32],
+    client: usize,
+    target: usize,
+    number: u32,
+) -> Answer
+    requires { ⌜ Answerable (now counts) (now links) client target ⌝ }
+    ensures { λ r. ⌜ Answered (now (counts .entry)) (now (links .entry)) client target number r (now (counts .exit)) (now (links .exit)) ⌝ }
+{
+    let reply = Contents {
+        key: Key::OPENING,
+        number: number,
+    };
+    links::put_link(
+        links,
+        client,
+        target,
+        links::Link {
+            content: links::Content::Reply(reply),
+        },
+    );
+    let step = counts::count_at(counts, counts::STEP);
+    counts::put_count(counts, counts::STEP, step + 1);
+    Answer::Ok
+}
+
+// State 1: a set request appends its version.
+fn set(
+    counts: &mut [u32],
+    links: &mut [u32],
+    keys: &mut [u32],
+    values: &mut [u32],
+    client: usize,
+    target: usize,
+    contents: Contents,
+) -> Answer
+    requires { ⌜ Answerable (now counts) (now links) client target ⌝ }
+    requires { ⌜ AtServer (now counts) (now keys) (now values) target ⌝ }
+    ensures { λ r. ⌜ ((clients log writes reads : List ℕ) →
+        left r (tablesOf (now (counts .exit)) clients (now (links .exit)) (now (keys .exit)) (now (values .exit)) log writes reads)
+        ≡ onSet contents client target (tablesOf (now (counts .entry)) clients (now (links .entry)) (now (keys .entry)) (now (values .entry)) log writes reads)) ⌝ }
+{
+    let key = contents.key;
+    if server::append(counts, keys, values, target, key, contents.number) {
+        return answer(counts, links, client, target, 0);
+    }
+    Answer::Refused(8)
+}
+
+// State 2: an enter request appends to the log; the new place is the tag, and it goes into the WRITE's record.
+fn enter(
+    counts: &mut [u32],
+    clients: &[u32],
+    links: &mut [u32],
+    log: &mut [u32],
+    writes: &mut [u32],
+    client: usize,
+    target: usize,
+    contents: Contents,
+) -> Answer
+    requires { ⌜ Answerable (now counts) (now links) client target ⌝ }
+    requires { ⌜ Enterable (now counts) (now clients) (now log) (now writes) client ⌝ }
+    ensures { λ r. ⌜ ((keys values reads : List ℕ) →
+        left r (tablesOf (now (counts .exit)) (now (clients .entry)) (now (links .exit)) keys values (now (log .exit)) (now (writes .exit)) reads)
+        ≡ onEnter contents client target (tablesOf (now (counts .entry)) (now (clients .entry)) (now (links .entry)) keys values (now (log .entry)) (now (writes .entry)) reads)) ⌝ }
+{
+    let tag = counts::count_at(counts, counts::ENTRIES);
+    let key = contents.key;
+    if coordinator::enter(counts, log, key, contents.number) {
+        let place = clients::client_word(clients, client, clients::RECORD);
+        records::put_record_word(writes, place as usize, records::TAG, tag);
+        return answer(counts, links, client, target, tag);
+    }
+    Answer::Refused(8)
+}
+
+// State 3: the keys are those of the log's entries of this moment.
+fn which_keys(counts: &mut [u32], links: &mut [u32], client: usize, target: usize) -> Answer
+    requires { ⌜ Answerable (now counts) (now links) client target ⌝ }
+    ensures { λ r. ⌜ ((clients keys values log writes reads : List ℕ) →
+        left r (tablesOf (now (counts .exit)) clients (now (links .exit)) keys values log writes reads)
+        ≡ onWhichKeys client target (tablesOf (now (counts .entry)) clients (now (links .entry)) keys values log writes reads)) ⌝ }
+{
+    let entries = counts::count_at(counts, counts::ENTRIES);
+    answer(counts, links, client, target, entries)
+}
+
+// State 4: a get request is answered by the first version that bears its key.
+fn get(
+    counts: &mut [u32],
+    links: &mut [u32],
+    keys: &[u32],
+    values: &[u32],
+    client: usize,
+    target: usize,
+    contents: Contents,
+) -> Answer
+    requires { ⌜ Answerable (now counts) (now links) client target ⌝ }
+    requires { ⌜ AtServer (now counts) (now keys) (now values) target ⌝ }
+    ensures { λ r. ⌜ ((clients log writes reads : List ℕ) →
+        left r (tablesOf (now (counts .exit)) clients (now (links .exit)) (now (keys .entry)) (now (values .entry)) log writes reads)
+        ≡ onGet contents client target (tablesOf (now (counts .entry)) clients (now (links .entry)) (now (keys .entry)) (now (values .entry)) log writes reads)) ⌝ }
+{
+    let held = counts::count_at(counts, counts::HELD + target) as usize;
+    let key = contents.key;
+    let place = server::find(keys, target, held, key);
+    if place < held {
+        let setpoint = versions::version_setpoint(values, target, place);
+        return answer(counts, links, client, target, setpoint);
+    }
+    Answer::Refused(8)
+}
+
+// State 5: the n of the moment of answering is that of the log's entries, or of the versions held.
+fn get_all(counts: &mut [u32], links: &mut [u32], client: usize, target: usize) -> Answer
+    requires { ⌜ Answerable (now counts) (now links) client target ⌝ }
+    requires { ⌜ target < targets ⌝ }
+    ensures { λ r. ⌜ ((clients keys values log writes reads : List ℕ) →
+        left r (tablesOf (now (counts .exit)) clients (now (links .exit)) keys values log writes reads)
+        ≡ onGetAll client target (tablesOf (now (counts .entry)) clients (now (links .entry)) keys values log writes reads)) ⌝ }
+{
+    if target == links::COORDINATOR {
+        let entries = counts::count_at(counts, counts::ENTRIES);
+        return answer(counts, links, client, target, entries);
+    }
+    let held = counts::count_at(counts, counts::HELD + target);
+    answer(counts, links, client, target, held)
+}
+
+// A request is answered by what the client's state asks for.
+fn answer_in_state(
+    counts: &mut [u32],
+    clients: &[u32],
+    links: &mut [u32],
+    keys: &mut [u32],
+    values: &mut [u32],
+    log: &mut [u32],
+    writes: &mut [u32],
+    client: usize,
+    target: usize,
+    contents: Contents,
+) -> Answer
+    requires { ⌜ Answerable (now counts) (now links) client target ⌝ }
+    requires { ⌜ (HasRow clientWidth (now clients) client) × (target < targets) ⌝ }
+    requires { ⌜ Asks (now counts) (now clients) (now keys) (now values) (now log) (now writes) client target ⌝ }
+    ensures { λ r. ⌜ ((reads : List ℕ) →
+        left r (tablesOf (now (counts .exit)) (now (clients .entry)) (now (links .exit)) (now (keys .exit)) (now (values .exit)) (now (log .exit)) (now (writes .exit)) reads)
+        ≡ onRequestIn (clientWord (now (clients .entry)) client stateField) contents client target
+        (tablesOf (now (counts .entry)) (now (clients .entry)) (now (links .entry)) (now (keys .entry)) (now (values .entry)) (now (log .entry)) (now (writes .entry)) reads)) ⌝ }
+{
+    let state = clients::client_word(clients, client, clients::STATE);
+    if state == 1 {
+        return set(counts, links, keys, values, client, target, contents);
+    }
+    if state == 2 {
+        return enter(
+            counts,
+            clients,
+            links,
+            log,
+            writes,
+            client,
+            target,
+            contents,
+        );
+    }
+    if state == 3 {
+        return which_keys(counts, links, client, target);
+    }
+    if state == 4 {
+        return get(counts, links, &*keys, &*values, client, target, contents);
+    }
+    get_all(counts, links, client, target)
+}
+
+// Delivers the request of a client to a target: 9 where the link has none, 8 where the target is full or lacks the key.
+pub fn deliver_request(
+    counts: &mut [u32],
+    clients: &[u32],
+    links: &mut [u32],
+    keys: &mut [u32],
+    values: &mut [u32],
+    log: &mut [u32],
+    writes: &mut [u32],
+    client: usize,
+    target: usize,
+) -> Answer
+    requires { ⌜ RequestReady (now counts) (now clients) (now links) (now keys) (now values) (now log) (now writes) client target ⌝ }
+    ensures { λ r. ⌜ ((reads : List ℕ) →
+        left r (tablesOf (now (counts .exit)) (now (clients .entry)) (now (links .exit)) (now (keys .exit)) (now (values .exit)) (now (log .exit)) (now (writes .exit)) reads)
+        ≡ requestDelivered client target
+        (tablesOf (now (counts .entry)) (now (clients .entry)) (now (links .entry)) (now (keys .entry)) (now (values .entry)) (now (log .entry)) (now (writes .entry)) reads)) ⌝ }
+{
+    let link = links::link_at(&*links, client, target);
+    let content = link.content;
+    match content {
+        links::Content::Nothing => Answer::Refused(9),
+        links::Content::Reply(_) => Answer::Refused(9),
+        links::Content::Request(contents) => answer_in_state(
+            counts,
+            clients,
+            links,
+            keys,
+            values,
+            log,
+            writes,
+            client,
+            target,
+            contents,
+        ),
+    }
+}
