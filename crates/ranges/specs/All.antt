@@ -51,6 +51,14 @@ module _ (p : ℕ → Bool) where
       (λ b. (n, omega arith, rw b at a))
       (λ b. let f = all-fails n b in (f .0, omega arith, f .2))
 
+  pub any-none : anyBelow p 0 ≡ false
+  unfolding anyBelow
+  any-none = refl
+
+  pub any-more : (n : ℕ) → anyBelow p n ≡ false → p n ≡ false → anyBelow p (n + 1) ≡ false
+  unfolding anyBelow
+  any-more n a e = rw (add-one n, a, e)
+
   pub any-at : (n i : ℕ) → i < n → p i ≡ true → anyBelow p n ≡ true
   unfolding anyBelow
   any-at zero i h e = let z : ⊥ = omega arith in absurd z

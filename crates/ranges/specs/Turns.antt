@@ -23,3 +23,9 @@ module _ {A : Type 0} (f : ℕ → A → A) where
   unfolding turns
   turns-keep P k zero x h = h
   turns-keep P k (suc n) x h = k n _ (turns-keep P k n x h)
+
+  -- the same where a turn keeps it only below the loop's end
+  pub turns-keep-below : (P : A → Type 0) (n : ℕ) → ((i : ℕ) → i < n → (y : A) → P y → P (f i y)) → (x : A) → P x → P (turns f n x)
+  unfolding turns
+  turns-keep-below P zero k x h = h
+  turns-keep-below P (suc n) k x h = k n (omega arith) _ (turns-keep-below P n (λ i l. k i (omega arith)) x h)

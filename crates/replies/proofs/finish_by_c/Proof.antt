@@ -1,0 +1,31 @@
+-- `replies::finish_by_c` meets its contract: the tag found is the one chosen, which is below the entries received and qualifies.
+use native.Mathlib.Omega.{arith}
+use Rattle.replies.specs.Ready.{tag-below, tag-qualifies, tag-is}
+use mathlib.Core.Path.{_∙_}
+use borrow.Author.Needs.{needs}
+use Rattle.replies.proofs.finish_by_c.Statement.{statement}
+use Rattle.replies.proofs.finish_by_c.Tie as tie
+
+cast-tag : tie.Need-cast-tag
+cast-tag c = let a = c .before .before .before .before .before .before .before .before .before .args in let p = c .before .before .before .before .before .before .before .before .before .pre .1 in
+    let e = tag-is (a .clients .now) (a .keys .now) (a .log .now) (a .client) (a .mask) (a .servers) (p .some) (c .before .before .client-word .ensures) (c .chosen-tag .ensures) in
+    let l = tag-below (a .clients .now) (a .keys .now) (a .log .now) (a .client) (a .mask) (a .servers) (p .some) in
+    omega (arith, p .entries)
+
+conclude-requires : tie.Need-conclude-requires
+conclude-requires c κs = let a = c .before .before .before .before .before .before .before .before .before .before .args in let p = c .before .before .before .before .before .before .before .before .before .before .pre .1 in
+    let e = tag-is (a .clients .now) (a .keys .now) (a .log .now) (a .client) (a .mask) (a .servers) (p .some) (c .before .before .before .client-word .ensures) (c .before .chosen-tag .ensures) in
+    let l = tag-below (a .clients .now) (a .keys .now) (a .log .now) (a .client) (a .mask) (a .servers) (p .some) in
+    (c .before .before .before .before .before .before .before .before .before .before .pre .0, ((p .row, omega (arith, p .logged)), rw e (tag-qualifies (a .clients .now) (a .keys .now) (a .log .now) (a .client) (a .mask) (a .servers) (p .some) (p .opening))))
+
+returns : tie.Need-returns
+returns c = let a = c .before .before .before .before .before .before .before .before .before .before .before .before .before .before .before .before .before .before .before .before .args in let p = c .before .before .before .before .before .before .before .before .before .before .before .before .before .before .before .before .before .before .before .before .pre .1 in
+    let e = tag-is (a .clients .now) (a .keys .now) (a .log .now) (a .client) (a .mask) (a .servers) (p .some) (c .before .before .before .before .before .before .before .before .before .before .before .before .before .client-word .ensures) (c .before .before .before .before .before .before .before .before .before .before .before .chosen-tag .ensures) in
+    let f = c .before .before .before .before .finish .ensures in
+    let k = c .before .before .before .before .before .before .before .before .before .conclude .ensures in
+    record { shown = f .shown ∙ rw (k, e); idled = f .idled ∙ rw (k, e); recorded = f .recorded ∙ rw e }
+
+pub finish-by-c-spec : {M : Type 1} → statement M
+finish-by-c-spec =
+    tie.close
+    (tie.spec (λ c. search needs) (λ c κs. search needs) (λ c. search needs) (λ c κs. search needs) cast-tag conclude-requires (λ c κs. search needs) (λ c. search needs) (λ c. search needs) returns)

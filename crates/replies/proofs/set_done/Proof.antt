@@ -1,0 +1,18 @@
+-- `replies::set_done` meets its contract: waiting or the second round, each a case law of `onSetDone`.
+use Rattle.tables.specs.Tables.{tablesOf}
+use Rattle.replies.specs.Cases.{set-waits, set-enters}
+use borrow.Author.Needs.{needs}
+use Rattle.replies.proofs.set_done.Statement.{statement}
+use Rattle.replies.proofs.set_done.Tie as tie
+use Rattle.replies.proofs.set_done.Reads as reads
+
+returns : tie.Need-returns
+returns c = let a = c .before .before .before .before .before .before .before .before .before .before .before .before .before .before .args in λ keys values log writes reads. set-waits (a .client) (a .target) (tablesOf (a .counts .now) (a .clients .now) (a .links .now) keys values log writes reads) (c .before .before .before .before .before .before .before .before .settle .ensures) (c .before .before .is-pending .ensures) (c .before .if1 .taken) (c .showing-nothing .ensures)
+
+returns-2 : tie.Need-returns-2
+returns-2 c = let a = c .before .before .before .before .before .before .before .before .before .before .before .before .before .before .before .before .before .before .before .before .before .args in λ keys values log writes reads. set-enters (a .client) (a .target) (tablesOf (a .counts .now) (a .clients .now) (a .links .now) keys values log writes reads) (c .before .before .before .before .before .before .before .before .before .before .before .before .before .before .before .settle .ensures) (c .before .before .before .before .before .before .before .before .before .is-pending .ensures) (c .before .before .before .before .before .before .before .before .if1 .left) (c .showing-nothing2 .ensures) (c .before .before .before .before .before .send-entry .ensures .0) (c .before .before .before .before .before .send-entry .ensures .1)
+
+pub set-done-spec : {M : Type 1} → statement M
+set-done-spec =
+    tie.close
+    (tie.spec (λ c κs. search needs) (λ c κs. search needs) (λ c κs. search needs) (λ c. search needs) (λ c. search needs) returns (λ c κs. search needs) (λ c κs. search needs) (λ c. search needs) (λ c. search needs) (λ c. search needs) returns-2)

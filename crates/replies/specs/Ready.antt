@@ -1,0 +1,120 @@
+-- What the delivery of a reply relies on. Sound tables have all of it.
+use Prim.Native.Nat.{ℕ, _+_, _*_, _<_, _≤_}
+use mathlib.Core.Path.{_≡_, sym, _∙_}
+use mathlib.Core.List.{List}
+use lib.ListN.{length}
+use Rattle.tables.specs.Rows.{HasRow}
+use Rattle.tables.specs.Layout.{countAt, countWords, stepField, serversField, clientWidth, clientWord, putClientWord, stateField, countField, recordField, recordWidth, entryWidth, logPlaces, tagField, maskField, receivedField}
+use Rattle.tables.specs.Links.{linkAt, putLink, targets}
+use Rattle.tables.specs.declared.links.Contents.{Contents}
+use Rattle.tables.specs.declared.links.Content.the-variants.{Nothing, Reply}
+use Rattle.rules.specs.declared.Delivered.{Delivered}
+use Rattle.rules.specs.Common.{counted, idle, writing, entering, askingKeys, askingSetpoints, pending, coordinator, endedRecord, taggedRecord}
+use Rattle.rules.specs.Choice.{qualifies, chosenTag}
+use Rattle.rules.specs.Reply.{readShown, receivedIn, forget}
+use Rattle.choice.specs.Ready.{ChoiceReady}
+use Rattle.choice.specs.Cases.{keptSetpoints}
+use Rattle.requests.specs.Ready.{Answerable}
+use Rattle.begins.specs.Ready.{HasLinks}
+use Rattle.ranges.specs.Last.{last-below, last-passes}
+use Rattle.ranges.specs.Turns.{turns}
+use mathlib.Core.Bool.{Bool, true, false}
+
+-- what `settle` leaves
+pub record Settled (counts links : List ℕ) (q i step : ℕ) (counts′ links′ : List ℕ) : Type 0 where
+  pub stepped : step ≡ countAt counts stepField + 1
+  pub counted′ : counts′ ≡ counted counts
+  pub emptied : links′ ≡ putLink links q i Nothing
+
+-- a client whose count fits a key
+pub record CountFits (clients : List ℕ) (q : ℕ) : Type 0 where
+  pub client : q < 16
+  pub row : HasRow clientWidth clients q
+  pub count : clientWord clients q countField < 256
+
+-- the keys' number is that of log entries
+pub record KeysReady (counts clients log : List ℕ) (q number : ℕ) : Type 0 where
+  pub row : HasRow clientWidth clients q
+  pub servers : countAt counts serversField ≤ 16
+  pub some : 0 < number
+  pub logged : entryWidth * number ≤ length log
+
+-- the client's record of a READ or a WRITE is there
+pub record GotReady (clients records : List ℕ) (q : ℕ) : Type 0 where
+  pub row : HasRow clientWidth clients q
+  pub recorded : HasRow recordWidth records (clientWord clients q recordField)
+
+-- what `finish` leaves
+pub record Finished (clients reads : List ℕ) (q mask place tag step : ℕ) (d : Delivered) (clients′ reads′ : List ℕ) : Type 0 where
+  pub shown : d ≡ readShown tag clients q mask
+  pub idled : clients′ ≡ putClientWord clients q stateField idle
+  pub recorded : reads′ ≡ endedRecord place step (taggedRecord place tag reads)
+
+-- C's choice has something to choose from: the opening's tag qualifies, and no more entries were received than the log has
+pub record Concludable (clients keys log reads : List ℕ) (q mask k place : ℕ) : Type 0 where
+  pub row : HasRow clientWidth clients q
+  pub recorded : HasRow recordWidth reads place
+  pub some : 0 < receivedIn clients q coordinator
+  pub entries : receivedIn clients q coordinator ≤ logPlaces
+  pub logged : entryWidth * receivedIn clients q coordinator ≤ length log
+  pub opening : qualifies keys log mask (receivedIn clients q) k 0 ≡ true
+
+-- the tag that C chooses, by what the client has received
+abbrev pub tagFrom : List ℕ → List ℕ → List ℕ → ℕ → ℕ → ℕ → ℕ
+tagFrom clients keys log q mask k = chosenTag keys log mask (receivedIn clients q) k (receivedIn clients q coordinator)
+
+-- the client's row once the READ is concluded at a tag
+abbrev pub concludedRow : List ℕ → List ℕ → List ℕ → List ℕ → ℕ → ℕ → ℕ → ℕ → List ℕ
+concludedRow clients keys values log q mask k tag = putClientWord (turns (forget q) targets (keptSetpoints keys values log tag q mask k clients)) q tagField tag
+
+-- what `finish_by_c` leaves
+abbrev pub FinishedByC : List ℕ → List ℕ → List ℕ → List ℕ → List ℕ → ℕ → ℕ → ℕ → ℕ → ℕ → Delivered → List ℕ → List ℕ → Type 0
+FinishedByC clients keys values log reads q mask k place step d clients′ reads′ =
+    Finished (concludedRow clients keys values log q mask k (tagFrom clients keys log q mask k)) reads q mask place (tagFrom clients keys log q mask k) step d clients′ reads′
+
+-- the tag chosen is below the entries received, and it qualifies
+module _ (clients keys log : List ℕ) (q mask k : ℕ) (some : 0 < receivedIn clients q coordinator) where
+  pub tag-below : tagFrom clients keys log q mask k < receivedIn clients q coordinator
+  tag-below = last-below (qualifies keys log mask (receivedIn clients q) k) (receivedIn clients q coordinator) some
+
+  pub tag-qualifies : qualifies keys log mask (receivedIn clients q) k 0 ≡ true → qualifies keys log mask (receivedIn clients q) k (tagFrom clients keys log q mask k) ≡ true
+  tag-qualifies e = last-passes (qualifies keys log mask (receivedIn clients q) k) (receivedIn clients q coordinator) 0 some e
+
+  -- the tag as the code finds it: n is what was read of the row
+  pub tag-is : {n tag : ℕ} → n ≡ receivedIn clients q coordinator → tag ≡ chosenTag keys log mask (receivedIn clients q) k n → tag ≡ tagFrom clients keys log q mask k
+  tag-is e d = d ∙ rw e
+
+-- the client's row with the number put
+abbrev pub toldRow : List ℕ → ℕ → ℕ → ℕ → List ℕ
+toldRow clients q i number = putClientWord clients q (receivedField + i) number
+
+-- a reply to C: where it is the last, the choice is ready
+pub record AllReady (counts clients links keys values log reads : List ℕ) (q i number : ℕ) : Type 0 where
+  pub row : HasRow clientWidth clients q
+  pub target : i < targets
+  pub linked : HasLinks links q
+  pub last : pending (putLink links q i Nothing) q ≡ false →
+      (ChoiceReady (toldRow clients q i number) keys values q (countAt counts serversField)
+      × Concludable (toldRow clients q i number) keys log reads q (clientWord clients q maskField) (countAt counts serversField) (clientWord clients q recordField))
+
+-- the last reply, as the code finds it: the words read, and what was put
+pub last-ready : (counts clients links keys values log reads : List ℕ) (q i number : ℕ) {told links′ : List ℕ} {b : Bool} {k mask place : ℕ} →
+    AllReady counts clients links keys values log reads q i number → links′ ≡ putLink links q i Nothing → b ≡ pending links′ q → b ≡ false → told ≡ toldRow clients q i number →
+    k ≡ countAt counts serversField → mask ≡ clientWord clients q maskField → place ≡ clientWord clients q recordField →
+    (ChoiceReady told keys values q k × Concludable told keys log reads q mask k place)
+last-ready counts clients links keys values log reads q i number r l p e t k m c = rw (t, k, m, c) (r .last (rw l at (sym p ∙ e)))
+
+-- what a reply of each state brings
+pub record Brings (counts clients links keys values log writes reads : List ℕ) (q i number : ℕ) : Type 0 where
+  pub done : clientWord clients q stateField ≡ writing → CountFits clients q
+  pub entered : clientWord clients q stateField ≡ entering → GotReady clients writes q
+  pub told : clientWord clients q stateField ≡ askingKeys → KeysReady counts clients log q number
+  pub got : clientWord clients q stateField ≡ askingSetpoints → ((i < 16) × GotReady clients reads q)
+  pub all : (clientWord clients q stateField ≡ writing → ⊥) → (clientWord clients q stateField ≡ entering → ⊥) → (clientWord clients q stateField ≡ askingKeys → ⊥) →
+      (clientWord clients q stateField ≡ askingSetpoints → ⊥) → AllReady counts clients links keys values log reads q i number
+
+pub record ReplyReady (counts clients links keys values log writes reads : List ℕ) (q i : ℕ) : Type 0 where
+  pub answerable : Answerable counts links q i
+  pub row : HasRow clientWidth clients q
+  pub linked : HasLinks links q
+  pub brings : (w : Contents) → linkAt links q i .content ≡ Reply w → Brings counts clients links keys values log writes reads q i (w .number)

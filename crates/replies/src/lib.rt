@@ -1,0 +1,383 @@
+// The delivery of a reply, on tables known to be sound: the client goes on, waits or ends.
+ghost use mathlib.Core.Path.{_≡_};
+ghost use mathlib.Core.List.{List};
+ghost use Prim.Native.Nat.{ℕ, _+_, _≤_, _<_};
+ghost use lib.ListN.{length};
+ghost use Rattle.tables.specs.Tables.{tablesOf};
+ghost use Rattle.tables.specs.Rows.{HasRow};
+ghost use Rattle.tables.specs.Layout.{clientWidth, entryWidth};
+ghost use Rattle.tables.specs.Links.{targets, putLink};
+ghost use Rattle.tables.specs.Layout.{stateField, countField, maskField, recordWidth, putClientWord, clientWord};
+ghost use Rattle.keys.specs.Keys.{keyOf};
+ghost use Rattle.rules.specs.Answers.{arrived};
+ghost use Rattle.rules.specs.Common.{entering, idle, coordinator, request, pending, endedRecord, taggedRecord};
+ghost use Rattle.rules.specs.Reply.{shownSetpoints, readShown, onSetDone, onEntered, onKeys, onGot, onAll, onReplyIn, replyDelivered};
+ghost use Rattle.replies.specs.Ready.{Settled, CountFits, GotReady, KeysReady, Finished, Concludable, FinishedByC, AllReady, Brings, ReplyReady};
+ghost use Rattle.choice.specs.Ready.{ChoiceReady};
+ghost use Rattle.requests.specs.Ready.{Answerable};
+ghost use Rattle.begins.specs.Ready.{HasLinks};
+use keys::Key;
+use rules::Arrival;
+use rules::Delivered;
+use tables::clients;
+use tables::counts;
+use tables::links;
+use tables::links::Contents;
+use tables::records;
+
+// Whether some link of a client holds a request or a reply.
+fn is_pending(links: &[u32], client: usize) -> bool
+    requires { ⌜ HasLinks (now links) client ⌝ }
+    ensures { λ r. ⌜ r ≡ pending (now (links .entry)) client ⌝ }
+{
+    let mut target = 0;
+    while target < links::TARGETS {
+        if !links::is_empty(links, client, target) {
+            return true;
+        }
+        target += 1;
+    }
+    false
+}
+
+// The link holds nothing now, and the step counts. The answer is the step's number.
+fn settle(counts: &mut [u32], links: &mut [u32], client: usize, target: usize) -> u32
+    requires { ⌜ Answerable (now counts) (now links) client target ⌝ }
+    ensures { λ r. ⌜ Settled (now (counts .entry)) (now (links .entry)) client target r (now (counts .exit)) (now (links .exit)) ⌝ }
+{
+    links::put_link(
+        links,
+        client,
+        target,
+        links::Link {
+            content: links::Content::Nothing,
+        },
+    );
+    let step = counts::count_at(counts, counts::STEP) + 1;
+    counts::put_count(counts, counts::STEP, step);
+    step
+}
+
+// The setpoints that a READ of a mask shows, 0 elsewhere.
+fn shown_setpoints(clients: &[u32], client: usize, mask: u32) -> [u32; 16]
+    requires { ⌜ HasRow clientWidth (now clients) client ⌝ }
+    ensures { λ r. ⌜ r ≡ shownSetpoints (now (clients .entry)) client mask ⌝ }
+{
+    let mut shown = [0u32; 16];
+    let mut server = 0;
+    while server < 16 {
+        if keys::has_server(mask, server) {
+            shown[server] = clients::client_word(clients, client, clients::SETPOINTS + server);
+        }
+        server += 1;
+    }
+    shown
+}
+
+// The second round of a WRITE: its key and mask go to the coordinator.
+fn send_entry(clients: &mut [u32], links: &mut [u32], client: usize)
+    requires { ⌜ CountFits (now clients) client ⌝ }
+    requires { ⌜ HasLinks (now links) client ⌝ }
+    ensures clients { λ _. ⌜ now (clients .exit) ≡ putClientWord (now (clients .entry)) client stateField entering ⌝ }
+    ensures links { λ _. ⌜ now (links .exit) ≡ putLink (now (links .entry)) client coordinator
+        (request (keyOf (clientWord (now (clients .entry)) client countField) client) (clientWord (now (clients .entry)) client maskField)) ⌝ }
+{
+    let count = clients::client_word(clients, client, clients::COUNT);
+    let mask = clients::client_word(clients, client, clients::MASK);
+    clients::put_client_word(clients, client, clients::STATE, 2);
+    begins::send(
+        links,
+        client,
+        links::COORDINATOR,
+        Key::new(count as u8, client as u8),
+        mask,
+    );
+}
+
+// State 1: the last acknowledgement sends the entry; the others only arrive.
+fn set_done(
+    counts: &mut [u32],
+    clients: &mut [u32],
+    links: &mut [u32],
+    client: usize,
+    target: usize,
+) -> Delivered
+    requires { ⌜ Answerable (now counts) (now links) client target ⌝ }
+    requires { ⌜ CountFits (now clients) client ⌝ }
+    requires { ⌜ HasLinks (now links) client ⌝ }
+    ensures { λ r. ⌜ ((keys values log writes reads : List ℕ) →
+        arrived r (tablesOf (now (counts .exit)) (now (clients .exit)) (now (links .exit)) keys values log writes reads)
+        ≡ onSetDone client target (tablesOf (now (counts .entry)) (now (clients .entry)) (now (links .entry)) keys values log writes reads)) ⌝ }
+{
+    settle(counts, links, client, target);
+    if is_pending(&*links, client) {
+        return rules::showing_nothing(Arrival::Wait);
+    }
+    send_entry(clients, links, client);
+    rules::showing_nothing(Arrival::Next)
+}
+
+// State 2: the tag's arrival ends the WRITE.
+fn entered(
+    counts: &mut [u32],
+    clients: &mut [u32],
+    links: &mut [u32],
+    writes: &mut [u32],
+    client: usize,
+    target: usize,
+    contents: Contents,
+) -> Delivered
+    requires { ⌜ Answerable (now counts) (now links) client target ⌝ }
+    requires { ⌜ GotReady (now clients) (now writes) client ⌝ }
+    ensures { λ r. ⌜ ((keys values log reads : List ℕ) →
+        arrived r (tablesOf (now (counts .exit)) (now (clients .exit)) (now (links .exit)) keys values log (now (writes .exit)) reads)
+        ≡ onEntered contents client target (tablesOf (now (counts .entry)) (now (clients .entry)) (now (links .entry)) keys values log (now (writes .entry)) reads)) ⌝ }
+{
+    let step = settle(counts, links, client, target);
+    let place = clients::client_word(clients, client, clients::RECORD);
+    clients::put_client_word(clients, client, clients::TAG, contents.number);
+    clients::put_client_word(clients, client, clients::STATE, 0);
+    records::put_record_word(writes, place as usize, records::END, step);
+    rules::showing_nothing(Arrival::Write(contents.number))
+}
+
+// State 3: the last tag and its keys have come; each masked server is asked for its key.
+fn keys_told(
+    counts: &mut [u32],
+    clients: &mut [u32],
+    links: &mut [u32],
+    log: &[u32],
+    client: usize,
+    target: usize,
+    contents: Contents,
+) -> Delivered
+    requires { ⌜ Answerable (now counts) (now links) client target ⌝ }
+    requires { ⌜ HasLinks (now links) client ⌝ }
+    requires { ⌜ KeysReady (now counts) (now clients) (now log) client (contents .number) ⌝ }
+    ensures { λ r. ⌜ ((keys values writes reads : List ℕ) →
+        arrived r (tablesOf (now (counts .exit)) (now (clients .exit)) (now (links .exit)) keys values (now (log .entry)) writes reads)
+        ≡ onKeys contents client target (tablesOf (now (counts .entry)) (now (clients .entry)) (now (links .entry)) keys values (now (log .entry)) writes reads)) ⌝ }
+{
+    let servers = counts::count_at(counts, counts::SERVERS);
+    let mask = clients::client_word(clients, client, clients::MASK);
+    let tag = contents.number - 1;
+    settle(counts, links, client, target);
+    clients::put_client_word(clients, client, clients::TAG, tag);
+    clients::put_client_word(clients, client, clients::STATE, 4);
+    begins::send_gets(links, log, client, mask, tag as usize, servers as usize);
+    rules::showing_nothing(Arrival::Next)
+}
+
+// A READ ends: the client is idle, the record gets tag and end, and the answer shows the setpoints.
+fn finish(
+    clients: &mut [u32],
+    reads: &mut [u32],
+    client: usize,
+    mask: u32,
+    place: u32,
+    tag: u32,
+    step: u32,
+) -> Delivered
+    requires { ⌜ (HasRow clientWidth (now clients) client) × (HasRow recordWidth (now reads) place) ⌝ }
+    ensures { λ r. ⌜ Finished (now (clients .entry)) (now (reads .entry)) client mask place tag step r (now (clients .exit)) (now (reads .exit)) ⌝ }
+{
+    let shown = shown_setpoints(&*clients, client, mask);
+    clients::put_client_word(clients, client, clients::STATE, 0);
+    history::end_read(reads, place as usize, tag, step);
+    Delivered {
+        arrival: Arrival::Read(tag),
+        setpoints: shown,
+    }
+}
+
+// State 4: a setpoint has come; the last one ends the READ.
+fn got(
+    counts: &mut [u32],
+    clients: &mut [u32],
+    links: &mut [u32],
+    reads: &mut [u32],
+    client: usize,
+    target: usize,
+    contents: Contents,
+) -> Delivered
+    requires { ⌜ Answerable (now counts) (now links) client target ⌝ }
+    requires { ⌜ (HasLinks (now links) client) × (target < 16) ⌝ }
+    requires { ⌜ GotReady (now clients) (now reads) client ⌝ }
+    ensures { λ r. ⌜ ((keys values log writes : List ℕ) →
+        arrived r (tablesOf (now (counts .exit)) (now (clients .exit)) (now (links .exit)) keys values log writes (now (reads .exit)))
+        ≡ onGot contents client target (tablesOf (now (counts .entry)) (now (clients .entry)) (now (links .entry)) keys values log writes (now (reads .entry)))) ⌝ }
+{
+    let mask = clients::client_word(clients, client, clients::MASK);
+    let place = clients::client_word(clients, client, clients::RECORD);
+    let tag = clients::client_word(clients, client, clients::TAG);
+    let step = settle(counts, links, client, target);
+    clients::put_client_word(
+        clients,
+        client,
+        clients::SETPOINTS + target,
+        contents.number,
+    );
+    if is_pending(&*links, client) {
+        return rules::showing_nothing(Arrival::Wait);
+    }
+    finish(clients, reads, client, mask, place, tag, step)
+}
+
+// A READ ends under C: the tag is chosen, the setpoints at it are kept, and the READ finishes.
+fn finish_by_c(
+    clients: &mut [u32],
+    keys: &[u32],
+    values: &[u32],
+    log: &[u32],
+    reads: &mut [u32],
+    client: usize,
+    mask: u32,
+    servers: usize,
+    place: u32,
+    step: u32,
+) -> Delivered
+    requires { ⌜ ChoiceReady (now clients) (now keys) (now values) client servers ⌝ }
+    requires { ⌜ Concludable (now clients) (now keys) (now log) (now reads) client mask servers place ⌝ }
+    ensures { λ r. ⌜ FinishedByC (now (clients .entry)) (now (keys .entry)) (now (values .entry)) (now (log .entry)) (now (reads .entry)) client mask servers place step r (now (clients .exit)) (now (reads .exit)) ⌝ }
+{
+    let entries = clients::client_word(clients, client, clients::RECEIVED + links::COORDINATOR);
+    let tag = choice::chosen_tag(
+        &*clients,
+        keys,
+        log,
+        client,
+        mask,
+        servers,
+        entries as usize,
+    ) as u32;
+    choice::conclude(clients, keys, values, log, client, mask, servers, tag);
+    finish(clients, reads, client, mask, place, tag, step)
+}
+
+// State 5: an n has come; when all replies are in, the READ ends.
+fn all_told(
+    counts: &mut [u32],
+    clients: &mut [u32],
+    links: &mut [u32],
+    keys: &[u32],
+    values: &[u32],
+    log: &[u32],
+    reads: &mut [u32],
+    client: usize,
+    target: usize,
+    contents: Contents,
+) -> Delivered
+    requires { ⌜ Answerable (now counts) (now links) client target ⌝ }
+    requires { ⌜ AllReady (now counts) (now clients) (now links) (now keys) (now values) (now log) (now reads) client target (contents .number) ⌝ }
+    ensures { λ r. ⌜ ((writes : List ℕ) →
+        arrived r (tablesOf (now (counts .exit)) (now (clients .exit)) (now (links .exit)) (now (keys .entry)) (now (values .entry)) (now (log .entry)) writes (now (reads .exit)))
+        ≡ onAll contents client target (tablesOf (now (counts .entry)) (now (clients .entry)) (now (links .entry)) (now (keys .entry)) (now (values .entry)) (now (log .entry)) writes (now (reads .entry)))) ⌝ }
+{
+    let servers = counts::count_at(counts, counts::SERVERS);
+    let mask = clients::client_word(clients, client, clients::MASK);
+    let place = clients::client_word(clients, client, clients::RECORD);
+    let step = settle(counts, links, client, target);
+    clients::put_client_word(clients, client, clients::RECEIVED + target, contents.number);
+    if is_pending(&*links, client) {
+        return rules::showing_nothing(Arrival::Wait);
+    }
+    finish_by_c(
+        clients,
+        keys,
+        values,
+        log,
+        reads,
+        client,
+        mask,
+        servers as usize,
+        place,
+        step,
+    )
+}
+
+// A reply is taken by what the client's state waits for.
+fn reply_in_state(
+    counts: &mut [u32],
+    clients: &mut [u32],
+    links: &mut [u32],
+    keys: &[u32],
+    values: &[u32],
+    log: &[u32],
+    writes: &mut [u32],
+    reads: &mut [u32],
+    client: usize,
+    target: usize,
+    contents: Contents,
+) -> Delivered
+    requires { ⌜ Answerable (now counts) (now links) client target ⌝ }
+    requires { ⌜ (HasRow clientWidth (now clients) client) × (HasLinks (now links) client) ⌝ }
+    requires { ⌜ Brings (now counts) (now clients) (now links) (now keys) (now values) (now log) (now writes) (now reads) client target (contents .number) ⌝ }
+    ensures { λ r. ⌜ arrived r (tablesOf (now (counts .exit)) (now (clients .exit)) (now (links .exit)) (now (keys .entry)) (now (values .entry)) (now (log .entry)) (now (writes .exit)) (now (reads .exit)))
+        ≡ onReplyIn (clientWord (now (clients .entry)) client stateField) contents client target
+        (tablesOf (now (counts .entry)) (now (clients .entry)) (now (links .entry)) (now (keys .entry)) (now (values .entry)) (now (log .entry)) (now (writes .entry)) (now (reads .entry))) ⌝ }
+{
+    let state = clients::client_word(clients, client, clients::STATE);
+    if state == 1 {
+        return set_done(counts, clients, links, client, target);
+    }
+    if state == 2 {
+        return entered(counts, clients, links, writes, client, target, contents);
+    }
+    if state == 3 {
+        return keys_told(counts, clients, links, log, client, target, contents);
+    }
+    if state == 4 {
+        return got(counts, clients, links, reads, client, target, contents);
+    }
+    all_told(
+        counts,
+        clients,
+        links,
+        keys,
+        values,
+        log,
+        reads,
+        client,
+        target,
+        contents,
+    )
+}
+
+// Delivers the reply of a target to a client: 9 where the link has none.
+pub fn deliver_reply(
+    counts: &mut [u32],
+    clients: &mut [u32],
+    links: &mut [u32],
+    keys: &[u32],
+    values: &[u32],
+    log: &[u32],
+    writes: &mut [u32],
+    reads: &mut [u32],
+    client: usize,
+    target: usize,
+) -> Delivered
+    requires { ⌜ ReplyReady (now counts) (now clients) (now links) (now keys) (now values) (now log) (now writes) (now reads) client target ⌝ }
+    ensures { λ r. ⌜ arrived r (tablesOf (now (counts .exit)) (now (clients .exit)) (now (links .exit)) (now (keys .entry)) (now (values .entry)) (now (log .entry)) (now (writes .exit)) (now (reads .exit)))
+        ≡ replyDelivered client target
+        (tablesOf (now (counts .entry)) (now (clients .entry)) (now (links .entry)) (now (keys .entry)) (now (values .entry)) (now (log .entry)) (now (writes .entry)) (now (reads .entry))) ⌝ }
+{
+    let link = links::link_at(&*links, client, target);
+    let content = link.content;
+    match content {
+        links::Content::Nothing => rules::showing_nothing(Arrival::Refused(9)),
+        links::Content::Request(_) => rules::showing_nothing(Arrival::Refused(9)),
+        links::Content::Reply(contents) => reply_in_state(
+            counts,
+            clients,
+            links,
+            keys,
+            values,
+            log,
+            writes,
+            reads,
+            client,
+            target,
+            contents,
+        ),
+    }
+}
