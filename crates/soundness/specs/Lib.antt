@@ -2,3 +2,4 @@
 pub mod Sound
 pub mod Every
 pub mod Facts
+pub mod Balance
