@@ -1,0 +1,4 @@
+-- Sound tables stay sound: an accepted opening leaves sound tables, and each step on sound tables leaves sound tables.
+pub mod Links
+pub mod Frame
+pub mod Steps
