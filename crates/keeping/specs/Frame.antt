@@ -153,8 +153,8 @@ module _ (q : ℕ) (t t′ : Tables) (s : Sound t) (g : Grows q t t′) where
         held = record { least = omega (arith, f .held .least); most = r .held i h };
         first = g .key i 0 h (f .held .least) ∙ f .first;
         key = λ place l. rw (g .numbers .clients) (by-test (ltb place (heldOf t i))
-          (λ b. rw (g .key i place h (ltb-true _ _ b)) (f .key place (ltb-true _ _ b)))
-          (λ b. r .key i place h (ltb-false _ _ b) l));
+            (λ b. rw (g .key i place h (ltb-true _ _ b)) (f .key place (ltb-true _ _ b)))
+            (λ b. r .key i place h (ltb-false _ _ b) l));
       }
 
   log-kept : Renewed q t t′ → LogFacts t′
@@ -165,11 +165,11 @@ module _ (q : ℕ) (t t′ : Tables) (s : Sound t) (g : Grows q t t′) where
         firstkey = g .entry 0 0 some (omega arith) ∙ f .firstkey;
         firstmask = rw (g .numbers .servers) (g .entry 0 1 some (omega arith) ∙ f .firstmask);
         entry = λ tag l. by-test (ltb tag (entriesOf t))
-          (λ b.
-          let h = ltb-true tag (entriesOf t) b in
-          let e = f .entry tag h in
-          record { key = rw (g .numbers .clients, g .entry tag 0 h (omega arith)) (e .key); mask = rw (g .numbers .servers, g .entry tag 1 h (omega arith)) (e .mask) })
-          (λ b. r .entry tag (ltb-false _ _ b) l);
+            (λ b.
+            let h = ltb-true tag (entriesOf t) b in
+            let e = f .entry tag h in
+            record { key = rw (g .numbers .clients, g .entry tag 0 h (omega arith)) (e .key); mask = rw (g .numbers .servers, g .entry tag 1 h (omega arith)) (e .mask) })
+            (λ b. r .entry tag (ltb-false _ _ b) l);
       }
 
   -- one law for every step: what it left and what it proves anew make sound tables

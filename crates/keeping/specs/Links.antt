@@ -132,9 +132,9 @@ module _ (t : Tables) (q i : ℕ) where
   unfolding contentSound
   link-asks f =
       let sent : kindOn t q i ≡ 1 → (uses (stateOf t q) (maskOf t q) i && requestSound (stateOf t q) q (keyOn t q i) (numberOn t q i) t) ≡ true =
-          λ k. on-request (at-request (t .links) q i k) (f .content) in
+      λ k. on-request (at-request (t .links) q i k) (f .content) in
       let got : kindOn t q i ≡ 2 → (uses (stateOf t q) (maskOf t q) i && replySound (stateOf t q) i (numberOn t q i) t) ≡ true =
-          λ k. on-request (at-reply (t .links) q i k) (f .content) in
+      λ k. on-request (at-reply (t .links) q i k) (f .content) in
       record {
         kind = f .kind;
         used = λ d. kind-by (t .links) q i (f .kind) (λ k. absurd (d k)) (λ k. both-left _ _ (sent k)) (λ k. both-left _ _ (got k));
@@ -148,9 +148,9 @@ module _ (t : Tables) (q i : ℕ) where
       record {
         kind = a .kind;
         content = kind-by (t .links) q i (a .kind)
-          (λ k. rw (at-nothing (t .links) q i k))
-          (λ k. rw (at-request (t .links) q i k) (both _ _ (a .used (λ z. omega arith)) (a .request k)))
-          (λ k. rw (at-reply (t .links) q i k) (both _ _ (a .used (λ z. omega arith)) (a .reply k)));
+            (λ k. rw (at-nothing (t .links) q i k))
+            (λ k. rw (at-request (t .links) q i k) (both _ _ (a .used (λ z. omega arith)) (a .request k)))
+            (λ k. rw (at-reply (t .links) q i k) (both _ _ (a .used (λ z. omega arith)) (a .reply k)));
       }
 
 -- What a put leaves: the words of what was put, and every other link's words.
