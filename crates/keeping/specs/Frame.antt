@@ -12,7 +12,7 @@ use Rattle.ranges.specs.Tests.{by-test, by-equal, both, both-left, both-right}
 use Rattle.ranges.specs.Sum.{sumBelow}
 use Rattle.keys.specs.Masks.{Within}
 use Rattle.tables.specs.Rows.{wordAt}
-use Rattle.tables.specs.Layout.{clientWidth, clientWord, serverPlaces, logPlaces, recordPlaces, entryWidth, versionWord, entryMask}
+use Rattle.tables.specs.Layout.{clientWidth, clientWord, serverPlaces, logPlaces, recordPlaces, entryWidth, versionWord, entryMask, recordWord, clientOfRecord, numberOfRecord, tagOfRecord}
 use Rattle.tables.specs.Links.{targets, linkWidth, linkAt, isEmpty}
 use Rattle.tables.specs.Tables.{Tables, methodOf, serversOf, clientsOf, stepOf, entriesOf, writesOf, readsOf, heldOf, stateOf, countOf, maskOf, tagOf, recordOf, receivedOf, contentAt}
 use Rattle.rules.specs.Common.{idle, writing, entering, askingKeys, askingSetpoints, askingAll, coordinator, pending}
@@ -86,6 +86,13 @@ module _ (t t′ : Tables) (n : Numbers t t′) where
         received = λ i h. received-kept q i h state mask (λ f g. words i f h g) (row _ (omega arith)) (c .received i h);
         busy = λ d. rw (pending-same (t .links) (t′ .links) q words) (c .busy (λ e. d (state ∙ e)));
       }
+
+  -- a record whose client and number stay, and whose tag is within the log
+  pub write-kept : (m : ℕ) → recordWord (t′ .writes) m clientOfRecord ≡ recordWord (t .writes) m clientOfRecord → recordWord (t′ .writes) m numberOfRecord ≡ recordWord (t .writes) m numberOfRecord → recordWord (t′ .writes) m tagOfRecord < entriesOf t′ → WriteFacts t m → WriteFacts t′ m
+  write-kept m c k h w = record { client = rw (c, n .clients) (w .client); count = rw k (w .count); tag = h }
+
+  pub read-kept : (m : ℕ) → recordWord (t′ .reads) m clientOfRecord ≡ recordWord (t .reads) m clientOfRecord → recordWord (t′ .reads) m numberOfRecord ≡ recordWord (t .reads) m numberOfRecord → recordWord (t′ .reads) m tagOfRecord < entriesOf t′ → ReadFacts t m → ReadFacts t′ m
+  read-kept m c k h w = record { client = rw (c, n .clients) (w .client); mask = rw (k, n .servers) (w .mask); tag = h }
 
 -- No table changes its length.
 pub record Lengths (t t′ : Tables) : Type 0 where
