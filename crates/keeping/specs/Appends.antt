@@ -19,7 +19,7 @@ use Rattle.rules.specs.Common.{taggedRecord}
 use Rattle.rules.specs.Request.{storedBy, enteredBy}
 use Rattle.soundness.specs.Sound.{keyInRange}
 use Rattle.soundness.specs.Facts.{EntryFacts, WriteFacts, Sound}
-use Rattle.keeping.specs.Frame.{Numbers, Lengths, Grows, Renewed, kept, client-kept, write-kept, read-kept}
+use Rattle.keeping.specs.Frame.{Numbers, Lengths, Grows, Kept, kept, client-kept, write-kept, read-kept}
 use Rattle.keeping.specs.Records.{tagged-word, tagged-other, tagged-here, tagged-open, open-kept}
 
 -- a version behind those that server i holds
@@ -59,7 +59,7 @@ module _ (q i : ℕ) (key : Key) (setpoint : ℕ) (t : Tables) (s : Sound t) (cl
       word-other serverPlaces words i (heldOf t i) v j place room (omega (arith, s .server j h .held .most))
       (λ e. let z : heldOf t j ≡ heldOf t i = rw (e .0) in omega (arith, e .1))
 
-  pub stored-grows : Grows q t after
+  stored-grows : Grows q t after
   stored-grows =
       record {
         numbers = stored-numbers;
@@ -81,8 +81,8 @@ module _ (q i : ℕ) (key : Key) (setpoint : ℕ) (t : Tables) (s : Sound t) (cl
       rw (e, here, word-same serverPlaces (t .keys) i (heldOf t i) (keyWord key) (omega (arith, s .long .keys)) room) good)
       (λ d. let z : ⊥ = omega (arith, held-other j d) in absurd z)
 
-  pub stored-sound : Sound after
-  stored-sound =
+  pub stored-kept : Kept q t after
+  stored-kept =
       let entries = same 4 (λ e. omega arith) in
       let writes = same 5 (λ e. omega arith) in
       let reads = same 6 (λ e. omega arith) in
@@ -132,7 +132,7 @@ module _ (q : ℕ) (key : Key) (mask : ℕ) (t : Tables) (s : Sound t) (client :
         held = λ j h. omega (arith, held-alike j);
       }
 
-  pub entered-grows : Grows q t longer
+  entered-grows : Grows q t longer
   entered-grows =
       record {
         numbers = entered-numbers;
@@ -167,8 +167,8 @@ module _ (q : ℕ) (key : Key) (mask : ℕ) (t : Tables) (s : Sound t) (client :
       (tagged-word (t .writes) (recordOf t q) (entriesOf t) n numberOfRecord (omega arith) (λ e. omega arith))
       (tag-within n h) (s .write n h)
 
-  pub entered-sound : Sound longer
-  entered-sound =
+  pub entered-kept : Kept q t longer
+  entered-kept =
       let writes = alike 5 (λ e. omega arith) in
       let reads = alike 6 (λ e. omega arith) in
       kept q t longer s entered-grows (record {

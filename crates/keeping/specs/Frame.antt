@@ -179,9 +179,9 @@ module _ (q : ℕ) (t t′ : Tables) (s : Sound t) (g : Grows q t t′) where
             (λ b. r .entry tag (ltb-false _ _ b) l);
       }
 
-  -- one law for every step: what it left and what it proves anew make sound tables
-  pub kept : Renewed q t t′ → Sound t′
-  kept r =
+  -- what a step left and what it proves anew make sound tables
+  sound-kept : Renewed q t t′ → Sound t′
+  sound-kept r =
       record {
         long = long-kept;
         scalars = record { press = press-kept; step = r .step; entries = record { least = omega (arith, s .scalars .entries .least, g .numbers .entries); most = r .entries }; writes = r .writes; reads = r .reads };
@@ -193,3 +193,67 @@ module _ (q : ℕ) (t t′ : Tables) (s : Sound t) (g : Grows q t t′) where
         read = r .read;
         records = λ p h. r .records p (rw (g .numbers .clients) at h);
       }
+
+-- A step of client q on sound tables: what it leaves is sound, and the rest has only grown.
+pub record Kept (q : ℕ) (t t′ : Tables) : Type 0 where
+  pub sound : Sound t′
+  pub grows : Grows q t t′
+
+-- the law of every step
+pub kept : (q : ℕ) (t t′ : Tables) → Sound t → Grows q t t′ → Renewed q t t′ → Kept q t t′
+kept q t t′ s g r = record { sound = sound-kept q t t′ s g r; grows = g }
+
+-- a step refused leaves all as before
+pub kept-same : (q : ℕ) (t : Tables) → Sound t → Kept q t t
+kept-same q t s =
+    record {
+      sound = s;
+      grows = record {
+        numbers = record { method = refl; servers = refl; clients = refl; entries = omega arith; held = λ i h. omega arith };
+        lengths = record { counts = refl; clients = refl; links = refl; keys = refl; values = refl; log = refl; writes = refl; reads = refl };
+        row = λ p f d h. refl;
+        link = λ p i f d h l. refl;
+        key = λ i place h l. refl;
+        value = λ i place h l. refl;
+        entry = λ tag f h l. refl;
+      };
+    }
+
+-- two steps of one client, one behind the other
+module _ (q : ℕ) (t t₁ t₂ : Tables) (s : Sound t) (a : Grows q t t₁) (b : Grows q t₁ t₂) where
+  held-then : (i place : ℕ) → i < serversOf t → place < heldOf t i → place < heldOf t₁ i
+  held-then i place h l = omega (arith, a .numbers .held i (omega (arith, s .scalars .press .servers .most)))
+
+  pub grows-then : Grows q t t₂
+  grows-then =
+      let m = a .numbers in
+      let n = b .numbers in
+      let x = a .lengths in
+      let y = b .lengths in
+      record {
+        numbers = record {
+          method = n .method ∙ m .method;
+          servers = n .servers ∙ m .servers;
+          clients = n .clients ∙ m .clients;
+          entries = omega (arith, m .entries, n .entries);
+          held = λ i h. omega (arith, m .held i h, n .held i h);
+        };
+        lengths = record {
+          counts = y .counts ∙ x .counts;
+          clients = y .clients ∙ x .clients;
+          links = y .links ∙ x .links;
+          keys = y .keys ∙ x .keys;
+          values = y .values ∙ x .values;
+          log = y .log ∙ x .log;
+          writes = y .writes ∙ x .writes;
+          reads = y .reads ∙ x .reads;
+        };
+        row = λ p f d h. b .row p f d h ∙ a .row p f d h;
+        link = λ p i f d h l. b .link p i f d h l ∙ a .link p i f d h l;
+        key = λ i place h l. b .key i place (rw (m .servers) h) (held-then i place h l) ∙ a .key i place h l;
+        value = λ i place h l. b .value i place (rw (m .servers) h) (held-then i place h l) ∙ a .value i place h l;
+        entry = λ tag f h l. b .entry tag f (omega (arith, m .entries)) l ∙ a .entry tag f h l;
+      }
+
+pub kept-then : (q : ℕ) (t t₁ t₂ : Tables) → Sound t → Kept q t t₁ → Kept q t₁ t₂ → Kept q t t₂
+kept-then q t t₁ t₂ s a b = record { sound = b .sound; grows = grows-then q t t₁ t₂ s (a .grows) (b .grows) }

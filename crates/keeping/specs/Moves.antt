@@ -14,7 +14,7 @@ use Rattle.tables.specs.Tables.{Tables, clientsOf, stepOf, entriesOf, writesOf,
 use Rattle.rules.specs.Common.{counted}
 use Rattle.soundness.specs.Facts.{Between, ClientFacts, WriteFacts, ReadFacts, RecordsFacts, Sound}
 use Rattle.keeping.specs.Links.{linkWord}
-use Rattle.keeping.specs.Frame.{Numbers, Lengths, Grows, Renewed, kept}
+use Rattle.keeping.specs.Frame.{Numbers, Lengths, Grows, Kept, kept}
 
 pub record Moves (q : ℕ) (t t′ : Tables) : Type 0 where
   pub count : (f : ℕ) → (f ≡ stepField → ⊥) → (f ≡ writesField → ⊥) → (f ≡ readsField → ⊥) → countAt (t′ .counts) f ≡ countAt (t .counts) f
@@ -65,8 +65,8 @@ pub record Anew (q : ℕ) (t t′ : Tables) : Type 0 where
   pub read : (n : ℕ) → n < readsOf t′ → ReadFacts t′ n
   pub records : (p : ℕ) → p < clientsOf t → RecordsFacts t′ p
 
-pub moved-sound : (q : ℕ) (t t′ : Tables) → Sound t → Moves q t t′ → Anew q t t′ → Sound t′
-moved-sound q t t′ s m a =
+pub moved-kept : (q : ℕ) (t t′ : Tables) → Sound t → Moves q t t′ → Anew q t t′ → Kept q t t′
+moved-kept q t t′ s m a =
     kept q t t′ s (moves-grows q t t′ m)
     (record {
       step = a .step;

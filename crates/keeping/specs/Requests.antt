@@ -28,9 +28,9 @@ use Rattle.store.specs.Refusals.{isTarget, deliveryRefusal, atLastStep}
 use Rattle.keeping.specs.Refused.{has, lacks, neither}
 use Rattle.keeping.specs.Links.{linkWord, kindOn, numberOn, kind-full, pending-at, LinkAsks, request-kind, request-words, put-same, put-other, link-asks, asks-link}
 use Rattle.keeping.specs.States.{received-none, none-received, not-empty, by-state, masked-below, own-key, own-in-range, uses-writing, uses-keys, request-writing, request-entering, reply-writing, reply-entering, reply-keys, reply-setpoints, reply-all}
-use Rattle.keeping.specs.Appends.{stored-grows, stored-step, stored-sound, entered-grows, entered-step, entry-more, entered-sound}
-use Rattle.keeping.specs.Moves.{Moves, Anew, moves-numbers, moved-sound, counted-other, counted-step, counted-length}
-use Rattle.keeping.specs.Frame.{Numbers, reply-kept, link-kept, received-kept, write-kept, read-kept}
+use Rattle.keeping.specs.Appends.{stored-step, stored-kept, entered-step, entry-more, entered-kept}
+use Rattle.keeping.specs.Moves.{Moves, Anew, moves-numbers, moved-kept, counted-other, counted-step, counted-length}
+use Rattle.keeping.specs.Frame.{Numbers, Kept, kept-same, kept-then, reply-kept, link-kept, received-kept, write-kept, read-kept}
 
 -- What number 0 of a delivery's refusal says.
 pub record Deliverable (q i : ℕ) (t : Tables) : Type 0 where
@@ -81,7 +81,7 @@ module _ (q i number : ℕ) (t : Tables) (s : Sound t) (client : q < clientsOf t
   other : (p j f : ℕ) → ((p ≡ q) × (j ≡ i) → ⊥) → j < targets → f < linkWidth → linkWord (after .links) p j f ≡ linkWord (t .links) p j f
   other p j f d h l = put-other (t .links) q i (reply number) p j f target h d l
 
-  pub answered-moves : Moves q t after
+  answered-moves : Moves q t after
   answered-moves =
       record {
         count = λ f d e g. same f d;
@@ -149,8 +149,8 @@ module _ (q i number : ℕ) (t : Tables) (s : Sound t) (client : q < clientsOf t
         records = λ p h. record { write = rw writes (s .records p h .write); read = rw reads (s .records p h .read) };
       }
 
-  pub answered-sound : Sound after
-  answered-sound = moved-sound q t after s answered-moves answered-anew
+  pub answered-kept : Kept q t after
+  answered-kept = moved-kept q t after s answered-moves answered-anew
 
 -- The delivery, by the state of the client. The request's words are those of the link.
 module _ (q i : ℕ) (t : Tables) (s : Sound t) (d : Deliverable q i t) (asked : kindOn t q i ≡ 1) where
@@ -166,8 +166,8 @@ module _ (q i : ℕ) (t : Tables) (s : Sound t) (d : Deliverable q i t) (asked :
   used : uses (stateOf t q) (maskOf t q) i ≡ true
   used = asks .used (λ e. omega arith)
 
-  reply-in : (number : ℕ) → replySound (stateOf t q) i number t ≡ true → Sound (answered q i number t .tables)
-  reply-in number good = answered-sound q i number t s (d .client) (target-below q i t s d) (d .early) asked good
+  reply-in : (number : ℕ) → replySound (stateOf t q) i number t ≡ true → Kept q t (answered q i number t .tables)
+  reply-in number good = answered-kept q i number t s (d .client) (target-below q i t s d) (d .early) asked good
 
   -- the key of a WRITE's request is the client's own
   own : (state : ℕ) → stateOf t q ≡ state → (requestSound state q (keyOn t q i) (numberOn t q i) t ≡ true → ownKey q (keyOn t q i) ≡ true) → keyInRange (clientsOf t) (keyWord (keyAtWord (keyOn t q i))) ≡ true
@@ -176,7 +176,7 @@ module _ (q i : ℕ) (t : Tables) (s : Sound t) (d : Deliverable q i t) (asked :
       let b = own-key (clientsOf t) q (keyOn t q i) o .0 .most in
       rw (key-back (keyOn t q i) (omega arith)) (own-in-range (clientsOf t) q (keyOn t q i) (d .client) o)
 
-  set-delivered : stateOf t q ≡ writing → Sound (onSet w q i t .tables)
+  set-delivered : stateOf t q ≡ writing → Kept q t (onSet w q i t .tables)
   unfolding onSet appended
   set-delivered e =
       let server = masked-below (maskOf t q) (serversOf t) i (c .mask) (rw (e, uses-writing) at used) in
@@ -184,13 +184,13 @@ module _ (q i : ℕ) (t : Tables) (s : Sound t) (d : Deliverable q i t) (asked :
       by-test (ltb (heldOf t i) serverPlaces)
       (λ b.
       let room = ltb-true _ _ b in
-      let s₁ = stored-sound q i (w .key) (w .number) t s (d .client) server room good in
-      let n = stored-grows q i (w .key) (w .number) t s (d .client) server room good .numbers in
+      let after = storedBy (stored (t .counts) (t .keys) (t .values) i (w .key) (w .number)) t in
+      let k = stored-kept q i (w .key) (w .number) t s (d .client) server room good in
       let step = stored-step q i (w .key) (w .number) t s (d .client) server room good in
-      rw b (answered-sound q i 0 (storedBy (stored (t .counts) (t .keys) (t .values) i (w .key) (w .number)) t) s₁ (rw (n .clients) (d .client)) (target-below q i t s d) (rw step (d .early)) asked (rw e (reply-writing _ i 0))))
-      (λ b. rw b s)
+      rw b (kept-then q t after (answered q i 0 after .tables) s k (answered-kept q i 0 after (k .sound) (rw (k .grows .numbers .clients) (d .client)) (target-below q i t s d) (rw step (d .early)) asked (rw e (reply-writing after i 0)))))
+      (λ b. rw b (kept-same q t s))
 
-  enter-delivered : stateOf t q ≡ entering → Sound (onEnter w q i t .tables)
+  enter-delivered : stateOf t q ≡ entering → Kept q t (onEnter w q i t .tables)
   unfolding onEnter entered
   enter-delivered e =
       let r = rw (e, request-entering) at (asks .request asked) in
@@ -199,35 +199,34 @@ module _ (q i : ℕ) (t : Tables) (s : Sound t) (d : Deliverable q i t) (asked :
       by-test (ltb (entriesOf t) logPlaces)
       (λ b.
       let room = ltb-true _ _ b in
-      let s₁ = entered-sound q (w .key) (w .number) t s (d .client) room good mask in
-      let n = entered-grows q (w .key) (w .number) t s (d .client) room good mask .numbers in
+      let k = entered-kept q (w .key) (w .number) t s (d .client) room good mask in
       let step = entered-step q (w .key) (w .number) t s (d .client) room good mask in
       let more = entry-more q (w .key) (w .number) t s (d .client) room good mask in
       let after = enteredBy (enterLeft true (set (t .counts) entriesField (entriesOf t + 1)) (putEntry (t .log) (entriesOf t) (w .key) (w .number))) q t in
       let tagged : replySound (stateOf after q) i (entriesOf t) after ≡ true =
           rw (e, reply-entering after i (entriesOf t)) (both (leb 1 (entriesOf t)) (ltb (entriesOf t) (entriesOf after)) (le-leb _ _ (s .scalars .entries .least)) (lt-ltb (entriesOf t) (entriesOf after) (rw more (omega arith)))) in
-      rw b (answered-sound q i (entriesOf t) after s₁ (rw (n .clients) (d .client)) (target-below q i t s d) (rw step (d .early)) asked tagged))
-      (λ b. rw b s)
+      rw b (kept-then q t after (answered q i (entriesOf t) after .tables) s k (answered-kept q i (entriesOf t) after (k .sound) (rw (k .grows .numbers .clients) (d .client)) (target-below q i t s d) (rw step (d .early)) asked tagged)))
+      (λ b. rw b (kept-same q t s))
 
-  keys-delivered : stateOf t q ≡ askingKeys → Sound (onWhichKeys q i t .tables)
+  keys-delivered : stateOf t q ≡ askingKeys → Kept q t (onWhichKeys q i t .tables)
   unfolding onWhichKeys
   keys-delivered e =
       let head : i ≡ coordinator = eqb-true i coordinator (rw (e, uses-keys) at used) in
       let all : holding t i ≡ entriesOf t = rw (eq-eqb i coordinator head) in
       reply-in (entriesOf t) (rw (e, reply-keys t i (entriesOf t)) (facts-between 1 (entriesOf t) (holding t i) (record { least = s .scalars .entries .least; most = omega arith })))
 
-  get-delivered : stateOf t q ≡ askingSetpoints → Sound (onGet w q i t .tables)
+  get-delivered : stateOf t q ≡ askingSetpoints → Kept q t (onGet w q i t .tables)
   unfolding onGet
   get-delivered e =
       by-test (ltb (firstBearing (t .keys) i (w .key) (heldOf t i)) (heldOf t i))
       (λ b. rw b (reply-in _ (rw e (reply-setpoints t i _))))
-      (λ b. rw b s)
+      (λ b. rw b (kept-same q t s))
 
-  all-delivered : stateOf t q ≡ askingAll → Sound (onGetAll q i t .tables)
+  all-delivered : stateOf t q ≡ askingAll → Kept q t (onGetAll q i t .tables)
   unfolding onGetAll
   all-delivered e = reply-in (holding t i) (rw (e, reply-all t i (holding t i)) (facts-between 1 (holding t i) (holding t i) (record { least = holding-some q i t s d; most = omega arith })))
 
-  in-state : Sound (onRequestIn (stateOf t q) w q i t .tables)
+  in-state : Kept q t (onRequestIn (stateOf t q) w q i t .tables)
   unfolding onRequestIn
   in-state =
       by-state (maskOf t q) i (stateOf t q) used
@@ -239,14 +238,17 @@ module _ (q i : ℕ) (t : Tables) (s : Sound t) (d : Deliverable q i t) (asked :
 
 -- The delivery of a request, accepted or refused by 8 or 9, leaves sound tables.
 module _ (q i : ℕ) (t : Tables) (s : Sound t) (e : deliveryRefusal q i t ≡ 0) where
-  by-content : (c : Content) → contentAt t q i ≡ c → Sound (onRequest c q i t .tables)
-  by-content Nothing h = s
+  by-content : (c : Content) → contentAt t q i ≡ c → Kept q t (onRequest c q i t .tables)
+  by-content Nothing h = kept-same q t s
   by-content (Request w) h =
       let d = deliverable q i t e in
       let kind = s .client q (d .client) .link i (target-below q i t s d) .kind in
-      subst (λ (w : Contents). Sound (onRequestIn (stateOf t q) w q i t .tables)) (request-words (t .links) q i w kind h) (in-state q i t s d (request-kind (t .links) q i w kind h))
-  by-content (Reply w) h = s
+      subst (λ (w : Contents). Kept q t (onRequestIn (stateOf t q) w q i t .tables)) (request-words (t .links) q i w kind h) (in-state q i t s d (request-kind (t .links) q i w kind h))
+  by-content (Reply w) h = kept-same q t s
+
+  pub requestDelivered-kept : Kept q t (requestDelivered q i t .tables)
+  unfolding requestDelivered
+  requestDelivered-kept = by-content (contentAt t q i) refl
 
   pub requestDelivered-sound : Sound (requestDelivered q i t .tables)
-  unfolding requestDelivered
-  requestDelivered-sound = by-content (contentAt t q i) refl
+  requestDelivered-sound = requestDelivered-kept .sound
