@@ -5,7 +5,10 @@ pub mod States
 pub mod Frame
 pub mod Moves
 pub mod Records
+pub mod Rows
+pub mod Rounds
 pub mod Opening
 pub mod Appends
 pub mod Requests
+pub mod Begins
 pub mod Steps

@@ -167,3 +167,8 @@ module _ (links : List ℕ) (q i : ℕ) (c : Content) where
   pub put-other : (p j f : ℕ) → i < targets → j < targets → ((p ≡ q) × (j ≡ i) → ⊥) → f < linkWidth → linkWord (putLink links q i c) p j f ≡ linkWord links p j f
   unfolding putLink
   put-other p j f h g d l = row-other linkWidth links (linkRow q i) (contentWords c) (linkRow p j) f (rw (words-three c) (omega arith)) l (λ e. d (place-one targets p j q i g h e))
+
+  -- of the same client: every other target
+  pub put-beside : (j f : ℕ) → (j ≡ i → ⊥) → f < linkWidth → linkWord (putLink links q i c) q j f ≡ linkWord links q j f
+  unfolding putLink
+  put-beside j f d l = row-other linkWidth links (linkRow q i) (contentWords c) (linkRow q j) f (rw (words-three c) (omega arith)) l (λ e. d (omega arith))

@@ -9,7 +9,7 @@ use lib.Dec.{eqb, ltb}
 use borrow.Author.Tests.{eq-eqb, ne-eqb, eqb-true, ltb-true, lt-ltb}
 use Rattle.ranges.specs.Tests.{by-test, by-equal, both, both-left, both-right, not-both}
 use Rattle.ranges.specs.Sum.{sumBelow, countBelow, one, sum-same, sum-set, sum-more, one-true, one-false}
-use Rattle.tables.specs.Rows.{HasRow, row-same, row-other, word-same, word-other}
+use Rattle.tables.specs.Rows.{HasRow, row-same, row-other, row-length, word-same, word-other}
 use Rattle.tables.specs.Layout.{recordWidth, recordWord, putRecordWord, putBegun, clientOfRecord, numberOfRecord, tagOfRecord, beginOfRecord, endOfRecord}
 use Rattle.rules.specs.Common.{endedRecord, taggedRecord}
 use Rattle.soundness.specs.Sound.{isOpen, openSound}
@@ -151,6 +151,9 @@ module _ (records : List ℕ) (begun q number step : ℕ) where
 
   pub begun-here : (f : ℕ) → f < recordWidth → HasRow recordWidth records begun → recordWord (putBegun records begun q number step) begun f ≡ getD row f 0
   begun-here f h r = row-same recordWidth records begun row f r (omega arith) h
+
+  pub begun-places : length (putBegun records begun q number step) ≡ length records
+  begun-places = row-length recordWidth records begun row
 
   pub begun-open : (p n : ℕ) → n < begun → isOpen (putBegun records begun q number step) p n ≡ isOpen records p n
   begun-open p n h = open-words records (putBegun records begun q number step) p n (begun-word n clientOfRecord (omega arith) (λ e. omega arith)) (begun-word n endOfRecord (omega arith) (λ e. omega arith))
