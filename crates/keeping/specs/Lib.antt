@@ -11,4 +11,5 @@ pub mod Opening
 pub mod Appends
 pub mod Requests
 pub mod Begins
+pub mod BeginWrite
 pub mod Steps
