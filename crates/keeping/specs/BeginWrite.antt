@@ -178,9 +178,9 @@ module _ (q mask : ℕ) (setpoints : List ℕ) (t : Tables) (s : Sound t) (b : B
         some = let x = some-server mask (serversOf t) (b .masked) in (x .0, omega (arith, x .1, servers-few), has (x .0) ∙ x .2);
         asked = λ i h u. let e = sym (has i) ∙ u in sent i 0 (omega arith) (below i e) e;
         good = λ i h u.
-          let e = sym (has i) ∙ u in
-          rw (state, sent i 1 (omega arith) (below i e) e, request-writing)
-          (key-own (clientsOf t) q (nextCount t q * 256 + q) (record { least = omega arith; most = omega (arith, small, b .client, s .scalars .press .clients .most) }) (omega (arith, b .client, s .scalars .press .clients .most)));
+            let e = sym (has i) ∙ u in
+            rw (state, sent i 1 (omega arith) (below i e) e, request-writing)
+            (key-own (clientsOf t) q (nextCount t q * 256 + q) (record { least = omega arith; most = omega (arith, small, b .client, s .scalars .press .clients .most) }) (omega (arith, b .client, s .scalars .press .clients .most)));
         rest = λ i h u. unsent i 0 (omega arith) (sym (has i) ∙ u) ∙ idle-empty t q i c (b .free) h;
         received = none-received;
       }

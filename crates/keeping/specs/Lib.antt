@@ -12,4 +12,6 @@ pub mod Appends
 pub mod Requests
 pub mod Begins
 pub mod BeginWrite
+pub mod Gets
+pub mod BeginRead
 pub mod Steps

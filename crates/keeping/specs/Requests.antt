@@ -204,7 +204,7 @@ module _ (q i : ℕ) (t : Tables) (s : Sound t) (d : Deliverable q i t) (asked :
       let more = entry-more q (w .key) (w .number) t s (d .client) room good mask in
       let after = enteredBy (enterLeft true (set (t .counts) entriesField (entriesOf t + 1)) (putEntry (t .log) (entriesOf t) (w .key) (w .number))) q t in
       let tagged : replySound (stateOf after q) i (entriesOf t) after ≡ true =
-          rw (e, reply-entering after i (entriesOf t)) (both (leb 1 (entriesOf t)) (ltb (entriesOf t) (entriesOf after)) (le-leb _ _ (s .scalars .entries .least)) (lt-ltb (entriesOf t) (entriesOf after) (rw more (omega arith)))) in
+      rw (e, reply-entering after i (entriesOf t)) (both (leb 1 (entriesOf t)) (ltb (entriesOf t) (entriesOf after)) (le-leb _ _ (s .scalars .entries .least)) (lt-ltb (entriesOf t) (entriesOf after) (rw more (omega arith)))) in
       rw b (kept-then q t after (answered q i (entriesOf t) after .tables) s k (answered-kept q i (entriesOf t) after (k .sound) (rw (k .grows .numbers .clients) (d .client)) (target-below q i t s d) (rw step (d .early)) asked tagged)))
       (λ b. rw b (kept-same q t s))
 

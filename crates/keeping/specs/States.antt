@@ -49,7 +49,7 @@ module _ (mask i : ℕ) where
       (λ nb. by-equal state askingKeys c
       (λ nc. by-equal state askingSetpoints d
       (λ nd. by-equal state askingAll e
-      (λ ne. absurd (true≢false (sym (rw (ne-eqb state 1 na, ne-eqb state 4 nd, ne-eqb state 2 nb, ne-eqb state 3 nc, ne-eqb state 5 ne) at u)))))))) 
+      (λ ne. absurd (true≢false (sym (rw (ne-eqb state 1 na, ne-eqb state 4 nd, ne-eqb state 2 nb, ne-eqb state 3 nc, ne-eqb state 5 ne) at u))))))))
 
 -- a server of the mask is below k
 pub masked-below : (mask k i : ℕ) → mask < 2 ^ k → hasServer mask i ≡ true → i < k

@@ -1,0 +1,319 @@
+-- An accepted begin of a READ keeps sound tables sound, by each method: the client sends a round, and its record stands in the next place.
+use Prim.Native.Nat.{ℕ, _+_, _*_, _-_, _≤_, _<_}
+use mathlib.Core.Path.{_≡_, refl, sym, _∙_}
+use mathlib.Core.Bool.{Bool, true, false, cond, not, _&&_, _||_, or-true, or-false}
+use mathlib.Core.List.{List, [], _∷_}
+use native.Mathlib.Omega.{arith}
+use lib.ListN.{getD, length}
+use lib.Dec.{eqb, leb}
+use borrow.Author.Tests.{eq-eqb, ne-eqb, eqb-true, eqb-false, leb-false}
+use Rattle.ranges.specs.Tests.{by-test, by-equal}
+use Rattle.ranges.specs.Sum.{sumBelow, sum-same}
+use Rattle.keys.specs.Keys.{opening}
+use Rattle.keys.specs.Masks.{hasServer, maskWithin, within-true, some-server}
+use Rattle.coordinator.specs.Latest.{latestKey}
+use Rattle.tables.specs.Rows.{HasRow}
+use Rattle.tables.specs.Layout.{writesField, readsField, clientWidth, clientWord, recordPlaces, recordWidth}
+use Rattle.tables.specs.Links.{targets, linkWidth, linkRow, putLink, link-length}
+use Rattle.tables.specs.Tables.{Tables, tablesOf, methodOf, serversOf, clientsOf, stepOf, entriesOf, writesOf, readsOf, stateOf, countOf, maskOf, tagOf, recordOf, receivedOf}
+use Rattle.rules.specs.Common.{idle, askingKeys, askingSetpoints, askingAll, coordinator, request, begunCounts, begunRecords}
+use Rattle.rules.specs.Begin.{lastTag, sentGets, sendAsk, sentAsks, askingBy, asking, begunReadWith, begunRead}
+use Rattle.soundness.specs.Sound.{isWriting, isReading, uses, sound}
+use Rattle.soundness.specs.Facts.{ClientFacts, ReadFacts, RecordsFacts, Sound}
+use Rattle.store.specs.Refusals.{readRefusal, atLastStep}
+use Rattle.keeping.specs.Refused.{has, lacks, neither}
+use Rattle.keeping.specs.Links.{linkWord, put-same, put-other, put-beside}
+use Rattle.keeping.specs.States.{masked-below, not-all, received-none, allowed-by-A, allowed-by-B, allowed-by-C, uses-keys, uses-all, request-keys, request-all}
+use Rattle.keeping.specs.Frame.{Kept, write-kept, read-kept}
+use Rattle.keeping.specs.Moves.{Moves, moves-numbers, same-entries, moved-kept}
+use Rattle.keeping.specs.Records.{begun-word, begun-here, begun-places, begun-others, begun-own, open-idle}
+use Rattle.keeping.specs.Rows.{put, Put, putAll, lastPut, inRow, under, put-read, put-before, put-elsewhere, put-length}
+use Rattle.keeping.specs.Rounds.{Sent, sent-client, idle-empty, sent-there, sent-not, sent-others, sent-length}
+use Rattle.keeping.specs.Gets.{gets-sent}
+use Rattle.keeping.specs.Begins.{begun-other, begun-more, begun-step, begun-length, Beginnable}
+
+-- A begin of a READ, whatever links it leaves. It puts words into the row, below the setpoints, and no count.
+module _ (q mask : ℕ) (puts : List Put) (links′ : List ℕ) (t : Tables) (s : Sound t) (b : Beginnable q mask t) (few : readsOf t < recordPlaces) (low : under 5 puts ≡ true) (inside : inRow puts ≡ true) where
+  abbrev after : Tables
+  after = begunReadWith q mask (asking (putAll puts q (t .clients)) links′) t
+
+  more-reads : readsOf after ≡ readsOf t + 1
+  more-reads = begun-more readsField (t .counts) (s .long .counts) (omega arith) (λ e. omega arith)
+
+  same-writes : writesOf after ≡ writesOf t
+  same-writes = begun-other readsField (t .counts) (s .long .counts) (omega arith) (λ e. omega arith) writesField (λ e. omega arith) (λ e. omega arith)
+
+  record-room : HasRow recordWidth (t .reads) (readsOf t)
+  record-room = omega (arith, s .long .reads)
+
+  row-room : HasRow clientWidth (t .clients) q
+  row-room = omega (arith, s .long .clients, b .client)
+
+  word : (g : ℕ) → g < clientWidth → clientWord (after .clients) q g ≡ lastPut puts (clientWord (t .clients) q g) g
+  word g h = put-read q puts (t .clients) g (clientWord (t .clients) q g) row-room inside h refl
+
+  none-received : (i : ℕ) → i < targets → receivedOf after q i ≡ 0
+  none-received i h = put-before q puts (t .clients) 5 (21 + i) low (omega arith) ∙ received-none t q i (not-all t q i (λ e. omega (arith, b .free))) (s .client q (b .client) .received i h)
+
+  -- the links of the others stay
+  begun-moves : ((p i f : ℕ) → (p ≡ q → ⊥) → i < targets → f < linkWidth → linkWord links′ p i f ≡ linkWord (t .links) p i f) → length links′ ≡ length (t .links) → Moves q t after
+  begun-moves others long =
+      record {
+        count = λ f d e g. begun-other readsField (t .counts) (s .long .counts) (omega arith) (λ z. omega arith) f d g;
+        keys = refl;
+        values = refl;
+        log = refl;
+        row = λ p f d h. put-elsewhere q puts (t .clients) p f inside h d;
+        link = others;
+        lengths = record {
+          counts = begun-length readsField (t .counts) (s .long .counts) (omega arith) (λ z. omega arith);
+          clients = put-length q puts (t .clients);
+          links = long;
+          keys = refl;
+          values = refl;
+          log = refl;
+          writes = refl;
+          reads = begun-places (t .reads) (readsOf t) q mask (stepOf t + 1);
+        };
+      }
+
+  module _ (m : Moves q t after) (reading : isReading (stateOf after q) ≡ true) (writes : isWriting (stateOf after q) ≡ false) (count : countOf after q ≡ countOf t q) (place : recordOf after q ≡ readsOf t) (c : ClientFacts after q) where
+    begun-sum : sumBelow (countOf after) (clientsOf t) ≡ writesOf after
+    begun-sum = rw same-writes (sum-same (countOf after) (countOf t) (clientsOf t) (λ p h. by-equal p q (λ e. rw e count) (λ d. m .row p 1 d (omega arith))) ∙ s .counts)
+
+    begun-record : (n : ℕ) → n < readsOf t + 1 → ReadFacts after n
+    begun-record n h =
+        let num = moves-numbers q t after m in
+        let new = begun-here (t .reads) (readsOf t) q mask (stepOf t + 1) in
+        let kept = begun-word (t .reads) (readsOf t) q mask (stepOf t + 1) n in
+        by-equal n (readsOf t)
+        (λ e. rw e (record {
+          client = rw (new 0 (omega arith) record-room, num .clients) (b .client);
+          mask = rw (new 1 (omega arith) record-room, num .servers) (b .masked);
+          tag = rw (new 2 (omega arith) record-room, same-entries q t after m) (s .scalars .entries .least);
+        }))
+        (λ d. let l : n < readsOf t = omega arith in
+        read-kept t after num n (kept 0 (omega arith) d) (kept 1 (omega arith) d) (rw (kept 2 (omega arith) d, same-entries q t after m) (s .read n l .tag)) (s .read n l))
+
+    begun-own-records : RecordsFacts after q
+    begun-own-records =
+        let r = s .records q (b .client) in
+        record {
+          write = rw (writes, same-writes) (open-idle (t .writes) (writesOf t) q (recordOf t q) (recordOf after q) (rw (b .free) at (r .write)));
+          read = rw (reading, place, more-reads) (begun-own (t .reads) (readsOf t) q mask (stepOf t + 1) record-room (recordOf t q) (rw (b .free) at (r .read)));
+        }
+
+    begun-other-records : (p : ℕ) → p < clientsOf t → (p ≡ q → ⊥) → RecordsFacts after p
+    begun-other-records p h d =
+        let r = s .records p h in
+        let st : stateOf after p ≡ stateOf t p = m .row p 0 d (omega arith) in
+        let pl : recordOf after p ≡ recordOf t p = m .row p 4 d (omega arith) in
+        record {
+          write = rw (st, pl, same-writes) (r .write);
+          read = rw (st, pl, more-reads) (begun-others (t .reads) (readsOf t) q mask (stepOf t + 1) record-room p (recordOf t p) d (isReading (stateOf t p)) (r .read));
+        }
+
+    begun-kept : Kept q t after
+    begun-kept =
+        let num = moves-numbers q t after m in
+        moved-kept q t after s m (record {
+          step = rw (begun-step readsField (t .counts) (s .long .counts) (omega arith) (λ e. omega arith)) (record { least = omega arith; most = omega (arith, b .early) });
+          writes = rw same-writes (s .scalars .writes);
+          reads = rw more-reads (omega arith);
+          client = c;
+          counts = begun-sum;
+          write = λ n h. write-kept t after num n refl refl (rw (same-entries q t after m) (s .write n (rw same-writes at h) .tag)) (s .write n (rw same-writes at h));
+          read = λ n h. begun-record n (rw more-reads at h);
+          records = λ p h. by-equal p q (λ e. rw e begun-own-records) (λ d. begun-other-records p h d);
+        })
+
+-- the words put into the row, by the state that the method begins with
+abbrev begunPuts : ℕ → ℕ → ℕ → List Put
+begunPuts state mask place = put 0 state ∷ put 2 mask ∷ put 4 place ∷ []
+
+module _ (q mask : ℕ) (t : Tables) (s : Sound t) (b : Beginnable q mask t) (few : readsOf t < recordPlaces) where
+  abbrev k : ℕ
+  k = serversOf t
+
+  servers-few : k ≤ 16
+  servers-few = s .scalars .press .servers .most
+
+  link-room : linkWidth * (targets * q + targets) ≤ length (t .links)
+  link-room = omega (arith, s .long .links, b .client)
+
+  c : ClientFacts t q
+  c = s .client q (b .client)
+
+  empty : (i : ℕ) → i < targets → linkWord (t .links) q i 0 ≡ 0
+  empty i h = idle-empty t q i c (b .free) h
+
+  counted : countOf t q ≤ 255
+  counted = c .count .most
+
+  -- "A: take the last tag and its keys from panel 0's log, then ask each masked station for its key."
+  module _ (part : methodOf t ≡ 1) (reader : (eqb (methodOf t) 1 && not (eqb q 0)) ≡ false) where
+    abbrev putsA : List Put
+    putsA = put 0 askingSetpoints ∷ put 2 mask ∷ put 4 (readsOf t) ∷ put 3 (lastTag t) ∷ []
+
+    abbrev linksA : List ℕ
+    linksA = sentGets q mask (t .log) (lastTag t) k (t .links)
+
+    abbrev afterA : Tables
+    afterA = begunReadWith q mask (asking (putAll putsA q (t .clients)) linksA) t
+
+    wordA : (g : ℕ) → g < clientWidth → clientWord (afterA .clients) q g ≡ lastPut putsA (clientWord (t .clients) q g) g
+    wordA = word q mask putsA linksA t s b few refl refl
+
+    movesA : Moves q t afterA
+    movesA =
+        begun-moves q mask putsA linksA t s b few refl refl
+        (λ p i f d h g. sent-others q k (hasServer mask) (λ j. request (latestKey (t .log) j (lastTag t)) 0) (t .links) (omega (arith, servers-few)) link-room f g p i d h)
+        (sent-length q k (hasServer mask) (λ j. request (latestKey (t .log) j (lastTag t)) 0) (t .links) (omega (arith, servers-few)) link-room)
+
+    last-within : lastTag t < entriesOf t
+    last-within = omega (arith, s .scalars .entries .least)
+
+    sentA : Sent afterA q
+    sentA =
+        gets-sent q mask (lastTag t) (t .links) t afterA s (moves-numbers q t afterA movesA) (b .client) last-within (b .masked) empty link-room refl (wordA 0 (omega arith)) (wordA 2 (omega arith))
+        (allowed-by-A (methodOf t) q part reader)
+        (rw (wordA 1 (omega arith)) counted)
+        (rw (wordA 3 (omega arith), same-entries q t afterA movesA) last-within)
+        (none-received q mask putsA linksA t s b few refl refl)
+
+    keptA : Kept q t afterA
+    keptA =
+        begun-kept q mask putsA linksA t s b few refl refl movesA (rw (wordA 0 (omega arith))) (rw (wordA 0 (omega arith))) (wordA 1 (omega arith)) (wordA 4 (omega arith)) (sent-client afterA q sentA)
+
+  -- "B: ask the head"
+  module _ (part : methodOf t ≡ 2) where
+    abbrev putsB : List Put
+    putsB = begunPuts askingKeys mask (readsOf t)
+
+    abbrev linksB : List ℕ
+    linksB = sendAsk q coordinator (t .links)
+
+    abbrev afterB : Tables
+    afterB = begunReadWith q mask (asking (putAll putsB q (t .clients)) linksB) t
+
+    wordB : (g : ℕ) → g < clientWidth → clientWord (afterB .clients) q g ≡ lastPut putsB (clientWord (t .clients) q g) g
+    wordB = word q mask putsB linksB t s b few refl refl
+
+    movesB : Moves q t afterB
+    movesB =
+        begun-moves q mask putsB linksB t s b few refl refl
+        (λ p i f d h g. put-other (t .links) q coordinator (request opening 0) p i f (omega arith) h (λ e. d (e .0)) g)
+        (link-length (t .links) q coordinator (request opening 0))
+
+    sentB : Sent afterB q
+    sentB =
+        let n = moves-numbers q t afterB movesB in
+        let state = wordB 0 (omega arith) in
+        let masked = wordB 2 (omega arith) in
+        let head : (i : ℕ) → uses (stateOf afterB q) (maskOf afterB q) i ≡ eqb i coordinator = λ i. rw (state, masked) (uses-keys mask i) in
+        record {
+          allowed = rw (n .method, state) (allowed-by-B (methodOf t) q part);
+          count = rw (state, wordB 1 (omega arith)) (record { least = omega arith; most = counted });
+          mask = rw (masked, n .servers) (b .masked);
+          tag = rw (wordB 3 (omega arith), same-entries q t afterB movesB) (c .tag);
+          some = (coordinator, omega arith, head coordinator);
+          asked = λ i h u. let e = eqb-true i coordinator (sym (head i) ∙ u) in rw e (put-same (t .links) q coordinator (request opening 0) 0 (omega (arith, link-room)) (omega arith));
+          good = λ i h u. rw state (request-keys afterB q _ _);
+          rest = λ i h u. put-beside (t .links) q coordinator (request opening 0) i 0 (eqb-false i coordinator (sym (head i) ∙ u)) (omega arith) ∙ empty i h;
+          received = none-received q mask putsB linksB t s b few refl refl;
+        }
+
+    keptB : Kept q t afterB
+    keptB =
+        begun-kept q mask putsB linksB t s b few refl refl movesB (rw (wordB 0 (omega arith))) (rw (wordB 0 (omega arith))) (wordB 1 (omega arith)) (wordB 4 (omega arith)) (sent-client afterB q sentB)
+
+  -- "C: ask all masked stations and the head together"
+  module _ (other : methodOf t ≡ 1 → ⊥) (another : methodOf t ≡ 2 → ⊥) where
+    abbrev putsC : List Put
+    putsC = begunPuts askingAll mask (readsOf t)
+
+    abbrev asks : List ℕ
+    asks = sentAsks q mask k (t .links)
+
+    abbrev linksC : List ℕ
+    linksC = sendAsk q coordinator asks
+
+    abbrev afterC : Tables
+    afterC = begunReadWith q mask (asking (putAll putsC q (t .clients)) linksC) t
+
+    wordC : (g : ℕ) → g < clientWidth → clientWord (afterC .clients) q g ≡ lastPut putsC (clientWord (t .clients) q g) g
+    wordC = word q mask putsC linksC t s b few refl refl
+
+    asks-length : length asks ≡ length (t .links)
+    asks-length = sent-length q k (hasServer mask) (λ j. request opening 0) (t .links) (omega (arith, servers-few)) link-room
+
+    movesC : Moves q t afterC
+    movesC =
+        begun-moves q mask putsC linksC t s b few refl refl
+        (λ p i f d h g. put-other asks q coordinator (request opening 0) p i f (omega arith) h (λ e. d (e .0)) g ∙ sent-others q k (hasServer mask) (λ j. request opening 0) (t .links) (omega (arith, servers-few)) link-room f g p i d h)
+        (link-length asks q coordinator (request opening 0) ∙ asks-length)
+
+    -- a link used holds a request: the coordinator's, or a masked server's
+    askedC : (i : ℕ) → (hasServer mask i || eqb i coordinator) ≡ true → linkWord linksC q i 0 ≡ 1
+    askedC i u =
+        by-equal i coordinator
+        (λ e. rw e (put-same asks q coordinator (request opening 0) 0 (rw asks-length (omega (arith, link-room))) (omega arith)))
+        (λ d. let has-i : hasServer mask i ≡ true = rw (ne-eqb i coordinator d, or-false (hasServer mask i)) at u in
+        put-beside asks q coordinator (request opening 0) i 0 d (omega arith)
+        ∙ sent-there q k (hasServer mask) (λ j. request opening 0) (t .links) (omega (arith, servers-few)) link-room 0 (omega arith) i (masked-below mask k i (b .masked .below) has-i) has-i)
+
+    restC : (i : ℕ) → i < targets → (hasServer mask i || eqb i coordinator) ≡ false → linkWord linksC q i 0 ≡ 0
+    restC i h u =
+        let x = neither (hasServer mask i) (eqb i coordinator) u in
+        put-beside asks q coordinator (request opening 0) i 0 (eqb-false i coordinator (x .1)) (omega arith)
+        ∙ (sent-not q k (hasServer mask) (λ j. request opening 0) (t .links) (omega (arith, servers-few)) link-room 0 (omega arith) i (x .0) ∙ empty i h)
+
+    sentC : Sent afterC q
+    sentC =
+        let n = moves-numbers q t afterC movesC in
+        let state = wordC 0 (omega arith) in
+        let masked = wordC 2 (omega arith) in
+        let used : (i : ℕ) → uses (stateOf afterC q) (maskOf afterC q) i ≡ (hasServer mask i || eqb i coordinator) = λ i. rw (state, masked) (uses-all mask i) in
+        record {
+          allowed = rw (n .method, state) (allowed-by-C (methodOf t) q other another);
+          count = rw (state, wordC 1 (omega arith)) (record { least = omega arith; most = counted });
+          mask = rw (masked, n .servers) (b .masked);
+          tag = rw (wordC 3 (omega arith), same-entries q t afterC movesC) (c .tag);
+          some = (coordinator, omega arith, used coordinator ∙ or-true (hasServer mask coordinator));
+          asked = λ i h u. askedC i (sym (used i) ∙ u);
+          good = λ i h u. rw state (request-all afterC q _ _);
+          rest = λ i h u. restC i h (sym (used i) ∙ u);
+          received = none-received q mask putsC linksC t s b few refl refl;
+        }
+
+    keptC : Kept q t afterC
+    keptC =
+        begun-kept q mask putsC linksC t s b few refl refl movesC (rw (wordC 0 (omega arith))) (rw (wordC 0 (omega arith))) (wordC 1 (omega arith)) (wordC 4 (omega arith)) (sent-client afterC q sentC)
+
+  begun-read : (eqb (methodOf t) 1 && not (eqb q 0)) ≡ false → Kept q t (begunRead q mask t)
+  unfolding begunRead
+  begun-read reader =
+      by-equal (methodOf t) 1
+      (λ e. rw (eq-eqb (methodOf t) 1 e) (keptA e reader))
+      (λ d. by-equal (methodOf t) 2
+      (λ e. rw (ne-eqb (methodOf t) 1 d, eq-eqb (methodOf t) 2 e) (keptB e))
+      (λ f. rw (ne-eqb (methodOf t) 1 d, ne-eqb (methodOf t) 2 f) (keptC d f)))
+
+module _ (q mask : ℕ) (t : Tables) (s : Sound t) (e : readRefusal q mask t ≡ 0) where
+  abbrev full : Bool
+  full = leb recordPlaces (readsOf t) || atLastStep t
+
+  pub begunRead-kept : Kept q t (begunRead q mask t)
+  unfolding readRefusal
+  begunRead-kept =
+      let r₂ = has (sound t) 1 (cond (leb (clientsOf t) q) 3 (cond (eqb (methodOf t) 1 && not (eqb q 0)) 4 (cond (not (eqb (stateOf t q) idle)) 5 (cond (not (maskWithin mask (serversOf t))) 6 (cond full 7 0))))) e in
+      let r₃ = lacks (leb (clientsOf t) q) 2 (cond (eqb (methodOf t) 1 && not (eqb q 0)) 4 (cond (not (eqb (stateOf t q) idle)) 5 (cond (not (maskWithin mask (serversOf t))) 6 (cond full 7 0)))) (r₂ .1) in
+      let r₄ = lacks (eqb (methodOf t) 1 && not (eqb q 0)) 3 (cond (not (eqb (stateOf t q) idle)) 5 (cond (not (maskWithin mask (serversOf t))) 6 (cond full 7 0))) (r₃ .1) in
+      let r₅ = has (eqb (stateOf t q) idle) 4 (cond (not (maskWithin mask (serversOf t))) 6 (cond full 7 0)) (r₄ .1) in
+      let r₆ = has (maskWithin mask (serversOf t)) 5 (cond full 7 0) (r₅ .1) in
+      let r₇ = neither (leb recordPlaces (readsOf t)) (atLastStep t) (lacks full 6 0 (r₆ .1) .0) in
+      let b : Beginnable q mask t = record { client = leb-false _ _ (r₃ .0); free = eqb-true _ _ (r₅ .0); masked = within-true _ _ (r₆ .0); early = leb-false _ _ (r₇ .1) } in
+      begun-read q mask t s b (leb-false _ _ (r₇ .0)) (r₄ .0)
+
+  pub begunRead-sound : Sound (begunRead q mask t)
+  begunRead-sound = begunRead-kept .sound
