@@ -14,4 +14,5 @@ pub mod Begins
 pub mod BeginWrite
 pub mod Gets
 pub mod BeginRead
+pub mod Replied
 pub mod Steps

@@ -10,7 +10,7 @@ use lib.Dec.{eqb, ltb}
 use borrow.Author.Tests.{eq-eqb, ne-eqb, ltb-true}
 use Rattle.ranges.specs.Tests.{by-equal, both-left, both-right, either}
 use Rattle.ranges.specs.Turns.{turns}
-use Rattle.ranges.specs.Picked.{picked}
+use Rattle.ranges.specs.Picked.{picked, is-picked}
 use Rattle.tables.specs.Rows.{HasRow, word-same, word-other, word-length}
 use Rattle.tables.specs.Layout.{clientWidth, clientWord, putClientWord}
 
@@ -93,3 +93,12 @@ module _ (q from n : ℕ) (within : from + n ≤ clientWidth) (p : ℕ → Bool)
       turns-keep-below turn (λ xs. length xs ≡ length clients) n
       (λ i xs l e. either (λ ys. length ys ≡ length clients) (p i) (length-set xs (clientWidth * q + (from + i)) (value i) ∙ e) e)
       clients refl
+
+  -- and what the loop reaches holds its new value
+  pub loop-there : (clients : List ℕ) (i : ℕ) → HasRow clientWidth clients q → i < n → p i ≡ true → clientWord (turns turn n clients) q (from + i) ≡ value i
+  loop-there clients i h l e =
+      is-picked (λ xs j. clientWord xs q (from + j)) (λ j xs. putClientWord xs q (from + j) (value j)) value (λ xs. HasRow clientWidth xs q) n
+      (λ j xs r. rw (length-set xs (clientWidth * q + (from + j)) (value j)) r)
+      (λ j xs m r. word-same clientWidth xs q (from + j) (value j) r (omega arith))
+      (λ j k xs m d. getD-set-other xs (clientWidth * q + (from + j)) (clientWidth * q + (from + k)) (value j) 0 (λ z. d (omega arith)))
+      p clients h n i (omega arith) l e
