@@ -15,4 +15,5 @@ pub mod BeginWrite
 pub mod Gets
 pub mod BeginRead
 pub mod Replied
+pub mod Replies
 pub mod Steps

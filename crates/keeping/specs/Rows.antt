@@ -46,6 +46,11 @@ under b (x ∷ puts) = ltb (x .field) b && under b puts
 abbrev pub inRow : List Put → Bool
 inRow puts = under clientWidth puts
 
+-- none of the fields put is g
+abbrev pub Avoids : List Put → ℕ → Type 0
+Avoids [] g = Unit {0}
+Avoids (x ∷ puts) g = (g ≡ x .field → ⊥) × Avoids puts g
+
 module _ (q : ℕ) where
   -- the client's row: at each field the last word put there
   pub put-read : (puts : List Put) (clients : List ℕ) (g d : ℕ) → HasRow clientWidth clients q → inRow puts ≡ true → g < clientWidth → clientWord clients q g ≡ d → clientWord (putAll puts q clients) q g ≡ lastPut puts d g
@@ -64,6 +69,13 @@ module _ (q : ℕ) where
       let f = ltb-true (x .field) b (both-left (ltb (x .field) b) (under b puts) l) in
       put-before puts (putClientWord clients q (x .field) (x .value)) b g (both-right (ltb (x .field) b) (under b puts) l) k
       ∙ getD-set-other clients (clientWidth * q + x .field) (clientWidth * q + g) (x .value) 0 (λ e. omega arith)
+
+  -- a field that is not put stays
+  pub put-skip : (puts : List Put) (clients : List ℕ) (g : ℕ) → Avoids puts g → clientWord (putAll puts q clients) q g ≡ clientWord clients q g
+  put-skip [] clients g a = refl
+  put-skip (x ∷ puts) clients g a =
+      put-skip puts (putClientWord clients q (x .field) (x .value)) g (a .1)
+      ∙ getD-set-other clients (clientWidth * q + x .field) (clientWidth * q + g) (x .value) 0 (λ e. a .0 (omega arith))
 
   -- the other rows stay
   pub put-elsewhere : (puts : List Put) (clients : List ℕ) (p g : ℕ) → inRow puts ≡ true → g < clientWidth → (p ≡ q → ⊥) → clientWord (putAll puts q clients) p g ≡ clientWord clients p g

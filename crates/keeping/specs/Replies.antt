@@ -1,0 +1,190 @@
+-- The delivery of a reply keeps sound tables sound, by the state of the client: it waits, sends its second round, or ends.
+use Prim.Native.Nat.{ℕ, _+_, _*_, _-_, _%_, _≤_, _<_}
+use mathlib.Core.Path.{_≡_, refl, sym, _∙_, ap, subst}
+use mathlib.Core.Bool.{Bool, true, false, cond, not, _&&_, _||_, or-true, or-false}
+use mathlib.Core.List.{List, [], _∷_}
+use native.Mathlib.Omega.{arith}
+use lib.ListN.{getD, length, length-set}
+use lib.Dec.{eqb, leb, ltb}
+use borrow.Author.Tests.{eq-eqb, ne-eqb, eqb-true, eqb-false, ltb-true, lt-ltb}
+use Rattle.ranges.specs.Tests.{by-test, by-equal, both, both-left, both-right, not-both}
+use Rattle.ranges.specs.Turns.{turns}
+use Rattle.ranges.specs.Last.{lastBelow, last-below}
+use Rattle.keys.specs.Keys.{keyOf, keyWord}
+use Rattle.keys.specs.Masks.{hasServer, maskWithin, Within, within-test}
+use Rattle.coordinator.specs.Latest.{latestKey}
+use Rattle.tables.specs.Rows.{HasRow, word-same, word-other}
+use Rattle.tables.specs.Layout.{clientWidth, clientWord, putClientWord, setpointsField, receivedField}
+use Rattle.tables.specs.Links.{targets, linkWidth, linkRow, putLink, link-length, isEmpty, contentsOf}
+use Rattle.tables.specs.Tables.{Tables, methodOf, serversOf, clientsOf, stepOf, entriesOf, writesOf, readsOf, stateOf, countOf, maskOf, tagOf, recordOf, receivedOf, contentAt}
+use Rattle.tables.specs.declared.links.Contents.{Contents}
+use Rattle.tables.specs.declared.links.Content.{Content}
+use Rattle.tables.specs.declared.links.Content.the-variants.{Nothing, Request, Reply}
+use Rattle.rules.specs.Common.{idle, writing, entering, askingKeys, askingSetpoints, askingAll, coordinator, request, nextStep, pending}
+use Rattle.rules.specs.Begin.{sentGets}
+use Rattle.rules.specs.Choice.{qualifies}
+use Rattle.rules.specs.Reply.{emptied, gotSetpoint, gotNumber, receivedIn, setpointAt, tagChosen, concluded, onSetDone, onEntered, onKeys, onGot, onAll, onReplyIn, onReply, replyDelivered}
+use Rattle.soundness.specs.Sound.{uses, requestSound, replySound, receivedSound, holding, keyOn, ownKey, isWriting, isReading}
+use Rattle.soundness.specs.Facts.{Between, between-facts, ClientFacts, LinkFacts, Sound}
+use Rattle.store.specs.Refusals.{deliveryRefusal}
+use Rattle.keeping.specs.Links.{linkWord, kindOn, numberOn, kind-empty, none-pending, reply-kind, reply-words, LinkAsks, link-asks, asks-link, put-same, put-other, put-beside}
+use Rattle.keeping.specs.States.{by-state, masked-below, key-own, arrived, received-none, none-received, received-some, some-received, not-all, uses-writing, uses-entering, uses-keys, uses-setpoints, uses-all, request-entering, reply-entering, reply-keys, reply-all, allowed-entering, allowed-setpoints}
+use Rattle.keeping.specs.Frame.{Kept, kept-same, link-kept, received-kept}
+use Rattle.keeping.specs.Moves.{Moves, moves-numbers, same-entries}
+use Rattle.keeping.specs.Rows.{put, Put, putAll, lastPut, put-read, put-before, put-skip, put-elsewhere, put-length, loop-other, loop-there, loop-length}
+use Rattle.keeping.specs.Rounds.{link-empty, unused-empty, Idle, idle-client, Sent, sent-client, sent-others, sent-length}
+use Rattle.keeping.specs.Gets.{gets-sent}
+use Rattle.keeping.specs.Requests.{Deliverable, deliverable, target-below, link-row}
+use Rattle.keeping.specs.Replied.{repliedTables, Moving, going-moves, going-kept, ended-moves, ended-write-kept, finished-moves, ended-read-kept}
+
+module _ (q i : ℕ) (t : Tables) (s : Sound t) (d : Deliverable q i t) (came : kindOn t q i ≡ 2) where
+  abbrev w : Contents
+  w = contentsOf (keyOn t q i) (numberOn t q i)
+
+  abbrev number : ℕ
+  number = numberOn t q i
+
+  abbrev rest : List ℕ
+  rest = emptied q i t
+
+  client : q < clientsOf t
+  client = d .client
+
+  early : stepOf t < 4294967295
+  early = d .early
+
+  target : i < targets
+  target = target-below q i t s d
+
+  c : ClientFacts t q
+  c = s .client q client
+
+  asks : LinkAsks t q i
+  asks = link-asks t q i (c .link i target)
+
+  used : uses (stateOf t q) (maskOf t q) i ≡ true
+  used = asks .used (λ e. omega arith)
+
+  row-room : HasRow clientWidth (t .clients) q
+  row-room = omega (arith, s .long .clients, client)
+
+  busy : (stateOf t q ≡ idle → ⊥) → Within (maskOf t q) (serversOf t)
+  busy e = record { some = c .masked e; below = c .mask }
+
+  -- the link of the reply holds nothing now, and the others are as before
+  gone : linkWord rest q i 0 ≡ 0
+  gone = put-same (t .links) q i Nothing 0 (link-row t q i s client target) (omega arith)
+
+  beside : (j f : ℕ) → (j ≡ i → ⊥) → f < linkWidth → linkWord rest q j f ≡ linkWord (t .links) q j f
+  beside j f e g = put-beside (t .links) q i Nothing j f e g
+
+  kinds : (j : ℕ) → j < targets → linkWord rest q j 0 ≤ 2
+  kinds j h = by-equal j i (λ e. rw (e, gone) (omega arith)) (λ e. rw (beside j 0 e (omega arith)) (c .link j h .kind))
+
+  elsewhere : (p j f : ℕ) → (p ≡ q → ⊥) → j < targets → f < linkWidth → linkWord rest p j f ≡ linkWord (t .links) p j f
+  elsewhere p j f e h g = put-other (t .links) q i Nothing p j f target h (λ z. e (z .0)) g
+
+  rest-long : length rest ≡ length (t .links)
+  rest-long = link-length (t .links) q i Nothing
+
+  -- nothing received outside state 5
+  received-zero : (stateOf t q ≡ askingAll → ⊥) → (j : ℕ) → j < targets → receivedOf t q j ≡ 0
+  received-zero e j h = received-none t q j (not-all t q j e) (c .received j h)
+
+  -- "wait": replies are still to come
+  module _ (clients′ : List ℕ) (v : Moving q clients′ rest t) (same : (f : ℕ) → f < 5 → clientWord clients′ q f ≡ clientWord (t .clients) q f)
+      (received : (j : ℕ) → j < targets → (j ≡ i → ⊥) → receivedIn clients′ q j ≡ receivedOf t q j) (more : pending rest q ≡ true) where
+    abbrev waiting : Tables
+    waiting = repliedTables clients′ rest (t .writes) (t .reads) t
+
+    waiting-moves : Moves q t waiting
+    waiting-moves = going-moves q clients′ rest t s client early v
+
+    waiting-client : receivedSound waiting q i ≡ true → ClientFacts waiting q
+    waiting-client here =
+        let n = moves-numbers q t waiting waiting-moves in
+        let state = same 0 (omega arith) in
+        let mask = same 2 (omega arith) in
+        record {
+          allowed = rw (n .method, state) (c .allowed);
+          count = rw (state, same 1 (omega arith)) (c .count);
+          mask = rw (n .servers, mask) (c .mask);
+          masked = λ e. rw mask (c .masked (λ z. e (state ∙ z)));
+          tag = rw (same 3 (omega arith), same-entries q t waiting waiting-moves) (c .tag);
+          link = λ j h. by-equal j i (λ e. rw e (link-empty waiting q i gone)) (λ e. link-kept t waiting n q j h state mask (λ f g. beside j f e g) (c .link j h));
+          received = λ j h. by-equal j i (λ e. rw e here) (λ e. received-kept t waiting n q j h state mask (λ f g. beside j f e g) (received j h e) (c .received j h));
+          busy = λ e. more;
+        }
+
+    waiting-kept : receivedSound waiting q i ≡ true → Kept q t waiting
+    waiting-kept here =
+        going-kept q clients′ rest t s client early v (rw (same 0 (omega arith))) (rw (same 0 (omega arith))) (same 1 (omega arith)) (same 4 (omega arith)) (waiting-client here)
+
+  -- "When the last acknowledgement arrives, key and mask go to the head."
+  module _ (state : stateOf t q ≡ writing) where
+    stays : Moving q (t .clients) rest t
+    stays = record { row = λ p f e h. refl; link = elsewhere; clients = refl; links = rest-long }
+
+    not-five : stateOf t q ≡ askingAll → ⊥
+    not-five e = omega (arith, state)
+
+    set-waits : pending rest q ≡ true → Kept q t (repliedTables (t .clients) rest (t .writes) (t .reads) t)
+    set-waits more =
+        waiting-kept (t .clients) stays (λ f h. refl) (λ j h e. refl) more
+        (none-received (repliedTables (t .clients) rest (t .writes) (t .reads) t) q i (not-all (repliedTables (t .clients) rest (t .writes) (t .reads) t) q i not-five) (received-zero not-five i target))
+
+    abbrev enters : List ℕ
+    enters = putLink rest q coordinator (request (keyOf (countOf t q) q) (maskOf t q))
+
+    abbrev putsNext : List Put
+    putsNext = put 0 entering ∷ []
+
+    abbrev next : Tables
+    next = repliedTables (putAll putsNext q (t .clients)) enters (t .writes) (t .reads) t
+
+    next-moving : Moving q (putAll putsNext q (t .clients)) enters t
+    next-moving =
+        record {
+          row = λ p f e h. put-elsewhere q putsNext (t .clients) p f refl h e;
+          link = λ p j f e h g. put-other rest q coordinator (request (keyOf (countOf t q) q) (maskOf t q)) p j f (omega arith) h (λ z. e (z .0)) g ∙ elsewhere p j f e h g;
+          clients = put-length q putsNext (t .clients);
+          links = link-length rest q coordinator (request (keyOf (countOf t q) q) (maskOf t q)) ∙ rest-long;
+        }
+
+    next-moves : Moves q t next
+    next-moves = going-moves q (putAll putsNext q (t .clients)) enters t s client early next-moving
+
+    next-word : (g : ℕ) → g < clientWidth → clientWord (next .clients) q g ≡ lastPut putsNext (clientWord (t .clients) q g) g
+    next-word g h = put-read q putsNext (t .clients) g (clientWord (t .clients) q g) row-room refl h refl
+
+    head-word : (f : ℕ) → f < linkWidth → linkWord enters q coordinator f ≡ getD (1 ∷ keyWord (keyOf (countOf t q) q) ∷ maskOf t q ∷ []) f 0
+    head-word f g = put-same rest q coordinator (request (keyOf (countOf t q) q) (maskOf t q)) f (rw rest-long (link-row t q coordinator s client (omega arith))) g
+
+    next-sent : pending rest q ≡ false → Sent next q
+    next-sent none =
+        let n = moves-numbers q t next next-moves in
+        let st = next-word 0 (omega arith) in
+        let mask = next-word 2 (omega arith) in
+        let count : Between 1 (countOf t q) 255 = rw state at (c .count) in
+        let head : (j : ℕ) → uses (stateOf next q) (maskOf next q) j ≡ eqb j coordinator = λ j. rw (st, mask) (uses-entering (maskOf t q) j) in
+        let key : ownKey q (countOf t q * 256 + q) ≡ true = key-own (clientsOf t) q (countOf t q * 256 + q) (record { least = omega (arith, count .least); most = omega (arith, count .most, client, s .scalars .press .clients .most) }) (omega (arith, client, s .scalars .press .clients .most)) in
+        let masked = busy (λ e. omega (arith, state)) in
+        record {
+          allowed = rw (n .method, st) (allowed-entering (methodOf t) q (rw state at (c .allowed)));
+          count = rw (st, next-word 1 (omega arith)) count;
+          mask = rw (mask, n .servers) masked;
+          tag = rw (next-word 3 (omega arith), same-entries q t next next-moves) (c .tag);
+          some = (coordinator, omega arith, head coordinator);
+          asked = λ j h u. rw (eqb-true j coordinator (sym (head j) ∙ u)) (head-word 0 (omega arith));
+          good = λ j h u. rw (eqb-true j coordinator (sym (head j) ∙ u), st, head-word 1 (omega arith), head-word 2 (omega arith), request-entering next q (countOf t q * 256 + q) (maskOf t q), n .servers) (both (ownKey q (countOf t q * 256 + q)) (maskWithin (maskOf t q) (serversOf t)) key (within-test (maskOf t q) (serversOf t) masked));
+          rest = λ j h u. put-beside rest q coordinator (request (keyOf (countOf t q) q) (maskOf t q)) j 0 (eqb-false j coordinator (sym (head j) ∙ u)) (omega arith) ∙ none-pending rest q j h (kinds j h) none;
+          received = λ j h. put-before q putsNext (t .clients) 5 (21 + j) refl (omega arith) ∙ received-zero not-five j h;
+        }
+
+    set-next : pending rest q ≡ false → Kept q t next
+    set-next none =
+        going-kept q (putAll putsNext q (t .clients)) enters t s client early next-moving (rw (next-word 0 (omega arith), state)) (rw (next-word 0 (omega arith), state)) (next-word 1 (omega arith)) (next-word 4 (omega arith)) (sent-client next q (next-sent none))
+
+    set-done : Kept q t (onSetDone q i t .tables)
+    unfolding onSetDone
+    set-done = by-test (pending rest q) (λ b. rw b (set-waits b)) (λ b. rw b (set-next b))
