@@ -188,3 +188,103 @@ module _ (q i : ℕ) (t : Tables) (s : Sound t) (d : Deliverable q i t) (came : 
     set-done : Kept q t (onSetDone q i t .tables)
     unfolding onSetDone
     set-done = by-test (pending rest q) (λ b. rw b (set-waits b)) (λ b. rw b (set-next b))
+
+  -- "The tag's arrival ends the WRITE."
+  module _ (state : stateOf t q ≡ entering) where
+    abbrev putsEntered : List Put
+    putsEntered = put 3 number ∷ put 0 idle ∷ []
+
+    entered-moving : Moving q (putAll putsEntered q (t .clients)) rest t
+    entered-moving = record { row = λ p f e h. put-elsewhere q putsEntered (t .clients) p f refl h e; link = elsewhere; clients = put-length q putsEntered (t .clients); links = rest-long }
+
+    entered-word : (g : ℕ) → g < clientWidth → clientWord (putAll putsEntered q (t .clients)) q g ≡ lastPut putsEntered (clientWord (t .clients) q g) g
+    entered-word g h = put-read q putsEntered (t .clients) g (clientWord (t .clients) q g) row-room refl h refl
+
+    -- only the head's link was in use
+    only-head : (j : ℕ) → j < targets → linkWord rest q j 0 ≡ 0
+    only-head j h =
+        by-equal j i
+        (λ e. rw e gone)
+        (λ e.
+        let head : i ≡ coordinator = eqb-true i coordinator (rw (state, uses-entering) at used) in
+        beside j 0 e (omega arith) ∙ unused-empty t q j (c .link j h) (rw (state, uses-entering (maskOf t q) j) (ne-eqb j coordinator (λ z. e (z ∙ sym head)))))
+
+    tag-within : number < entriesOf t
+    tag-within = ltb-true number (entriesOf t) (both-right (leb 1 number) (ltb number (entriesOf t)) (rw (state, reply-entering) at (asks .reply came)))
+
+    entered-delivered : Kept q t (onEntered w q i t .tables)
+    unfolding onEntered
+    entered-delivered =
+        let clients′ = putAll putsEntered q (t .clients) in
+        let after = onEntered w q i t .tables in
+        let m = ended-moves q clients′ rest t s client early entered-moving (rw state) (rw state) in
+        let n = moves-numbers q t after m in
+        let not-five : stateOf t q ≡ askingAll → ⊥ = λ e. omega (arith, state) in
+        ended-write-kept q clients′ rest t s client early entered-moving (rw state) (rw state) (entered-word 0 (omega arith)) (entered-word 1 (omega arith))
+        (idle-client after q (record {
+          state = entered-word 0 (omega arith);
+          count = rw (entered-word 1 (omega arith)) (c .count .most);
+          mask = rw (entered-word 2 (omega arith), n .servers) (c .mask);
+          tag = rw (entered-word 3 (omega arith), same-entries q t after m) tag-within;
+          link = only-head;
+          received = λ j h. put-before q putsEntered (t .clients) 5 (21 + j) refl (omega arith) ∙ received-zero not-five j h;
+        }))
+
+  -- "B: … its reply has the last tag and all k keys; then as A."
+  module _ (state : stateOf t q ≡ askingKeys) where
+    abbrev lastKnown : ℕ
+    lastKnown = number - 1
+
+    abbrev putsKeys : List Put
+    putsKeys = put 3 lastKnown ∷ put 0 askingSetpoints ∷ []
+
+    abbrev gets : List ℕ
+    gets = sentGets q (maskOf t q) (t .log) lastKnown (serversOf t) rest
+
+    head : i ≡ coordinator
+    head = eqb-true i coordinator (rw (state, uses-keys) at used)
+
+    nothing-left : (j : ℕ) → j < targets → linkWord rest q j 0 ≡ 0
+    nothing-left j h =
+        by-equal j i
+        (λ e. rw e gone)
+        (λ e. beside j 0 e (omega arith) ∙ unused-empty t q j (c .link j h) (rw (state, uses-keys (maskOf t q) j) (ne-eqb j coordinator (λ z. e (z ∙ sym head)))))
+
+    known-within : lastKnown < entriesOf t
+    known-within =
+        let f = between-facts 1 number (holding t i) (rw (state, reply-keys) at (asks .reply came)) in
+        let all : holding t i ≡ entriesOf t = rw (eq-eqb i coordinator head) in
+        omega (arith, f .least, f .most)
+
+    rest-room : linkWidth * (targets * q + targets) ≤ length rest
+    rest-room = rw rest-long (omega (arith, s .long .links, client))
+
+    few : serversOf t ≤ targets
+    few = omega (arith, s .scalars .press .servers .most)
+
+    keys-moving : Moving q (putAll putsKeys q (t .clients)) gets t
+    keys-moving =
+        record {
+          row = λ p f e h. put-elsewhere q putsKeys (t .clients) p f refl h e;
+          link = λ p j f e h g. sent-others q (serversOf t) (hasServer (maskOf t q)) (λ x. request (latestKey (t .log) x lastKnown) 0) rest few rest-room f g p j e h ∙ elsewhere p j f e h g;
+          clients = put-length q putsKeys (t .clients);
+          links = sent-length q (serversOf t) (hasServer (maskOf t q)) (λ x. request (latestKey (t .log) x lastKnown) 0) rest few rest-room ∙ rest-long;
+        }
+
+    keys-word : (g : ℕ) → g < clientWidth → clientWord (putAll putsKeys q (t .clients)) q g ≡ lastPut putsKeys (clientWord (t .clients) q g) g
+    keys-word g h = put-read q putsKeys (t .clients) g (clientWord (t .clients) q g) row-room refl h refl
+
+    keys-delivered : Kept q t (onKeys w q i t .tables)
+    unfolding onKeys
+    keys-delivered =
+        let clients′ = putAll putsKeys q (t .clients) in
+        let after = onKeys w q i t .tables in
+        let m = going-moves q clients′ gets t s client early keys-moving in
+        let n = moves-numbers q t after m in
+        going-kept q clients′ gets t s client early keys-moving (rw (keys-word 0 (omega arith), state)) (rw (keys-word 0 (omega arith), state)) (keys-word 1 (omega arith)) (keys-word 4 (omega arith))
+        (sent-client after q
+        (gets-sent q (maskOf t q) lastKnown rest t after s n client known-within (busy (λ e. omega (arith, state))) nothing-left rest-room refl (keys-word 0 (omega arith)) (keys-word 2 (omega arith))
+        (allowed-setpoints (methodOf t) q (rw state at (c .allowed)))
+        (rw (keys-word 1 (omega arith)) (c .count .most))
+        (rw (keys-word 3 (omega arith), same-entries q t after m) known-within)
+        (λ j h. put-before q putsKeys (t .clients) 5 (21 + j) refl (omega arith) ∙ received-zero (λ e. omega (arith, state)) j h)))
