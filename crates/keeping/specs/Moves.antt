@@ -12,6 +12,7 @@ use Rattle.tables.specs.Layout.{countWords, countAt, stepField, writesField, re
 use Rattle.tables.specs.Links.{targets, linkWidth}
 use Rattle.tables.specs.Tables.{Tables, clientsOf, stepOf, entriesOf, writesOf, readsOf, heldOf, countOf}
 use Rattle.rules.specs.Common.{counted}
+use Rattle.soundness.specs.Sound.{holding}
 use Rattle.soundness.specs.Facts.{Between, ClientFacts, WriteFacts, ReadFacts, RecordsFacts, Sound}
 use Rattle.keeping.specs.Links.{linkWord}
 use Rattle.keeping.specs.Frame.{Numbers, Lengths, Grows, Kept, kept}
@@ -31,6 +32,9 @@ module _ (q : ℕ) (t t′ : Tables) (m : Moves q t t′) where
 
   pub same-held : (i : ℕ) → heldOf t′ i ≡ heldOf t i
   same-held i = m .count (heldField + i) (λ e. omega arith) (λ e. omega arith) (λ e. omega arith)
+
+  pub same-holding : (i : ℕ) → holding t′ i ≡ holding t i
+  same-holding i = rw (same-entries, same-held i)
 
   pub moves-numbers : Numbers t t′
   moves-numbers =

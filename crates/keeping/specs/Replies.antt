@@ -9,6 +9,7 @@ use lib.Dec.{eqb, leb, ltb}
 use borrow.Author.Tests.{eq-eqb, ne-eqb, eqb-true, eqb-false, ltb-true, lt-ltb}
 use Rattle.ranges.specs.Tests.{by-test, by-equal, both, both-left, both-right, not-both}
 use Rattle.ranges.specs.Turns.{turns}
+use Rattle.ranges.specs.Picked.{picked}
 use Rattle.ranges.specs.Last.{lastBelow, last-below}
 use Rattle.keys.specs.Keys.{keyOf, keyWord}
 use Rattle.keys.specs.Masks.{hasServer, maskWithin, Within, within-test}
@@ -23,14 +24,14 @@ use Rattle.tables.specs.declared.links.Content.the-variants.{Nothing, Request, 
 use Rattle.rules.specs.Common.{idle, writing, entering, askingKeys, askingSetpoints, askingAll, coordinator, request, nextStep, pending}
 use Rattle.rules.specs.Begin.{sentGets}
 use Rattle.rules.specs.Choice.{qualifies}
-use Rattle.rules.specs.Reply.{emptied, gotSetpoint, gotNumber, receivedIn, setpointAt, tagChosen, concluded, onSetDone, onEntered, onKeys, onGot, onAll, onReplyIn, onReply, replyDelivered}
+use Rattle.rules.specs.Reply.{emptied, gotSetpoint, gotNumber, receivedIn, setpointAt, keepSetpoint, forget, tagChosen, concluded, endedByC, onSetDone, onEntered, onKeys, onGot, onAll, onReplyIn, onReply, replyDelivered}
 use Rattle.soundness.specs.Sound.{uses, requestSound, replySound, receivedSound, holding, keyOn, ownKey, isWriting, isReading}
 use Rattle.soundness.specs.Facts.{Between, between-facts, ClientFacts, LinkFacts, Sound}
 use Rattle.store.specs.Refusals.{deliveryRefusal}
 use Rattle.keeping.specs.Links.{linkWord, kindOn, numberOn, kind-empty, none-pending, reply-kind, reply-words, LinkAsks, link-asks, asks-link, put-same, put-other, put-beside}
 use Rattle.keeping.specs.States.{by-state, masked-below, key-own, arrived, received-none, none-received, received-some, some-received, not-all, uses-writing, uses-entering, uses-keys, uses-setpoints, uses-all, request-entering, reply-entering, reply-keys, reply-all, allowed-entering, allowed-setpoints}
 use Rattle.keeping.specs.Frame.{Kept, kept-same, link-kept, received-kept}
-use Rattle.keeping.specs.Moves.{Moves, moves-numbers, same-entries}
+use Rattle.keeping.specs.Moves.{Moves, moves-numbers, same-entries, same-holding}
 use Rattle.keeping.specs.Rows.{put, Put, putAll, lastPut, put-read, put-before, put-skip, put-elsewhere, put-length, loop-other, loop-there, loop-length}
 use Rattle.keeping.specs.Rounds.{link-empty, unused-empty, Idle, idle-client, Sent, sent-client, sent-others, sent-length}
 use Rattle.keeping.specs.Gets.{gets-sent}
@@ -288,3 +289,219 @@ module _ (q i : ℕ) (t : Tables) (s : Sound t) (d : Deliverable q i t) (came : 
         (rw (keys-word 1 (omega arith)) (c .count .most))
         (rw (keys-word 3 (omega arith), same-entries q t after m) known-within)
         (λ j h. put-before q putsKeys (t .clients) 5 (21 + j) refl (omega arith) ∙ received-zero (λ e. omega (arith, state)) j h)))
+
+  -- "each wanted setpoint [is] stored in the panel"; the last one ends the READ
+  module _ (state : stateOf t q ≡ askingSetpoints) where
+    server : i < serversOf t
+    server = masked-below (maskOf t q) (serversOf t) i (c .mask) (rw (state, uses-setpoints) at used)
+
+    place : setpointsField + i < receivedField
+    place = omega (arith, server, s .scalars .press .servers .most)
+
+    not-all-state : stateOf t q ≡ askingAll → ⊥
+    not-all-state e = omega (arith, state)
+
+    abbrev got : List Put
+    got = put (setpointsField + i) number ∷ []
+
+    abbrev gotLast : List Put
+    gotLast = put (setpointsField + i) number ∷ put 0 idle ∷ []
+
+    -- the words put stand in the row
+    got-inside : ltb (setpointsField + i) clientWidth ≡ true
+    got-inside = lt-ltb (setpointsField + i) clientWidth (omega (arith, place))
+
+    got-moving : Moving q (putAll got q (t .clients)) rest t
+    got-moving = record { row = λ p f e h. put-elsewhere q got (t .clients) p f (rw got-inside) h e; link = elsewhere; clients = put-length q got (t .clients); links = rest-long }
+
+    got-waits : pending rest q ≡ true → Kept q t (repliedTables (putAll got q (t .clients)) rest (t .writes) (t .reads) t)
+    got-waits more =
+        let after = repliedTables (putAll got q (t .clients)) rest (t .writes) (t .reads) t in
+        let same : (f : ℕ) → f < 5 → clientWord (putAll got q (t .clients)) q f ≡ clientWord (t .clients) q f = λ f h. put-skip q got (t .clients) f (λ e. omega arith, tt) in
+        let received : (j : ℕ) → j < targets → receivedIn (putAll got q (t .clients)) q j ≡ receivedOf t q j = λ j h. put-before q got (t .clients) receivedField (receivedField + j) (rw (lt-ltb (setpointsField + i) receivedField place)) (omega arith) in
+        waiting-kept (putAll got q (t .clients)) got-moving same (λ j h e. received j h) more
+        (none-received after q i (not-all after q i (λ e. not-all-state (sym (same 0 (omega arith)) ∙ e))) (received i target ∙ received-zero not-all-state i target))
+
+    last-moving : Moving q (putAll gotLast q (t .clients)) rest t
+    last-moving = record { row = λ p f e h. put-elsewhere q gotLast (t .clients) p f (rw got-inside) h e; link = elsewhere; clients = put-length q gotLast (t .clients); links = rest-long }
+
+    last-word : (g : ℕ) → g < 5 → (g ≡ 0 → ⊥) → clientWord (putAll gotLast q (t .clients)) q g ≡ clientWord (t .clients) q g
+    last-word g h e = put-skip q gotLast (t .clients) g (λ z. omega arith, (e, tt))
+
+    last-state : clientWord (putAll gotLast q (t .clients)) q 0 ≡ idle
+    last-state = put-read q gotLast (t .clients) 0 (stateOf t q) row-room (rw got-inside) (omega arith) refl
+
+    last-received : (j : ℕ) → j < targets → receivedIn (putAll gotLast q (t .clients)) q j ≡ 0
+    last-received j h = put-before q gotLast (t .clients) receivedField (receivedField + j) (rw (lt-ltb (setpointsField + i) receivedField place)) (omega arith) ∙ received-zero not-all-state j h
+
+    got-delivered : Kept q t (onGot w q i t .tables)
+    unfolding onGot
+    got-delivered =
+        let clients′ = putAll gotLast q (t .clients) in
+        let m = finished-moves q (tagOf t q) clients′ rest t s client early last-moving (rw state) (rw state) (c .tag) in
+        by-test (pending rest q)
+        (λ b. rw b (got-waits b))
+        (λ b. rw b
+        (ended-read-kept q (tagOf t q) clients′ rest t s client early last-moving (rw state) (rw state) (c .tag) last-state (last-word 1 (omega arith) (λ e. omega arith))
+        (idle-client _ q (record {
+          state = last-state;
+          count = rw (last-word 1 (omega arith) (λ e. omega arith)) (c .count .most);
+          mask = rw (last-word 2 (omega arith) (λ e. omega arith), moves-numbers q t _ m .servers) (c .mask);
+          tag = rw (last-word 3 (omega arith) (λ e. omega arith), same-entries q t _ m) (c .tag);
+          link = λ j h. none-pending rest q j h (kinds j h) b;
+          received = last-received;
+        }))))
+
+  -- C: "when all replies are in", the tag is chosen, and the setpoint of each masked station at that tag is stored
+  module _ (state : stateOf t q ≡ askingAll) where
+    abbrev gotN : List Put
+    gotN = put (receivedField + i) number ∷ []
+
+    abbrev row : List ℕ
+    row = putAll gotN q (t .clients)
+
+    n-inside : ltb (receivedField + i) clientWidth ≡ true
+    n-inside = lt-ltb (receivedField + i) clientWidth (omega (arith, target))
+
+    n-between : Between 1 number (holding t i)
+    n-between = between-facts 1 number (holding t i) (rw (state, reply-all) at (asks .reply came))
+
+    n-low : (f : ℕ) → f < receivedField → clientWord row q f ≡ clientWord (t .clients) q f
+    n-low f h = put-skip q gotN (t .clients) f (λ e. omega arith, tt)
+
+    n-here : receivedIn row q i ≡ number
+    n-here = word-same clientWidth (t .clients) q (receivedField + i) number row-room (omega (arith, target))
+
+    n-beside : (j : ℕ) → (j ≡ i → ⊥) → receivedIn row q j ≡ receivedOf t q j
+    n-beside j e = put-skip q gotN (t .clients) (receivedField + j) (λ z. e (omega arith), tt)
+
+    n-moving : Moving q row rest t
+    n-moving = record { row = λ p f e h. put-elsewhere q gotN (t .clients) p f (rw n-inside) h e; link = elsewhere; clients = put-length q gotN (t .clients); links = rest-long }
+
+    all-waits : pending rest q ≡ true → Kept q t (repliedTables row rest (t .writes) (t .reads) t)
+    all-waits more =
+        let after = repliedTables row rest (t .writes) (t .reads) t in
+        let m = going-moves q row rest t s client early n-moving in
+        let here : arrived after q i ≡ true =
+            both (eqb (stateOf after q) askingAll) (uses (stateOf after q) (maskOf after q) i && isEmpty (contentAt after q i))
+            (eq-eqb (stateOf after q) askingAll (n-low 0 (omega arith) ∙ state))
+            (both (uses (stateOf after q) (maskOf after q) i) (isEmpty (contentAt after q i)) (rw (n-low 0 (omega arith), n-low 2 (omega arith)) used) (kind-empty rest q i gone)) in
+        let held : holding after i ≡ holding t i = same-holding q t after m i in
+        waiting-kept row n-moving (λ f h. n-low f (omega arith)) (λ j h e. n-beside j e) more
+        (some-received after q i here (rw (n-here, held) n-between))
+
+    -- all replies are in: the number of log entries received is that of the head's reply, now or before
+    module _ (none : pending rest q ≡ false) where
+      log-received : Between 1 (receivedIn row q coordinator) (entriesOf t)
+      log-received =
+          by-equal i coordinator
+          (λ e.
+          let all : holding t i ≡ entriesOf t = rw (eq-eqb i coordinator e) in
+          rw (sym (ap (receivedIn row q) e) ∙ n-here) (record { least = n-between .least; most = omega (arith, n-between .most) }))
+          (λ d′.
+          let e : coordinator ≡ i → ⊥ = λ z. d′ (sym z) in
+          let empty : kindOn t q coordinator ≡ 0 = sym (beside coordinator 0 e (omega arith)) ∙ none-pending rest q coordinator (omega arith) (kinds coordinator (omega arith)) none in
+          let in′ : arrived t q coordinator ≡ true =
+              both (eqb (stateOf t q) askingAll) (uses (stateOf t q) (maskOf t q) coordinator && isEmpty (contentAt t q coordinator)) (eq-eqb (stateOf t q) askingAll state)
+              (both (uses (stateOf t q) (maskOf t q) coordinator) (isEmpty (contentAt t q coordinator)) (rw (state, uses-all (maskOf t q) coordinator) (or-true (hasServer (maskOf t q) coordinator))) (kind-empty (t .links) q coordinator empty)) in
+          rw (n-beside coordinator e) (received-some t q coordinator in′ (c .received coordinator (omega arith))))
+
+      abbrev chosen : ℕ
+      chosen = tagChosen row q t
+
+      chosen-within : chosen < entriesOf t
+      chosen-within =
+          let n = receivedIn row q coordinator in
+          let below : chosen < n = last-below (qualifies (t .keys) (t .log) (maskOf t q) (receivedIn row q) (serversOf t)) n (log-received .least) in
+          omega (arith, log-received .most)
+
+      servers-few : serversOf t ≤ 16
+      servers-few = s .scalars .press .servers .most
+
+      -- the row: setpoints stored, the n forgotten, then tag and state
+      abbrev shown : List ℕ
+      shown = turns (picked (hasServer (maskOf t q)) (keepSetpoint (setpointAt chosen row q t) q)) (serversOf t) row
+
+      abbrev forgotten : List ℕ
+      forgotten = turns (forget q) targets shown
+
+      abbrev putsEnd : List Put
+      putsEnd = put 3 chosen ∷ put 0 idle ∷ []
+
+      abbrev endRow : List ℕ
+      endRow = putAll putsEnd q forgotten
+
+      shown-other : (p f : ℕ) → f < clientWidth → ((p ≡ q) × (setpointsField ≤ f) × (f < setpointsField + serversOf t) → ⊥) → clientWord shown p f ≡ clientWord row p f
+      shown-other p f h e = loop-other q setpointsField (serversOf t) (omega (arith, servers-few)) (hasServer (maskOf t q)) (setpointAt chosen row q t) row p f h e
+
+      forgotten-other : (p f : ℕ) → f < clientWidth → ((p ≡ q) × (receivedField ≤ f) × (f < receivedField + targets) → ⊥) → clientWord forgotten p f ≡ clientWord shown p f
+      forgotten-other p f h e = loop-other q receivedField targets (omega arith) (λ j. true) (λ j. 0) shown p f h e
+
+      shown-long : length shown ≡ length (t .clients)
+      shown-long = loop-length q setpointsField (serversOf t) (omega (arith, servers-few)) (hasServer (maskOf t q)) (setpointAt chosen row q t) row ∙ put-length q gotN (t .clients)
+
+      forgotten-long : length forgotten ≡ length (t .clients)
+      forgotten-long = loop-length q receivedField targets (omega arith) (λ j. true) (λ j. 0) shown ∙ shown-long
+
+      end-moving : Moving q endRow rest t
+      end-moving =
+          record {
+            row = λ p f e h. put-elsewhere q putsEnd forgotten p f refl h e ∙ (forgotten-other p f h (λ z. e (z .0)) ∙ (shown-other p f h (λ z. e (z .0)) ∙ n-moving .row p f e h));
+            link = elsewhere;
+            clients = put-length q putsEnd forgotten ∙ forgotten-long;
+            links = rest-long;
+          }
+
+      end-word : (g : ℕ) → g < clientWidth → clientWord endRow q g ≡ lastPut putsEnd (clientWord forgotten q g) g
+      end-word g h = put-read q putsEnd forgotten g (clientWord forgotten q g) (rw forgotten-long row-room) refl h refl
+
+      low-word : (g : ℕ) → g < 5 → clientWord forgotten q g ≡ clientWord (t .clients) q g
+      low-word g h = forgotten-other q g (omega arith) (λ z. omega (arith, z .1)) ∙ (shown-other q g (omega arith) (λ z. omega (arith, z .1)) ∙ n-low g (omega arith))
+
+      end-received : (j : ℕ) → j < targets → receivedIn endRow q j ≡ 0
+      end-received j h = put-before q putsEnd forgotten 5 (receivedField + j) refl (omega arith) ∙ loop-there q receivedField targets (omega arith) (λ x. true) (λ x. 0) shown j (rw shown-long row-room) h refl
+
+      all-ends : Kept q t (endedByC chosen row q rest t .tables)
+      all-ends =
+          let m = finished-moves q chosen endRow rest t s client early end-moving (rw state) (rw state) chosen-within in
+          let count = end-word 1 (omega arith) ∙ low-word 1 (omega arith) in
+          ended-read-kept q chosen endRow rest t s client early end-moving (rw state) (rw state) chosen-within (end-word 0 (omega arith)) count
+          (idle-client _ q (record {
+            state = end-word 0 (omega arith);
+            count = rw count (c .count .most);
+            mask = rw (end-word 2 (omega arith) ∙ low-word 2 (omega arith), moves-numbers q t _ m .servers) (c .mask);
+            tag = rw (end-word 3 (omega arith), same-entries q t _ m) chosen-within;
+            link = λ j h. none-pending rest q j h (kinds j h) none;
+            received = end-received;
+          }))
+
+    all-delivered : Kept q t (onAll w q i t .tables)
+    unfolding onAll
+    all-delivered = by-test (pending rest q) (λ b. rw b (all-waits b)) (λ b. rw b (all-ends b))
+
+  in-state : Kept q t (onReplyIn (stateOf t q) w q i t .tables)
+  unfolding onReplyIn
+  in-state =
+      by-state (maskOf t q) i (stateOf t q) used
+      (λ e. rw e (set-done e))
+      (λ e. rw e (entered-delivered e))
+      (λ e. rw e (keys-delivered e))
+      (λ e. rw e (got-delivered e))
+      (λ e. rw e (all-delivered e))
+
+-- The delivery of a reply, accepted or refused by 9, leaves sound tables.
+module _ (q i : ℕ) (t : Tables) (s : Sound t) (e : deliveryRefusal q i t ≡ 0) where
+  by-content : (c : Content) → contentAt t q i ≡ c → Kept q t (onReply c q i t .tables)
+  by-content Nothing h = kept-same q t s
+  by-content (Request w) h = kept-same q t s
+  by-content (Reply w) h =
+      let d = deliverable q i t e in
+      let kind = s .client q (d .client) .link i (target-below q i t s d) .kind in
+      subst (λ (w : Contents). Kept q t (onReplyIn (stateOf t q) w q i t .tables)) (reply-words (t .links) q i w kind h) (in-state q i t s d (reply-kind (t .links) q i w kind h))
+
+  pub replyDelivered-kept : Kept q t (replyDelivered q i t .tables)
+  unfolding replyDelivered
+  replyDelivered-kept = by-content (contentAt t q i) refl
+
+  pub replyDelivered-sound : Sound (replyDelivered q i t .tables)
+  replyDelivered-sound = replyDelivered-kept .sound
