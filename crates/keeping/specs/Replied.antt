@@ -180,7 +180,7 @@ module _ (q tag : ℕ) (clients′ links′ : List ℕ) (t : Tables) (s : Sound 
   finished-record : (n : ℕ) → n < readsOf t → ReadFacts finished n
   finished-record n h =
       let word : (f : ℕ) → f < recordWidth → (f ≡ endOfRecord → ⊥) → (f ≡ tagOfRecord → ⊥) → recordWord read′ n f ≡ recordWord (t .reads) n f =
-          λ f l d e. ended-word tagged′ (recordOf t q) (nextStep t) n f l d ∙ tagged-word (t .reads) (recordOf t q) tag n f l e in
+      λ f l d e. ended-word tagged′ (recordOf t q) (nextStep t) n f l d ∙ tagged-word (t .reads) (recordOf t q) tag n f l e in
       read-kept t finished (moves-numbers q t finished finished-moves) n
       (word clientOfRecord (omega arith) (λ e. omega arith) (λ e. omega arith))
       (word numberOfRecord (omega arith) (λ e. omega arith) (λ e. omega arith))

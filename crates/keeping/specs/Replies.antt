@@ -383,9 +383,9 @@ module _ (q i : ℕ) (t : Tables) (s : Sound t) (d : Deliverable q i t) (came : 
         let after = repliedTables row rest (t .writes) (t .reads) t in
         let m = going-moves q row rest t s client early n-moving in
         let here : arrived after q i ≡ true =
-            both (eqb (stateOf after q) askingAll) (uses (stateOf after q) (maskOf after q) i && isEmpty (contentAt after q i))
-            (eq-eqb (stateOf after q) askingAll (n-low 0 (omega arith) ∙ state))
-            (both (uses (stateOf after q) (maskOf after q) i) (isEmpty (contentAt after q i)) (rw (n-low 0 (omega arith), n-low 2 (omega arith)) used) (kind-empty rest q i gone)) in
+        both (eqb (stateOf after q) askingAll) (uses (stateOf after q) (maskOf after q) i && isEmpty (contentAt after q i))
+        (eq-eqb (stateOf after q) askingAll (n-low 0 (omega arith) ∙ state))
+        (both (uses (stateOf after q) (maskOf after q) i) (isEmpty (contentAt after q i)) (rw (n-low 0 (omega arith), n-low 2 (omega arith)) used) (kind-empty rest q i gone)) in
         let held : holding after i ≡ holding t i = same-holding q t after m i in
         waiting-kept row n-moving (λ f h. n-low f (omega arith)) (λ j h e. n-beside j e) more
         (some-received after q i here (rw (n-here, held) n-between))
@@ -402,8 +402,8 @@ module _ (q i : ℕ) (t : Tables) (s : Sound t) (d : Deliverable q i t) (came : 
           let e : coordinator ≡ i → ⊥ = λ z. d′ (sym z) in
           let empty : kindOn t q coordinator ≡ 0 = sym (beside coordinator 0 e (omega arith)) ∙ none-pending rest q coordinator (omega arith) (kinds coordinator (omega arith)) none in
           let in′ : arrived t q coordinator ≡ true =
-              both (eqb (stateOf t q) askingAll) (uses (stateOf t q) (maskOf t q) coordinator && isEmpty (contentAt t q coordinator)) (eq-eqb (stateOf t q) askingAll state)
-              (both (uses (stateOf t q) (maskOf t q) coordinator) (isEmpty (contentAt t q coordinator)) (rw (state, uses-all (maskOf t q) coordinator) (or-true (hasServer (maskOf t q) coordinator))) (kind-empty (t .links) q coordinator empty)) in
+          both (eqb (stateOf t q) askingAll) (uses (stateOf t q) (maskOf t q) coordinator && isEmpty (contentAt t q coordinator)) (eq-eqb (stateOf t q) askingAll state)
+          (both (uses (stateOf t q) (maskOf t q) coordinator) (isEmpty (contentAt t q coordinator)) (rw (state, uses-all (maskOf t q) coordinator) (or-true (hasServer (maskOf t q) coordinator))) (kind-empty (t .links) q coordinator empty)) in
           rw (n-beside coordinator e) (received-some t q coordinator in′ (c .received coordinator (omega arith))))
 
       abbrev chosen : ℕ
