@@ -21,7 +21,7 @@ use Rattle.rules.specs.Begin.{lastTag, sentGets, sendAsk, sentAsks, askingBy, a
 use Rattle.soundness.specs.Sound.{isWriting, isReading, uses, sound}
 use Rattle.soundness.specs.Facts.{ClientFacts, ReadFacts, RecordsFacts, Sound}
 use Rattle.store.specs.Refusals.{readRefusal, atLastStep}
-use Rattle.keeping.specs.Refused.{has, lacks, neither}
+use Rattle.keeping.specs.Accepted.{neither, Beginnable, readable}
 use Rattle.keeping.specs.Links.{linkWord, put-same, put-other, put-beside}
 use Rattle.keeping.specs.States.{masked-below, not-all, received-none, allowed-by-A, allowed-by-B, allowed-by-C, uses-keys, uses-all, request-keys, request-all}
 use Rattle.keeping.specs.Frame.{Kept, write-kept, read-kept}
@@ -30,7 +30,7 @@ use Rattle.keeping.specs.Records.{begun-word, begun-here, begun-places, 
 use Rattle.keeping.specs.Rows.{put, Put, putAll, lastPut, inRow, under, put-read, put-before, put-elsewhere, put-length}
 use Rattle.keeping.specs.Rounds.{Sent, sent-client, idle-empty, sent-there, sent-not, sent-others, sent-length}
 use Rattle.keeping.specs.Gets.{gets-sent}
-use Rattle.keeping.specs.Begins.{begun-other, begun-more, begun-step, begun-length, Beginnable}
+use Rattle.keeping.specs.Begins.{begun-other, begun-more, begun-step, begun-length}
 
 -- A begin of a READ, whatever links it leaves. It puts words into the row, below the setpoints, and no count.
 module _ (q mask : ℕ) (puts : List Put) (links′ : List ℕ) (t : Tables) (s : Sound t) (b : Beginnable q mask t) (few : readsOf t < recordPlaces) (low : under 5 puts ≡ true) (inside : inRow puts ≡ true) where
@@ -300,20 +300,8 @@ module _ (q mask : ℕ) (t : Tables) (s : Sound t) (b : Beginnable q mask t) (fe
       (λ f. rw (ne-eqb (methodOf t) 1 d, ne-eqb (methodOf t) 2 f) (keptC d f)))
 
 module _ (q mask : ℕ) (t : Tables) (s : Sound t) (e : readRefusal q mask t ≡ 0) where
-  abbrev full : Bool
-  full = leb recordPlaces (readsOf t) || atLastStep t
-
   pub begunRead-kept : Kept q t (begunRead q mask t)
-  unfolding readRefusal
-  begunRead-kept =
-      let r₂ = has (sound t) 1 (cond (leb (clientsOf t) q) 3 (cond (eqb (methodOf t) 1 && not (eqb q 0)) 4 (cond (not (eqb (stateOf t q) idle)) 5 (cond (not (maskWithin mask (serversOf t))) 6 (cond full 7 0))))) e in
-      let r₃ = lacks (leb (clientsOf t) q) 2 (cond (eqb (methodOf t) 1 && not (eqb q 0)) 4 (cond (not (eqb (stateOf t q) idle)) 5 (cond (not (maskWithin mask (serversOf t))) 6 (cond full 7 0)))) (r₂ .1) in
-      let r₄ = lacks (eqb (methodOf t) 1 && not (eqb q 0)) 3 (cond (not (eqb (stateOf t q) idle)) 5 (cond (not (maskWithin mask (serversOf t))) 6 (cond full 7 0))) (r₃ .1) in
-      let r₅ = has (eqb (stateOf t q) idle) 4 (cond (not (maskWithin mask (serversOf t))) 6 (cond full 7 0)) (r₄ .1) in
-      let r₆ = has (maskWithin mask (serversOf t)) 5 (cond full 7 0) (r₅ .1) in
-      let r₇ = neither (leb recordPlaces (readsOf t)) (atLastStep t) (lacks full 6 0 (r₆ .1) .0) in
-      let b : Beginnable q mask t = record { client = leb-false _ _ (r₃ .0); free = eqb-true _ _ (r₅ .0); masked = within-true _ _ (r₆ .0); early = leb-false _ _ (r₇ .1) } in
-      begun-read q mask t s b (leb-false _ _ (r₇ .0)) (r₄ .0)
+  begunRead-kept = let a = readable q mask t e in begun-read q mask t s (a .begin) (a .few) (a .part)
 
   pub begunRead-sound : Sound (begunRead q mask t)
   begunRead-sound = begunRead-kept .sound

@@ -20,7 +20,7 @@ use Rattle.rules.specs.Begin.{nextCount, storedSetpoints, sentSets, begunWrite}
 use Rattle.soundness.specs.Sound.{isWriting, uses, sound}
 use Rattle.soundness.specs.Facts.{ClientFacts, WriteFacts, RecordsFacts, Sound}
 use Rattle.store.specs.Refusals.{writeRefusal, atLastStep}
-use Rattle.keeping.specs.Refused.{has, lacks, neither}
+use Rattle.keeping.specs.Accepted.{Beginnable, writable}
 use Rattle.keeping.specs.Links.{linkWord}
 use Rattle.keeping.specs.States.{masked-below, key-own, not-all, received-none, allowed-writing, uses-writing, request-writing}
 use Rattle.keeping.specs.Frame.{Kept, write-kept, read-kept}
@@ -28,7 +28,7 @@ use Rattle.keeping.specs.Moves.{Moves, moves-numbers, same-entries, move
 use Rattle.keeping.specs.Records.{begun-word, begun-here, begun-places, begun-others, begun-own, open-idle}
 use Rattle.keeping.specs.Rows.{put, Put, putAll, lastPut, put-read, put-before, put-elsewhere, put-length, loop-other, loop-length}
 use Rattle.keeping.specs.Rounds.{Sent, sent-client, idle-empty, sent-there, sent-not, sent-others, sent-length}
-use Rattle.keeping.specs.Begins.{begun-other, begun-more, begun-step, begun-length, Beginnable}
+use Rattle.keeping.specs.Begins.{begun-other, begun-more, begun-step, begun-length}
 
 -- A begin of a WRITE, whatever rows and links it leaves.
 module _ (q mask : ℕ) (clients′ links′ : List ℕ) (t : Tables) (s : Sound t) (b : Beginnable q mask t) (few : writesOf t < recordPlaces) where
@@ -190,23 +190,9 @@ module _ (q mask : ℕ) (setpoints : List ℕ) (t : Tables) (s : Sound t) (b : B
       wrote-kept q mask (after .clients) (after .links) t s b few begun-moves (word 0 (omega arith)) (word 1 (omega arith)) (word 4 (omega arith)) (sent-client after q begun-sent)
 
 module _ (q mask : ℕ) (setpoints : List ℕ) (t : Tables) (s : Sound t) (e : writeRefusal q mask setpoints t ≡ 0) where
-  abbrev full : Bool
-  full = leb recordPlaces (writesOf t) || atLastStep t
-
-  abbrev fits : Bool
-  fits = maskWithin mask (serversOf t) && eqb (length setpoints) (serversOf t)
-
   pub begunWrite-kept : Kept q t (begunWrite q mask setpoints t)
-  unfolding writeRefusal begunWrite
-  begunWrite-kept =
-      let r₂ = has (sound t) 1 (cond (leb (clientsOf t) q) 3 (cond (eqb (methodOf t) 1 && eqb q 0) 4 (cond (not (eqb (stateOf t q) idle)) 5 (cond (not fits) 6 (cond full 7 0))))) e in
-      let r₃ = lacks (leb (clientsOf t) q) 2 (cond (eqb (methodOf t) 1 && eqb q 0) 4 (cond (not (eqb (stateOf t q) idle)) 5 (cond (not fits) 6 (cond full 7 0)))) (r₂ .1) in
-      let r₄ = lacks (eqb (methodOf t) 1 && eqb q 0) 3 (cond (not (eqb (stateOf t q) idle)) 5 (cond (not fits) 6 (cond full 7 0))) (r₃ .1) in
-      let r₅ = has (eqb (stateOf t q) idle) 4 (cond (not fits) 6 (cond full 7 0)) (r₄ .1) in
-      let r₆ = has fits 5 (cond full 7 0) (r₅ .1) in
-      let r₇ = neither (leb recordPlaces (writesOf t)) (atLastStep t) (lacks full 6 0 (r₆ .1) .0) in
-      let b : Beginnable q mask t = record { client = leb-false _ _ (r₃ .0); free = eqb-true _ _ (r₅ .0); masked = within-true _ _ (both-left (maskWithin mask (serversOf t)) (eqb (length setpoints) (serversOf t)) (r₆ .0)); early = leb-false _ _ (r₇ .1) } in
-      begun-write q mask setpoints t s b (leb-false _ _ (r₇ .0)) (r₄ .0)
+  unfolding begunWrite
+  begunWrite-kept = let a = writable q mask setpoints t e in begun-write q mask setpoints t s (a .begin) (a .few) (a .part)
 
   pub begunWrite-sound : Sound (begunWrite q mask setpoints t)
   begunWrite-sound = begunWrite-kept .sound

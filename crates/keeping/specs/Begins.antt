@@ -1,4 +1,4 @@
--- What all begins share: the counts, and what an accepted begin has found.
+-- The counts that a begin leaves.
 use Prim.Native.Nat.{ℕ, _+_, _<_, _≤_}
 use mathlib.Core.Path.{_≡_, _∙_}
 use mathlib.Core.List.{List}
@@ -23,10 +23,3 @@ module _ (field : ℕ) (counts : List ℕ) (long : countWords ≤ length counts)
 
   pub begun-length : length (begunCounts field counts) ≡ length counts
   begun-length = length-set (set counts field (countAt counts field + 1)) stepField _ ∙ length-set counts field _
-
--- What an accepted begin has found.
-pub record Beginnable (q mask : ℕ) (t : Tables) : Type 0 where
-  pub client : q < clientsOf t
-  pub free : stateOf t q ≡ idle
-  pub masked : Within mask (serversOf t)
-  pub early : stepOf t < 4294967295

@@ -1,5 +1,5 @@
 -- Sound tables stay sound: an accepted opening leaves sound tables, and each step on sound tables leaves sound tables.
-pub mod Refused
+pub mod Accepted
 pub mod Links
 pub mod States
 pub mod Frame

@@ -24,7 +24,7 @@ use Rattle.rules.specs.Open.{cleared, holdOne, openedCounts, openKey, openValue
 use Rattle.soundness.specs.Sound.{longEnough, pressFits, keyInRange, receivedSound, stateAllowed, isOpen}
 use Rattle.soundness.specs.Facts.{Between, Long, long-facts, Press, press-facts, ServerFacts, LogFacts, ClientFacts, Sound}
 use Rattle.store.specs.Refusals.{openRefusal}
-use Rattle.keeping.specs.Refused.{has}
+use Rattle.keeping.specs.Accepted.{openable}
 use Rattle.keeping.specs.Links.{linkWord, asks-link}
 use Rattle.keeping.specs.Records.{facts-none}
 
@@ -189,8 +189,4 @@ module _ (m k p : ℕ) (setpoints : List ℕ) (t : Tables) (press : Press m k p)
 
 -- "Open" on tables that are long enough, accepted, leaves sound tables.
 pub opened-sound : (m k p : ℕ) (setpoints : List ℕ) (t : Tables) → openRefusal m k p setpoints t ≡ 0 → Sound (opened m k p setpoints t)
-unfolding openRefusal
-opened-sound m k p setpoints t e =
-    let a = has (pressFits m k p && eqb (length setpoints) k) 0 (cond (not (longEnough k p t)) 2 0) e in
-    let b = has (longEnough k p t) 1 0 (a .1) in
-    opened-facts m k p setpoints t (press-facts m k p (both-left (pressFits m k p) (eqb (length setpoints) k) (a .0))) (long-facts k p t (b .0))
+opened-sound m k p setpoints t e = let a = openable m k p setpoints t e in opened-facts m k p setpoints t (a .press) (a .long)

@@ -35,7 +35,8 @@ use Rattle.keeping.specs.Moves.{Moves, moves-numbers, same-entries, same
 use Rattle.keeping.specs.Rows.{put, Put, putAll, lastPut, put-read, put-before, put-skip, put-elsewhere, put-length, loop-other, loop-there, loop-length}
 use Rattle.keeping.specs.Rounds.{link-empty, unused-empty, Idle, idle-client, Sent, sent-client, sent-others, sent-length}
 use Rattle.keeping.specs.Gets.{gets-sent}
-use Rattle.keeping.specs.Requests.{Deliverable, deliverable, target-below, link-row}
+use Rattle.keeping.specs.Accepted.{Deliverable, deliverable, target-below}
+use Rattle.keeping.specs.Requests.{link-row}
 use Rattle.keeping.specs.Replied.{repliedTables, Moving, going-moves, going-kept, ended-moves, ended-write-kept, finished-moves, ended-read-kept}
 
 module _ (q i : ℕ) (t : Tables) (s : Sound t) (d : Deliverable q i t) (came : kindOn t q i ≡ 2) where

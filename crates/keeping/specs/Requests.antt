@@ -25,45 +25,12 @@ use Rattle.tables.specs.declared.links.Content.{Content}
 use Rattle.tables.specs.declared.links.Content.the-variants.{Nothing, Request, Reply}
 use Rattle.soundness.specs.Facts.{Between, facts-between, ClientFacts, LinkFacts, WriteFacts, ReadFacts, Sound}
 use Rattle.store.specs.Refusals.{isTarget, deliveryRefusal, atLastStep}
-use Rattle.keeping.specs.Refused.{has, lacks, neither}
+use Rattle.keeping.specs.Accepted.{Deliverable, deliverable, target-below, holding-some}
 use Rattle.keeping.specs.Links.{linkWord, kindOn, numberOn, kind-full, pending-at, LinkAsks, request-kind, request-words, put-same, put-other, link-asks, asks-link}
 use Rattle.keeping.specs.States.{received-none, none-received, not-empty, by-state, masked-below, own-key, own-in-range, uses-writing, uses-keys, request-writing, request-entering, reply-writing, reply-entering, reply-keys, reply-setpoints, reply-all}
 use Rattle.keeping.specs.Appends.{stored-step, stored-kept, entered-step, entry-more, entered-kept}
 use Rattle.keeping.specs.Moves.{Moves, Anew, moves-numbers, moved-kept, counted-other, counted-step, counted-length}
 use Rattle.keeping.specs.Frame.{Numbers, Kept, kept-same, kept-then, reply-kept, link-kept, received-kept, write-kept, read-kept}
-
--- What number 0 of a delivery's refusal says.
-pub record Deliverable (q i : ℕ) (t : Tables) : Type 0 where
-  pub client : q < clientsOf t
-  pub target : isTarget t i ≡ true
-  pub early : stepOf t < 4294967295
-
-pub deliverable : (q i : ℕ) (t : Tables) → deliveryRefusal q i t ≡ 0 → Deliverable q i t
-unfolding deliveryRefusal
-deliverable q i t e =
-    let a = has (sound t) 1 (cond (leb (clientsOf t) q || not (isTarget t i)) 3 (cond (atLastStep t) 7 0)) e in
-    let b = lacks (leb (clientsOf t) q || not (isTarget t i)) 2 (cond (atLastStep t) 7 0) (a .1) in
-    let c = lacks (atLastStep t) 6 0 (b .1) in
-    let n = neither (leb (clientsOf t) q) (not (isTarget t i)) (b .0) in
-    record { client = leb-false _ _ (n .0); target = not-false _ (n .1); early = leb-false _ _ (c .0) }
-
--- a target is a server or the coordinator
-pub by-target : {C : Type 0} (q i : ℕ) (t : Tables) → Deliverable q i t → (i < serversOf t → C) → (i ≡ coordinator → C) → C
-by-target q i t d server head =
-    by-test (ltb i (serversOf t))
-    (λ b. server (ltb-true _ _ b))
-    (λ b. head (eqb-true i coordinator (rw b at (d .target))))
-
-module _ (q i : ℕ) (t : Tables) (s : Sound t) (d : Deliverable q i t) where
-  pub target-below : i < targets
-  target-below = by-target q i t d (λ h. omega (arith, s .scalars .press .servers .most)) (λ e. omega arith)
-
-  -- a target holds something, the opening's at least
-  pub holding-some : 1 ≤ holding t i
-  holding-some =
-      by-target q i t d
-      (λ h. let few : i < 16 = omega (arith, s .scalars .press .servers .most) in rw (ne-eqb i coordinator (λ e. omega arith)) (s .server i h .held .least))
-      (λ e. rw (eq-eqb i coordinator e) (s .scalars .entries .least))
 
 -- a link of a client has its row
 pub link-row : (t : Tables) (q i : ℕ) → Sound t → q < clientsOf t → i < targets → HasRow linkWidth (t .links) (linkRow q i)
