@@ -26,7 +26,7 @@ use Rattle.keeping.specs.Links.{linkWord, put-same, put-other, put-besid
 use Rattle.keeping.specs.States.{masked-below, not-all, received-none, allowed-by-A, allowed-by-B, allowed-by-C, uses-keys, uses-all, request-keys, request-all}
 use Rattle.keeping.specs.Frame.{Kept, write-kept, read-kept}
 use Rattle.keeping.specs.Moves.{Moves, moves-numbers, same-entries, moved-kept}
-use Rattle.keeping.specs.Records.{begun-word, begun-here, begun-places, begun-others, begun-own, open-idle}
+use Rattle.keeping.specs.Records.{begun-word, begun-here, begun-places, records-begun, records-idle}
 use Rattle.keeping.specs.Rows.{put, Put, putAll, lastPut, inRow, under, put-read, put-before, put-elsewhere, put-length}
 use Rattle.keeping.specs.Rounds.{Sent, sent-client, idle-empty, sent-there, sent-not, sent-others, sent-length}
 use Rattle.keeping.specs.Gets.{gets-sent}
@@ -95,22 +95,11 @@ module _ (q mask : ℕ) (puts : List Put) (links′ : List ℕ) (t : Tables) (s 
         (λ d. let l : n < readsOf t = omega arith in
         read-kept t after num n (kept 0 (omega arith) d) (kept 1 (omega arith) d) (rw (kept 2 (omega arith) d, same-entries q t after m) (s .read n l .tag)) (s .read n l))
 
-    begun-own-records : RecordsFacts after q
-    begun-own-records =
-        let r = s .records q (b .client) in
+    begun-records : (p : ℕ) → p < clientsOf t → RecordsFacts after p
+    begun-records p h =
         record {
-          write = rw (writes, same-writes) (open-idle (t .writes) (writesOf t) q (recordOf t q) (recordOf after q) (rw (b .free) at (r .write)));
-          read = rw (reading, place, more-reads) (begun-own (t .reads) (readsOf t) q mask (stepOf t + 1) record-room (recordOf t q) (rw (b .free) at (r .read)));
-        }
-
-    begun-other-records : (p : ℕ) → p < clientsOf t → (p ≡ q → ⊥) → RecordsFacts after p
-    begun-other-records p h d =
-        let r = s .records p h in
-        let st : stateOf after p ≡ stateOf t p = m .row p 0 d (omega arith) in
-        let pl : recordOf after p ≡ recordOf t p = m .row p 4 d (omega arith) in
-        record {
-          write = rw (st, pl, same-writes) (r .write);
-          read = rw (st, pl, more-reads) (begun-others (t .reads) (readsOf t) q mask (stepOf t + 1) record-room p (recordOf t p) d (isReading (stateOf t p)) (r .read));
+          write = rw same-writes (records-idle isWriting q t after (t .writes) (writesOf t) (λ x d. m .row x 0 d (omega arith)) (λ x d. m .row x 4 d (omega arith)) (λ x g. s .records x g .write) (rw (b .free)) writes p h);
+          read = rw more-reads (records-begun isReading q t after (t .reads) (readsOf t) (λ x d. m .row x 0 d (omega arith)) (λ x d. m .row x 4 d (omega arith)) (λ x g. s .records x g .read) mask (stepOf t + 1) record-room (rw (b .free)) reading place p h);
         }
 
     begun-kept : Kept q t after
@@ -124,7 +113,7 @@ module _ (q mask : ℕ) (puts : List Put) (links′ : List ℕ) (t : Tables) (s 
           counts = begun-sum;
           write = λ n h. write-kept t after num n refl refl (rw (same-entries q t after m) (s .write n (rw same-writes at h) .tag)) (s .write n (rw same-writes at h));
           read = λ n h. begun-record n (rw more-reads at h);
-          records = λ p h. by-equal p q (λ e. rw e begun-own-records) (λ d. begun-other-records p h d);
+          records = begun-records;
         })
 
 -- the words put into the row, by the state that the method begins with

@@ -17,7 +17,7 @@ use Rattle.tables.specs.Links.{targets, linkWidth}
 use Rattle.tables.specs.Tables.{Tables, tablesOf, methodOf, serversOf, clientsOf, stepOf, writesOf, readsOf, stateOf, countOf, maskOf, recordOf, receivedOf}
 use Rattle.rules.specs.Common.{idle, writing, request, begunCounts, begunRecords}
 use Rattle.rules.specs.Begin.{nextCount, storedSetpoints, sentSets, begunWrite}
-use Rattle.soundness.specs.Sound.{isWriting, uses, sound}
+use Rattle.soundness.specs.Sound.{isWriting, isReading, uses}
 use Rattle.soundness.specs.Facts.{ClientFacts, WriteFacts, RecordsFacts, Sound}
 use Rattle.store.specs.Refusals.{writeRefusal, atLastStep}
 use Rattle.keeping.specs.Accepted.{Beginnable, writable}
@@ -25,7 +25,7 @@ use Rattle.keeping.specs.Links.{linkWord}
 use Rattle.keeping.specs.States.{masked-below, key-own, not-all, received-none, allowed-writing, uses-writing, request-writing}
 use Rattle.keeping.specs.Frame.{Kept, write-kept, read-kept}
 use Rattle.keeping.specs.Moves.{Moves, moves-numbers, same-entries, moved-kept}
-use Rattle.keeping.specs.Records.{begun-word, begun-here, begun-places, begun-others, begun-own, open-idle}
+use Rattle.keeping.specs.Records.{begun-word, begun-here, begun-places, records-begun, records-idle}
 use Rattle.keeping.specs.Rows.{put, Put, putAll, lastPut, put-read, put-before, put-elsewhere, put-length, loop-other, loop-length}
 use Rattle.keeping.specs.Rounds.{Sent, sent-client, idle-empty, sent-there, sent-not, sent-others, sent-length}
 use Rattle.keeping.specs.Begins.{begun-other, begun-more, begun-step, begun-length}
@@ -66,22 +66,11 @@ module _ (q mask : ℕ) (clients′ links′ : List ℕ) (t : Tables) (s : Sound
         (λ d. let l : n < writesOf t = omega arith in
         write-kept t wrote num n (kept 0 (omega arith) d) (kept 1 (omega arith) d) (rw (kept 2 (omega arith) d, same-entries q t wrote m) (s .write n l .tag)) (s .write n l))
 
-    wrote-own : RecordsFacts wrote q
-    wrote-own =
-        let r = s .records q (b .client) in
+    wrote-records : (p : ℕ) → p < clientsOf t → RecordsFacts wrote p
+    wrote-records p h =
         record {
-          write = rw (state, place, more-writes) (begun-own (t .writes) (writesOf t) q (nextCount t q) (stepOf t + 1) record-room (recordOf t q) (rw (b .free) at (r .write)));
-          read = rw (state, same-reads) (open-idle (t .reads) (readsOf t) q (recordOf t q) (recordOf wrote q) (rw (b .free) at (r .read)));
-        }
-
-    wrote-other : (p : ℕ) → p < clientsOf t → (p ≡ q → ⊥) → RecordsFacts wrote p
-    wrote-other p h d =
-        let r = s .records p h in
-        let st : stateOf wrote p ≡ stateOf t p = m .row p 0 d (omega arith) in
-        let pl : recordOf wrote p ≡ recordOf t p = m .row p 4 d (omega arith) in
-        record {
-          write = rw (st, pl, more-writes) (begun-others (t .writes) (writesOf t) q (nextCount t q) (stepOf t + 1) record-room p (recordOf t p) d (isWriting (stateOf t p)) (r .write));
-          read = rw (st, pl, same-reads) (r .read);
+          write = rw more-writes (records-begun isWriting q t wrote (t .writes) (writesOf t) (λ x d. m .row x 0 d (omega arith)) (λ x d. m .row x 4 d (omega arith)) (λ x g. s .records x g .write) (nextCount t q) (stepOf t + 1) record-room (rw (b .free)) (rw state) place p h);
+          read = rw same-reads (records-idle isReading q t wrote (t .reads) (readsOf t) (λ x d. m .row x 0 d (omega arith)) (λ x d. m .row x 4 d (omega arith)) (λ x g. s .records x g .read) (rw (b .free)) (rw state) p h);
         }
 
     wrote-kept : Kept q t wrote
@@ -95,7 +84,7 @@ module _ (q mask : ℕ) (clients′ links′ : List ℕ) (t : Tables) (s : Sound
           counts = wrote-sum;
           write = λ n h. wrote-record n (rw more-writes at h);
           read = λ n h. read-kept t wrote num n refl refl (rw (same-entries q t wrote m) (s .read n (rw same-reads at h) .tag)) (s .read n (rw same-reads at h));
-          records = λ p h. by-equal p q (λ e. rw e wrote-own) (λ d. wrote-other p h d);
+          records = wrote-records;
         })
 
 -- "Begin a WRITE: next count; a request to each masked station; state 1."

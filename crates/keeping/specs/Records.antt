@@ -11,6 +11,7 @@ use Rattle.ranges.specs.Tests.{by-test, by-equal, both, both-left, both-right, 
 use Rattle.ranges.specs.Sum.{sumBelow, countBelow, one, sum-same, sum-set, sum-more, one-true, one-false}
 use Rattle.tables.specs.Rows.{HasRow, row-same, row-other, row-length, word-same, word-other}
 use Rattle.tables.specs.Layout.{recordWidth, recordWord, putRecordWord, putBegun, clientOfRecord, numberOfRecord, tagOfRecord, beginOfRecord, endOfRecord}
+use Rattle.tables.specs.Tables.{Tables, clientsOf, stateOf, recordOf}
 use Rattle.rules.specs.Common.{endedRecord, taggedRecord}
 use Rattle.soundness.specs.Sound.{isOpen, openSound}
 
@@ -168,3 +169,36 @@ module _ (records : List ℕ) (begun q number step : ℕ) where
     begun-own place e =
         open-own records (putBegun records begun q number step) begun q place (begun-open q)
         (rw (begun-here clientOfRecord (omega arith) r, begun-here endOfRecord (omega arith) r, eq-eqb q q refl)) e
+
+-- Over all clients, for one kind of transaction: `kind` tells the states that do it. A step of client q leaves the others their states and places.
+module _ (kind : ℕ → Bool) (q : ℕ) (t t′ : Tables) (records : List ℕ) (begun : ℕ)
+    (state : (p : ℕ) → (p ≡ q → ⊥) → stateOf t′ p ≡ stateOf t p) (place : (p : ℕ) → (p ≡ q → ⊥) → recordOf t′ p ≡ recordOf t p)
+    (before : (p : ℕ) → p < clientsOf t → openSound (kind (stateOf t p)) records begun p (recordOf t p) ≡ true) where
+  abbrev Records : List ℕ → ℕ → Type 0
+  Records records′ begun′ = (p : ℕ) → p < clientsOf t → openSound (kind (stateOf t′ p)) records′ begun′ p (recordOf t′ p) ≡ true
+
+  -- the client goes on as before
+  pub records-same : kind (stateOf t′ q) ≡ kind (stateOf t q) → recordOf t′ q ≡ recordOf t q → Records records begun
+  records-same k l p h = by-equal p q (λ e. rw (e, k, l) (before q (rw e at h))) (λ d. rw (state p d, place p d) (before p h))
+
+  -- the client did nothing of the kind, and does nothing of it now
+  pub records-idle : kind (stateOf t q) ≡ false → kind (stateOf t′ q) ≡ false → Records records begun
+  records-idle k l p h =
+      by-equal p q
+      (λ e. rw (e, l) (open-idle records begun q (recordOf t q) (recordOf t′ q) (rw k at (before q (rw e at h)))))
+      (λ d. rw (state p d, place p d) (before p h))
+
+  -- the client begins one
+  pub records-begun : (number step : ℕ) → HasRow recordWidth records begun → kind (stateOf t q) ≡ false → kind (stateOf t′ q) ≡ true → recordOf t′ q ≡ begun → Records (putBegun records begun q number step) (begun + 1)
+  records-begun number step room k l here p h =
+      by-equal p q
+      (λ e. rw (e, l, here) (begun-own records begun q number step room (recordOf t q) (rw k at (before q (rw e at h)))))
+      (λ d. rw (state p d, place p d) (begun-others records begun q number step room p (recordOf t p) d (kind (stateOf t p)) (before p h)))
+
+  -- the client ends its own
+  pub records-ended : (step : ℕ) → Doing records begun q (recordOf t q) → HasRow recordWidth records (recordOf t q) → 0 < step → kind (stateOf t′ q) ≡ false → Records (endedRecord (recordOf t q) step records) begun
+  records-ended step own room late l p h =
+      by-equal p q
+      (λ e. rw (e, l) (ended-own records (recordOf t q) step begun q own (recordOf t′ q) room late))
+      (λ d. rw (state p d, place p d)
+      (open-kept records (endedRecord (recordOf t q) step records) begun p (recordOf t p) (λ n g. ended-others records (recordOf t q) step begun q own p n d) (kind (stateOf t p)) (before p h)))

@@ -8,16 +8,16 @@ use lib.ListN.{length, length-set}
 use Rattle.ranges.specs.Tests.{by-equal}
 use Rattle.ranges.specs.Sum.{sumBelow, sum-same}
 use Rattle.tables.specs.Rows.{HasRow}
-use Rattle.tables.specs.Layout.{writesField, readsField, clientWidth, clientWord, recordWidth, recordWord, clientOfRecord, numberOfRecord, tagOfRecord, endOfRecord}
+use Rattle.tables.specs.Layout.{writesField, readsField, stateField, recordField, clientWidth, clientWord, recordWidth, recordWord, clientOfRecord, numberOfRecord, tagOfRecord, endOfRecord}
 use Rattle.tables.specs.Links.{targets, linkWidth}
 use Rattle.tables.specs.Tables.{Tables, tablesOf, clientsOf, stepOf, entriesOf, writesOf, readsOf, stateOf, countOf, recordOf}
 use Rattle.rules.specs.Common.{idle, nextStep, counted, endedRecord, taggedRecord}
-use Rattle.soundness.specs.Sound.{isWriting, isReading, isOpen}
+use Rattle.soundness.specs.Sound.{isWriting, isReading, openSound}
 use Rattle.soundness.specs.Facts.{ClientFacts, WriteFacts, ReadFacts, RecordsFacts, Sound}
 use Rattle.keeping.specs.Links.{linkWord}
 use Rattle.keeping.specs.Frame.{Kept, write-kept, read-kept}
 use Rattle.keeping.specs.Moves.{Moves, moves-numbers, same-entries, moved-kept, counted-other, counted-step, counted-length}
-use Rattle.keeping.specs.Records.{Doing, doing-facts, open-kept, open-idle, tagged-word, tagged-other, tagged-here, tagged-open, ended-word, ended-others, ended-own}
+use Rattle.keeping.specs.Records.{Doing, doing-facts, open-kept, tagged-word, tagged-other, tagged-here, tagged-open, ended-word, records-same, records-idle, records-ended}
 
 abbrev pub repliedTables : List ℕ → List ℕ → List ℕ → List ℕ → Tables → Tables
 repliedTables clients′ links′ writes′ reads′ t = tablesOf (counted (t .counts)) clients′ links′ (t .keys) (t .values) (t .log) writes′ reads′
@@ -28,6 +28,14 @@ pub record Moving (q : ℕ) (clients′ links′ : List ℕ) (t : Tables) : Type
   pub link : (p i f : ℕ) → (p ≡ q → ⊥) → i < targets → f < linkWidth → linkWord links′ p i f ≡ linkWord (t .links) p i f
   pub clients : length clients′ ≡ length (t .clients)
   pub links : length links′ ≡ length (t .links)
+
+-- the others stay in their states, and their records at their places
+module _ {q : ℕ} {clients′ links′ : List ℕ} {t : Tables} (v : Moving q clients′ links′ t) where
+  state-stays : (p : ℕ) → (p ≡ q → ⊥) → clientWord clients′ p stateField ≡ stateOf t p
+  state-stays p d = v .row p stateField d (omega arith)
+
+  place-stays : (p : ℕ) → (p ≡ q → ⊥) → clientWord clients′ p recordField ≡ recordOf t p
+  place-stays p d = v .row p recordField d (omega arith)
 
 module _ (q : ℕ) (clients′ links′ writes′ reads′ : List ℕ) (t : Tables) (s : Sound t) (client : q < clientsOf t) (early : stepOf t < 4294967295)
     (v : Moving q clients′ links′ t) (writes-long : length writes′ ≡ length (t .writes)) (reads-long : length reads′ ≡ length (t .reads)) where
@@ -52,8 +60,11 @@ module _ (q : ℕ) (clients′ links′ writes′ reads′ : List ℕ) (t : Tabl
   same-reads : readsOf after ≡ readsOf t
   same-reads = counted-other (t .counts) readsField (λ e. omega arith)
 
-  replied-kept : countOf after q ≡ countOf t q → ClientFacts after q → ((n : ℕ) → n < writesOf t → WriteFacts after n) → ((n : ℕ) → n < readsOf t → ReadFacts after n) → ((p : ℕ) → p < clientsOf t → RecordsFacts after p) → Kept q t after
-  replied-kept count c w r o =
+  replied-kept : countOf after q ≡ countOf t q → ClientFacts after q → ((n : ℕ) → n < writesOf t → WriteFacts after n) → ((n : ℕ) → n < readsOf t → ReadFacts after n)
+      → ((p : ℕ) → p < clientsOf t → openSound (isWriting (stateOf after p)) writes′ (writesOf t) p (recordOf after p) ≡ true)
+      → ((p : ℕ) → p < clientsOf t → openSound (isReading (stateOf after p)) reads′ (readsOf t) p (recordOf after p) ≡ true)
+      → Kept q t after
+  replied-kept count c w r x y =
       moved-kept q t after s replied-moves (record {
         step = rw (counted-step (t .counts) (s .long .counts)) (record { least = omega arith; most = omega arith });
         writes = rw same-writes (s .scalars .writes);
@@ -62,7 +73,7 @@ module _ (q : ℕ) (clients′ links′ writes′ reads′ : List ℕ) (t : Tabl
         counts = rw same-writes (sum-same (countOf after) (countOf t) (clientsOf t) (λ p h. by-equal p q (λ e. rw e count) (λ d. v .row p 1 d (omega arith))) ∙ s .counts);
         write = λ n h. w n (rw same-writes at h);
         read = λ n h. r n (rw same-reads at h);
-        records = o;
+        records = λ p h. record { write = rw same-writes (x p h); read = rw same-reads (y p h) };
       })
 
   -- records that stay are as sound as before
@@ -71,17 +82,6 @@ module _ (q : ℕ) (clients′ links′ writes′ reads′ : List ℕ) (t : Tabl
 
   read-stays : reads′ ≡ t .reads → (n : ℕ) → n < readsOf t → ReadFacts after n
   read-stays e n h = read-kept t after (moves-numbers q t after replied-moves) n (rw e) (rw e) (rw (e, same-entries q t after replied-moves) (s .read n h .tag)) (s .read n h)
-
-  -- for each other client no record in progress came or went
-  others-stay : ((p n : ℕ) → (p ≡ q → ⊥) → isOpen writes′ p n ≡ isOpen (t .writes) p n) → ((p n : ℕ) → (p ≡ q → ⊥) → isOpen reads′ p n ≡ isOpen (t .reads) p n) → (p : ℕ) → p < clientsOf t → (p ≡ q → ⊥) → RecordsFacts after p
-  others-stay w r p h d =
-      let o = s .records p h in
-      let st : stateOf after p ≡ stateOf t p = v .row p 0 d (omega arith) in
-      let pl : recordOf after p ≡ recordOf t p = v .row p 4 d (omega arith) in
-      record {
-        write = rw (st, pl, same-writes) (open-kept (t .writes) writes′ (writesOf t) p (recordOf t p) (λ n l. w p n d) (isWriting (stateOf t p)) (o .write));
-        read = rw (st, pl, same-reads) (open-kept (t .reads) reads′ (readsOf t) p (recordOf t p) (λ n l. r p n d) (isReading (stateOf t p)) (o .read));
-      }
 
 -- No record ends: the client goes on with what it is doing.
 module _ (q : ℕ) (clients′ links′ : List ℕ) (t : Tables) (s : Sound t) (client : q < clientsOf t) (early : stepOf t < 4294967295) (v : Moving q clients′ links′ t) where
@@ -93,16 +93,11 @@ module _ (q : ℕ) (clients′ links′ : List ℕ) (t : Tables) (s : Sound t) (
 
   pub going-kept : isWriting (stateOf going q) ≡ isWriting (stateOf t q) → isReading (stateOf going q) ≡ isReading (stateOf t q) → countOf going q ≡ countOf t q → recordOf going q ≡ recordOf t q → ClientFacts going q → Kept q t going
   going-kept w r count place c =
-      let o = s .records q client in
       replied-kept q clients′ links′ (t .writes) (t .reads) t s client early v refl refl count c
       (write-stays q clients′ links′ (t .writes) (t .reads) t s client early v refl refl refl)
       (read-stays q clients′ links′ (t .writes) (t .reads) t s client early v refl refl refl)
-      (λ p h. by-equal p q
-      (λ e. rw e (record {
-        write = rw (w, place, counted-other (t .counts) writesField (λ z. omega arith)) (o .write);
-        read = rw (r, place, counted-other (t .counts) readsField (λ z. omega arith)) (o .read);
-      }))
-      (λ d. others-stay q clients′ links′ (t .writes) (t .reads) t s client early v refl refl (λ x n y. refl) (λ x n y. refl) p h d))
+      (records-same isWriting q t going (t .writes) (writesOf t) (state-stays v) (place-stays v) (λ x g. s .records x g .write) w place)
+      (records-same isReading q t going (t .reads) (readsOf t) (state-stays v) (place-stays v) (λ x g. s .records x g .read) r place)
 
 -- "The tag's arrival ends the WRITE": its record gets its end, and the client is idle.
 module _ (q : ℕ) (clients′ links′ : List ℕ) (t : Tables) (s : Sound t) (client : q < clientsOf t) (early : stepOf t < 4294967295) (v : Moving q clients′ links′ t)
@@ -136,12 +131,8 @@ module _ (q : ℕ) (clients′ links′ : List ℕ) (t : Tables) (s : Sound t) (
       replied-kept q clients′ links′ wrote′ (t .reads) t s client early v wrote-long refl count c
       ended-record
       (read-stays q clients′ links′ wrote′ (t .reads) t s client early v wrote-long refl refl)
-      (λ p h. by-equal p q
-      (λ e. rw e (record {
-        write = rw (state, counted-other (t .counts) writesField (λ z. omega arith)) (ended-own (t .writes) (recordOf t q) (nextStep t) (writesOf t) q doing-write (recordOf ended q) write-room (omega arith));
-        read = rw (state, counted-other (t .counts) readsField (λ z. omega arith)) (open-idle (t .reads) (readsOf t) q (recordOf t q) (recordOf ended q) (rw not-other at (s .records q client .read)));
-      }))
-      (λ d. others-stay q clients′ links′ wrote′ (t .reads) t s client early v wrote-long refl (λ x n y. ended-others (t .writes) (recordOf t q) (nextStep t) (writesOf t) q doing-write x n y) (λ x n y. refl) p h d))
+      (records-ended isWriting q t ended (t .writes) (writesOf t) (state-stays v) (place-stays v) (λ x g. s .records x g .write) (nextStep t) doing-write write-room (omega arith) (rw state))
+      (records-idle isReading q t ended (t .reads) (readsOf t) (state-stays v) (place-stays v) (λ x g. s .records x g .read) not-other (rw state))
 
 -- A READ ends: its record gets its tag and its end, and the client is idle.
 module _ (q tag : ℕ) (clients′ links′ : List ℕ) (t : Tables) (s : Sound t) (client : q < clientsOf t) (early : stepOf t < 4294967295) (v : Moving q clients′ links′ t)
@@ -161,8 +152,12 @@ module _ (q tag : ℕ) (clients′ links′ : List ℕ) (t : Tables) (s : Sound 
   abbrev finished : Tables
   finished = repliedTables clients′ links′ (t .writes) read′ t
 
+  -- the tag leaves every record in progress
+  tagged-before : (p : ℕ) → p < clientsOf t → openSound (isReading (stateOf t p)) tagged′ (readsOf t) p (recordOf t p) ≡ true
+  tagged-before p h = open-kept (t .reads) tagged′ (readsOf t) p (recordOf t p) (λ n l. tagged-open (t .reads) (recordOf t q) tag p n) (isReading (stateOf t p)) (s .records p h .read)
+
   doing-read : Doing tagged′ (readsOf t) q (recordOf t q)
-  doing-read = doing-facts tagged′ (readsOf t) q (recordOf t q) (open-kept (t .reads) tagged′ (readsOf t) q (recordOf t q) (λ n l. tagged-open (t .reads) (recordOf t q) tag q n) true (rw was at (s .records q client .read)))
+  doing-read = doing-facts tagged′ (readsOf t) q (recordOf t q) (rw was at (tagged-before q client))
 
   read-room : HasRow recordWidth (t .reads) (recordOf t q)
   read-room = omega (arith, doing-read .within, s .scalars .reads, s .long .reads)
@@ -191,10 +186,5 @@ module _ (q tag : ℕ) (clients′ links′ : List ℕ) (t : Tables) (s : Sound 
       replied-kept q clients′ links′ (t .writes) read′ t s client early v refl read-long count c
       (write-stays q clients′ links′ (t .writes) read′ t s client early v refl read-long refl)
       finished-record
-      (λ p h. by-equal p q
-      (λ e. rw e (record {
-        write = rw (state, counted-other (t .counts) writesField (λ z. omega arith)) (open-idle (t .writes) (writesOf t) q (recordOf t q) (recordOf finished q) (rw not-other at (s .records q client .write)));
-        read = rw (state, counted-other (t .counts) readsField (λ z. omega arith)) (ended-own tagged′ (recordOf t q) (nextStep t) (readsOf t) q doing-read (recordOf finished q) (rw tagged-long read-room) (omega arith));
-      }))
-      (λ d. others-stay q clients′ links′ (t .writes) read′ t s client early v refl read-long (λ x n y. refl)
-      (λ x n y. ended-others tagged′ (recordOf t q) (nextStep t) (readsOf t) q doing-read x n y ∙ tagged-open (t .reads) (recordOf t q) tag x n) p h d))
+      (records-idle isWriting q t finished (t .writes) (writesOf t) (state-stays v) (place-stays v) (λ x g. s .records x g .write) not-other (rw state))
+      (records-ended isReading q t finished tagged′ (readsOf t) (state-stays v) (place-stays v) tagged-before (nextStep t) doing-read (rw tagged-long read-room) (omega arith) (rw state))
