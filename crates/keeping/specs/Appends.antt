@@ -1,25 +1,24 @@
 -- What a delivered request appends, a version or a log entry, keeps sound tables sound.
-use Prim.Native.Nat.{ℕ, zero, suc, _+_, _*_, _≤_, _<_}
-use mathlib.Core.Path.{_≡_, refl, sym, _∙_, ap}
-use mathlib.Core.Bool.{Bool, true, false}
+use Prim.Native.Nat.{ℕ, _+_, _*_, _≤_, _<_}
+use mathlib.Core.Path.{_≡_, refl}
+use mathlib.Core.Bool.{true}
 use mathlib.Core.List.{List, [], _∷_}
 use native.Mathlib.Omega.{arith}
-use lib.ListN.{getD, set, length, length-set}
+use lib.ListN.{set, length-set}
 use lib.Seq.{getD-set-same, getD-set-other}
 use Rattle.ranges.specs.Tests.{by-equal}
 use Rattle.keys.specs.declared.Key.{Key}
 use Rattle.keys.specs.Keys.{keyWord}
 use Rattle.keys.specs.Masks.{Within}
-use Rattle.tables.specs.Rows.{wordAt, HasRow, word-same, word-other, word-length, row-same, row-other, row-length}
-use Rattle.tables.specs.Layout.{countWords, countAt, entriesField, heldField, serverPlaces, logPlaces, versionWord, entryWidth, recordWidth, recordWord, clientOfRecord, numberOfRecord, tagOfRecord, putEntry}
+use Rattle.tables.specs.Rows.{HasRow, word-same, word-other, row-same, row-other, row-length}
+use Rattle.tables.specs.Layout.{countAt, entriesField, heldField, serverPlaces, logPlaces, versionWord, entryWidth, recordWord, clientOfRecord, numberOfRecord, tagOfRecord, putEntry}
 use Rattle.tables.specs.Tables.{Tables, serversOf, clientsOf, stepOf, entriesOf, writesOf, heldOf, recordOf}
 use Rattle.server.specs.Held.{stored}
 use Rattle.coordinator.specs.Log.{enterLeft}
-use Rattle.rules.specs.Common.{taggedRecord}
 use Rattle.rules.specs.Request.{storedBy, enteredBy}
 use Rattle.soundness.specs.Sound.{keyInRange}
 use Rattle.soundness.specs.Facts.{EntryFacts, WriteFacts, Sound}
-use Rattle.keeping.specs.Frame.{Numbers, Lengths, Grows, Kept, kept, client-kept, write-kept, read-kept}
+use Rattle.keeping.specs.Frame.{Numbers, Grows, Kept, kept, client-kept, write-kept, read-kept}
 use Rattle.keeping.specs.Records.{tagged-word, tagged-other, tagged-here, tagged-open, open-kept}
 
 -- a version behind those that server i holds

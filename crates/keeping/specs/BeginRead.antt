@@ -1,26 +1,26 @@
 -- An accepted begin of a READ keeps sound tables sound, by each method: the client sends a round, and its record stands in the next place.
-use Prim.Native.Nat.{ℕ, _+_, _*_, _-_, _≤_, _<_}
+use Prim.Native.Nat.{ℕ, _+_, _*_, _≤_, _<_}
 use mathlib.Core.Path.{_≡_, refl, sym, _∙_}
-use mathlib.Core.Bool.{Bool, true, false, cond, not, _&&_, _||_, or-true, or-false}
+use mathlib.Core.Bool.{true, false, not, _&&_, _||_, or-true, or-false}
 use mathlib.Core.List.{List, [], _∷_}
 use native.Mathlib.Omega.{arith}
-use lib.ListN.{getD, length}
-use lib.Dec.{eqb, leb}
-use borrow.Author.Tests.{eq-eqb, ne-eqb, eqb-true, eqb-false, leb-false}
-use Rattle.ranges.specs.Tests.{by-test, by-equal}
+use lib.ListN.{length}
+use lib.Dec.{eqb}
+use borrow.Author.Tests.{eq-eqb, ne-eqb, eqb-true, eqb-false}
+use Rattle.ranges.specs.Tests.{by-equal}
 use Rattle.ranges.specs.Sum.{sumBelow, sum-same}
 use Rattle.keys.specs.Keys.{opening}
-use Rattle.keys.specs.Masks.{hasServer, maskWithin, within-true, some-server}
+use Rattle.keys.specs.Masks.{hasServer}
 use Rattle.coordinator.specs.Latest.{latestKey}
 use Rattle.tables.specs.Rows.{HasRow}
 use Rattle.tables.specs.Layout.{writesField, readsField, clientWidth, clientWord, recordPlaces, recordWidth}
-use Rattle.tables.specs.Links.{targets, linkWidth, linkRow, putLink, link-length}
-use Rattle.tables.specs.Tables.{Tables, tablesOf, methodOf, serversOf, clientsOf, stepOf, entriesOf, writesOf, readsOf, stateOf, countOf, maskOf, tagOf, recordOf, receivedOf}
-use Rattle.rules.specs.Common.{idle, askingKeys, askingSetpoints, askingAll, coordinator, request, begunCounts, begunRecords}
-use Rattle.rules.specs.Begin.{lastTag, sentGets, sendAsk, sentAsks, askingBy, asking, begunReadWith, begunRead}
+use Rattle.tables.specs.Links.{targets, linkWidth, link-length}
+use Rattle.tables.specs.Tables.{Tables, methodOf, serversOf, clientsOf, stepOf, entriesOf, writesOf, readsOf, stateOf, countOf, maskOf, recordOf, receivedOf}
+use Rattle.rules.specs.Common.{askingKeys, askingSetpoints, askingAll, coordinator, request}
+use Rattle.rules.specs.Begin.{lastTag, sentGets, sendAsk, sentAsks, asking, begunReadWith, begunRead}
 use Rattle.soundness.specs.Sound.{isWriting, isReading, uses, sound}
 use Rattle.soundness.specs.Facts.{ClientFacts, ReadFacts, RecordsFacts, Sound}
-use Rattle.store.specs.Refusals.{readRefusal, atLastStep}
+use Rattle.store.specs.Refusals.{readRefusal}
 use Rattle.keeping.specs.Accepted.{neither, Beginnable, readable}
 use Rattle.keeping.specs.Links.{linkWord, put-same, put-other, put-beside}
 use Rattle.keeping.specs.States.{masked-below, not-all, received-none, allowed-by-A, allowed-by-B, allowed-by-C, uses-keys, uses-all, request-keys, request-all}

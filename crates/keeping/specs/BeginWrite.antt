@@ -1,25 +1,24 @@
 -- An accepted begin of a WRITE keeps sound tables sound: the client sends a round, and its record stands in the next place.
 use Prim.Native.Nat.{ℕ, _+_, _*_, _≤_, _<_}
 use mathlib.Core.Path.{_≡_, refl, sym, _∙_}
-use mathlib.Core.Bool.{Bool, true, false, cond, not, _&&_, _||_}
+use mathlib.Core.Bool.{true, false, _&&_}
 use mathlib.Core.List.{List, [], _∷_}
 use native.Mathlib.Omega.{arith}
 use lib.ListN.{getD, length}
-use lib.Dec.{eqb, leb}
-use borrow.Author.Tests.{eqb-true, leb-false}
-use Rattle.ranges.specs.Tests.{by-equal, both-left}
+use lib.Dec.{eqb}
+use Rattle.ranges.specs.Tests.{by-equal}
 use Rattle.ranges.specs.Sum.{sumBelow, sum-set, sum-part}
 use Rattle.keys.specs.Keys.{keyOf, keyWord}
-use Rattle.keys.specs.Masks.{hasServer, maskWithin, within-true, some-server}
+use Rattle.keys.specs.Masks.{hasServer, some-server}
 use Rattle.tables.specs.Rows.{HasRow}
 use Rattle.tables.specs.Layout.{writesField, readsField, clientWidth, clientWord, recordPlaces, recordWidth}
 use Rattle.tables.specs.Links.{targets, linkWidth}
 use Rattle.tables.specs.Tables.{Tables, tablesOf, methodOf, serversOf, clientsOf, stepOf, writesOf, readsOf, stateOf, countOf, maskOf, recordOf, receivedOf}
-use Rattle.rules.specs.Common.{idle, writing, request, begunCounts, begunRecords}
+use Rattle.rules.specs.Common.{writing, request, begunCounts, begunRecords}
 use Rattle.rules.specs.Begin.{nextCount, storedSetpoints, sentSets, begunWrite}
 use Rattle.soundness.specs.Sound.{isWriting, isReading, uses}
 use Rattle.soundness.specs.Facts.{ClientFacts, WriteFacts, RecordsFacts, Sound}
-use Rattle.store.specs.Refusals.{writeRefusal, atLastStep}
+use Rattle.store.specs.Refusals.{writeRefusal}
 use Rattle.keeping.specs.Accepted.{Beginnable, writable}
 use Rattle.keeping.specs.Links.{linkWord}
 use Rattle.keeping.specs.States.{masked-below, key-own, not-all, received-none, allowed-writing, uses-writing, request-writing}

@@ -5,10 +5,8 @@ use mathlib.Core.List.{List}
 use native.Mathlib.Omega.{arith}
 use lib.ListN.{set, length, length-set}
 use lib.Seq.{getD-set-same, getD-set-other}
-use Rattle.keys.specs.Masks.{Within}
 use Rattle.tables.specs.Layout.{countWords, countAt, stepField}
-use Rattle.tables.specs.Tables.{Tables, serversOf, clientsOf, stepOf, stateOf}
-use Rattle.rules.specs.Common.{idle, begunCounts}
+use Rattle.rules.specs.Common.{begunCounts}
 
 -- one transaction and one step more: the other counts stay
 module _ (field : ℕ) (counts : List ℕ) (long : countWords ≤ length counts) (within : field < countWords) (apart : field ≡ stepField → ⊥) where

@@ -1,24 +1,22 @@
 -- What a step of one client leaves to the others. A client's part of soundness mentions the rest only through numbers that grow
 -- (the log's entries, the versions held), so one law carries every other client over a step.
-use Prim.Native.Nat.{ℕ, _+_, _*_, _^_, _≤_, _<_}
-use mathlib.Core.Path.{_≡_, refl, sym, _∙_, ap}
-use mathlib.Core.Bool.{Bool, true, false, cond, not, _&&_, _||_}
-use mathlib.Core.List.{List, [], _∷_}
+use Prim.Native.Nat.{ℕ, _≤_, _<_}
+use mathlib.Core.Path.{_≡_, refl, sym, _∙_}
+use mathlib.Core.Bool.{Bool, true, false, cond, _&&_, _||_}
 use native.Mathlib.Omega.{arith}
 use lib.ListN.{length}
 use lib.Dec.{eqb, leb, ltb}
 use borrow.Author.Tests.{eq-eqb, ne-eqb, ltb-true, ltb-false, lt-ltb}
 use Rattle.ranges.specs.Tests.{by-test, by-equal, both, both-left, both-right}
 use Rattle.ranges.specs.Sum.{sumBelow}
-use Rattle.keys.specs.Masks.{Within}
 use Rattle.tables.specs.Rows.{wordAt}
-use Rattle.tables.specs.Layout.{clientWidth, clientWord, serverPlaces, logPlaces, recordPlaces, entryWidth, versionWord, entryMask, recordWord, clientOfRecord, numberOfRecord, tagOfRecord}
-use Rattle.tables.specs.Links.{targets, linkWidth, linkAt, isEmpty}
-use Rattle.tables.specs.Tables.{Tables, methodOf, serversOf, clientsOf, stepOf, entriesOf, writesOf, readsOf, heldOf, stateOf, countOf, maskOf, tagOf, recordOf, receivedOf, contentAt}
-use Rattle.rules.specs.Common.{idle, writing, entering, askingKeys, askingSetpoints, askingAll, coordinator, pending}
-use Rattle.soundness.specs.Sound.{between, uses, holding, keyOn, keyInRange, requestSound, replySound, receivedSound, stateAllowed, isWriting}
-use Rattle.soundness.specs.Facts.{Between, between-facts, facts-between, Long, Press, Scalars, ServerFacts, EntryFacts, LogFacts, LinkFacts, ClientFacts, WriteFacts, ReadFacts, RecordsFacts, Sound}
-use Rattle.keeping.specs.Links.{linkWord, kindOn, numberOn, empty-same-words, pending-same, LinkAsks, link-asks, asks-link}
+use Rattle.tables.specs.Layout.{clientWidth, clientWord, serverPlaces, logPlaces, recordPlaces, entryWidth, versionWord, recordWord, clientOfRecord, numberOfRecord, tagOfRecord}
+use Rattle.tables.specs.Links.{targets, linkWidth, isEmpty}
+use Rattle.tables.specs.Tables.{Tables, methodOf, serversOf, clientsOf, stepOf, entriesOf, writesOf, readsOf, heldOf, stateOf, countOf, maskOf, tagOf, receivedOf, contentAt}
+use Rattle.rules.specs.Common.{entering, askingKeys, askingAll, coordinator}
+use Rattle.soundness.specs.Sound.{between, uses, holding, keyInRange, requestSound, replySound, receivedSound}
+use Rattle.soundness.specs.Facts.{Between, between-facts, facts-between, Long, Press, ServerFacts, EntryFacts, LogFacts, LinkFacts, ClientFacts, WriteFacts, ReadFacts, RecordsFacts, Sound}
+use Rattle.keeping.specs.Links.{linkWord, empty-same-words, pending-same, link-asks, asks-link}
 
 -- The press stays; the log and the servers' versions only grow in number.
 pub record Numbers (t t′ : Tables) : Type 0 where

@@ -15,5 +15,11 @@ pub mod BeginWrite
 pub mod Gets
 pub mod BeginRead
 pub mod Replied
+pub mod Came
+pub mod OnSetDone
+pub mod OnEntered
+pub mod OnKeys
+pub mod OnGot
+pub mod OnAll
 pub mod Replies
 pub mod Steps

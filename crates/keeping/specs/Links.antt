@@ -1,17 +1,14 @@
 -- A link by its three words: what it holds, what soundness asks of it, and what a put leaves.
-use Prim.Native.Nat.{ℕ, _+_, _*_, _≤_, _<_}
+use Prim.Native.Nat.{ℕ, _≤_, _<_}
 use mathlib.Core.Path.{_≡_, refl, sym, _∙_, ap}
-use mathlib.Core.Bool.{Bool, true, false, cond, not, _&&_, _||_, true≢false}
-use mathlib.Core.List.{List, [], _∷_}
+use mathlib.Core.Bool.{Bool, true, false, not, _&&_}
+use mathlib.Core.List.{List}
 use native.Mathlib.Omega.{arith}
 use lib.ListN.{getD, length}
-use lib.Dec.{eqb, leb, ltb}
-use borrow.Author.Tests.{eq-eqb, ne-eqb, eqb-true, eqb-false, not-true, not-false}
-use Rattle.ranges.specs.Tests.{by-test, by-equal, both, both-left, both-right, not-both}
-use Rattle.ranges.specs.All.{anyBelow, any-at, any-same}
-use Rattle.keys.specs.Keys.{keyWord}
-use Rattle.tables.specs.Rows.{wordAt, HasRow, place-one, row-same, row-other, row-length}
-use Rattle.tables.specs.Links.{targets, linkWidth, linkRow, linkAt, putLink, isEmpty, contentWords, contentOf, contentsOf}
+use Rattle.ranges.specs.Tests.{by-equal, both, both-left, both-right, not-both}
+use Rattle.ranges.specs.All.{any-at, any-same}
+use Rattle.tables.specs.Rows.{wordAt, HasRow, place-one, row-same, row-other}
+use Rattle.tables.specs.Links.{targets, linkWidth, linkRow, linkAt, putLink, isEmpty, contentWords, contentsOf}
 use Rattle.tables.specs.Tables.{Tables, stateOf, maskOf, contentAt}
 use Rattle.tables.specs.declared.links.Contents.{Contents}
 use Rattle.tables.specs.declared.links.Content.{Content}

@@ -1,28 +1,26 @@
 -- An accepted opening leaves sound tables, whatever stood in them before.
-use Prim.Native.Nat.{ℕ, zero, suc, _+_, _*_, _-_, _^_, _≤_, _<_}
-use mathlib.Core.Path.{_≡_, refl, sym, _∙_, ap}
-use mathlib.Core.Bool.{Bool, true, false, cond, not, _&&_}
+use Prim.Native.Nat.{ℕ, _+_, _*_, _^_, _≤_, _<_}
+use mathlib.Core.Path.{_≡_, refl, _∙_}
+use mathlib.Core.Bool.{true}
 use mathlib.Core.List.{List, [], _∷_}
 use native.Mathlib.Nat.{zero-add}
 use native.Mathlib.Omega.{arith}
-use lib.ListN.{getD, set, length, length-set, replicate, length-replicate, getD-replicate, List·getD-eq-default}
+use lib.ListN.{getD, length, length-set, length-replicate, getD-replicate, List·getD-eq-default}
 use lib.Seq.{getD-set-same, getD-set-other, sets, length-sets}
 use lib.Pow.{pow-mono}
-use lib.Dec.{eqb, ltb}
+use lib.Dec.{ltb}
 use borrow.Author.Tests.{ltb-true, ltb-false}
-use Rattle.ranges.specs.Tests.{by-test, both-left}
+use Rattle.ranges.specs.Tests.{by-test}
 use Rattle.ranges.specs.Sum.{sumBelow, sum-most, count-zero}
 use Rattle.ranges.specs.Turns.{turns, turns-keep}
 use Rattle.ranges.specs.Picked.{is-picked}
-use Rattle.keys.specs.Keys.{opening, keyWord}
 use Rattle.keys.specs.Masks.{Within}
-use Rattle.tables.specs.Rows.{wordAt, word-same, word-other, word-length, row-same, row-length, sets-at, sets-behind}
-use Rattle.tables.specs.Layout.{countWords, clientWidth, clientWord, serverPlaces, versionWord, heldField, entryWidth, entryMask, putEntry}
-use Rattle.tables.specs.Links.{targets, linkWidth}
-use Rattle.tables.specs.Tables.{Tables, countOf, clientsOf, heldOf}
+use Rattle.tables.specs.Rows.{word-same, word-other, word-length, row-same, row-length, sets-at, sets-behind}
+use Rattle.tables.specs.Layout.{countWords, clientWidth, clientWord, serverPlaces, versionWord, heldField, entryWidth}
+use Rattle.tables.specs.Tables.{Tables, countOf, clientsOf}
 use Rattle.rules.specs.Open.{cleared, holdOne, openedCounts, openKey, openValue, allServers, opened}
-use Rattle.soundness.specs.Sound.{longEnough, pressFits, keyInRange, receivedSound, stateAllowed, isOpen}
-use Rattle.soundness.specs.Facts.{Between, Long, long-facts, Press, press-facts, ServerFacts, LogFacts, ClientFacts, Sound}
+use Rattle.soundness.specs.Sound.{keyInRange, receivedSound, stateAllowed, isOpen}
+use Rattle.soundness.specs.Facts.{Long, Press, ServerFacts, LogFacts, ClientFacts, Sound}
 use Rattle.store.specs.Refusals.{openRefusal}
 use Rattle.keeping.specs.Accepted.{openable}
 use Rattle.keeping.specs.Links.{linkWord, asks-link}

@@ -1,16 +1,16 @@
 -- The records: a client's record in progress, over a record begun, tagged or ended.
-use Prim.Native.Nat.{ℕ, zero, suc, _+_, _*_, _≤_, _<_}
+use Prim.Native.Nat.{ℕ, _+_, _<_}
 use mathlib.Core.Path.{_≡_, refl, sym, _∙_, ap}
-use mathlib.Core.Bool.{Bool, true, false, cond, _&&_, and-false}
+use mathlib.Core.Bool.{Bool, true, false, _&&_, and-false}
 use mathlib.Core.List.{List, [], _∷_}
 use native.Mathlib.Omega.{arith}
 use lib.ListN.{getD, length}
 use lib.Dec.{eqb, ltb}
 use borrow.Author.Tests.{eq-eqb, ne-eqb, eqb-true, ltb-true, lt-ltb}
-use Rattle.ranges.specs.Tests.{by-test, by-equal, both, both-left, both-right, not-both}
-use Rattle.ranges.specs.Sum.{sumBelow, countBelow, one, sum-same, sum-set, sum-more, one-true, one-false}
+use Rattle.ranges.specs.Tests.{by-equal, both, both-left, both-right}
+use Rattle.ranges.specs.Sum.{countBelow, one, sum-same, sum-set, sum-more, one-true, one-false}
 use Rattle.tables.specs.Rows.{HasRow, row-same, row-other, row-length, word-same, word-other}
-use Rattle.tables.specs.Layout.{recordWidth, recordWord, putRecordWord, putBegun, clientOfRecord, numberOfRecord, tagOfRecord, beginOfRecord, endOfRecord}
+use Rattle.tables.specs.Layout.{recordWidth, recordWord, putBegun, clientOfRecord, tagOfRecord, endOfRecord}
 use Rattle.tables.specs.Tables.{Tables, clientsOf, stateOf, recordOf}
 use Rattle.rules.specs.Common.{endedRecord, taggedRecord}
 use Rattle.soundness.specs.Sound.{isOpen, openSound}

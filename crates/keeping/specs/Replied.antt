@@ -1,19 +1,19 @@
 -- What the deliveries of replies share: the step counts, the client's row and links move, and a record may end.
-use Prim.Native.Nat.{ℕ, _+_, _*_, _≤_, _<_}
-use mathlib.Core.Path.{_≡_, refl, sym, _∙_}
-use mathlib.Core.Bool.{Bool, true, false, cond}
+use Prim.Native.Nat.{ℕ, _+_, _*_, _<_}
+use mathlib.Core.Path.{_≡_, refl, _∙_}
+use mathlib.Core.Bool.{true, false}
 use mathlib.Core.List.{List}
 use native.Mathlib.Omega.{arith}
 use lib.ListN.{length, length-set}
 use Rattle.ranges.specs.Tests.{by-equal}
-use Rattle.ranges.specs.Sum.{sumBelow, sum-same}
+use Rattle.ranges.specs.Sum.{sum-same}
 use Rattle.tables.specs.Rows.{HasRow}
 use Rattle.tables.specs.Layout.{writesField, readsField, stateField, recordField, clientWidth, clientWord, recordWidth, recordWord, clientOfRecord, numberOfRecord, tagOfRecord, endOfRecord}
 use Rattle.tables.specs.Links.{targets, linkWidth}
 use Rattle.tables.specs.Tables.{Tables, tablesOf, clientsOf, stepOf, entriesOf, writesOf, readsOf, stateOf, countOf, recordOf}
 use Rattle.rules.specs.Common.{idle, nextStep, counted, endedRecord, taggedRecord}
 use Rattle.soundness.specs.Sound.{isWriting, isReading, openSound}
-use Rattle.soundness.specs.Facts.{ClientFacts, WriteFacts, ReadFacts, RecordsFacts, Sound}
+use Rattle.soundness.specs.Facts.{ClientFacts, WriteFacts, ReadFacts, Sound}
 use Rattle.keeping.specs.Links.{linkWord}
 use Rattle.keeping.specs.Frame.{Kept, write-kept, read-kept}
 use Rattle.keeping.specs.Moves.{Moves, moves-numbers, same-entries, moved-kept, counted-other, counted-step, counted-length}

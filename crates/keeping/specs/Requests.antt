@@ -1,30 +1,29 @@
 -- The delivery of a request keeps sound tables sound: first what it appends, then the reply that takes the request's place.
-use Prim.Native.Nat.{ℕ, zero, suc, _+_, _*_, _≤_, _<_}
-use mathlib.Core.Path.{_≡_, refl, sym, _∙_, ap, subst}
-use mathlib.Core.Bool.{Bool, true, false, cond, not, _&&_, _||_}
-use mathlib.Core.List.{List, [], _∷_}
+use Prim.Native.Nat.{ℕ, _+_, _<_}
+use mathlib.Core.Path.{_≡_, refl, subst}
+use mathlib.Core.Bool.{true}
+use mathlib.Core.List.{[], _∷_}
 use native.Mathlib.Omega.{arith}
-use lib.ListN.{getD, set, length, length-set}
-use lib.Seq.{getD-set-same, getD-set-other}
-use lib.Dec.{eqb, leb, ltb}
-use borrow.Author.Tests.{eq-eqb, ne-eqb, eqb-true, ltb-true, leb-false, lt-ltb, le-leb, not-false}
-use Rattle.ranges.specs.Tests.{by-test, by-equal, both, both-left, both-right, not-both}
+use lib.ListN.{getD, set}
+use lib.Dec.{leb, ltb}
+use borrow.Author.Tests.{eq-eqb, eqb-true, ltb-true, lt-ltb, le-leb}
+use Rattle.ranges.specs.Tests.{by-test, by-equal, both, both-left, both-right}
 use Rattle.keys.specs.Keys.{keyWord, keyAtWord, key-back}
 use Rattle.keys.specs.Masks.{maskWithin, within-true}
-use Rattle.tables.specs.Rows.{wordAt, HasRow}
-use Rattle.tables.specs.Layout.{countWords, countAt, stepField, entriesField, heldField, serverPlaces, logPlaces, putEntry, versionWord}
-use Rattle.tables.specs.Links.{targets, linkWidth, linkRow, putLink, link-length, isEmpty, contentsOf}
-use Rattle.tables.specs.Tables.{Tables, methodOf, serversOf, clientsOf, stepOf, entriesOf, writesOf, readsOf, heldOf, stateOf, maskOf, recordOf, contentAt}
+use Rattle.tables.specs.Rows.{HasRow}
+use Rattle.tables.specs.Layout.{countAt, stepField, entriesField, serverPlaces, logPlaces, putEntry}
+use Rattle.tables.specs.Links.{targets, linkWidth, linkRow, link-length, contentsOf}
+use Rattle.tables.specs.Tables.{Tables, serversOf, clientsOf, stepOf, entriesOf, heldOf, stateOf, maskOf, contentAt}
 use Rattle.server.specs.Held.{stored, appended, firstBearing}
 use Rattle.coordinator.specs.Log.{entered, enterLeft}
-use Rattle.rules.specs.Common.{writing, entering, askingKeys, askingSetpoints, askingAll, coordinator, reply, counted}
+use Rattle.rules.specs.Common.{writing, entering, askingKeys, askingSetpoints, askingAll, coordinator, reply}
 use Rattle.rules.specs.Request.{answered, storedBy, enteredBy, onSet, onEnter, onWhichKeys, onGet, onGetAll, onRequestIn, onRequest, requestDelivered}
 use Rattle.soundness.specs.Sound.{uses, requestSound, replySound, receivedSound, holding, keyOn, ownKey, keyInRange, sound}
 use Rattle.tables.specs.declared.links.Contents.{Contents}
 use Rattle.tables.specs.declared.links.Content.{Content}
 use Rattle.tables.specs.declared.links.Content.the-variants.{Nothing, Request, Reply}
-use Rattle.soundness.specs.Facts.{Between, facts-between, ClientFacts, LinkFacts, WriteFacts, ReadFacts, Sound}
-use Rattle.store.specs.Refusals.{isTarget, deliveryRefusal, atLastStep}
+use Rattle.soundness.specs.Facts.{facts-between, ClientFacts, LinkFacts, Sound}
+use Rattle.store.specs.Refusals.{deliveryRefusal}
 use Rattle.keeping.specs.Accepted.{Deliverable, deliverable, target-below, holding-some}
 use Rattle.keeping.specs.Links.{linkWord, kindOn, numberOn, kind-full, pending-at, LinkAsks, request-kind, request-words, put-same, put-other, link-asks, asks-link}
 use Rattle.keeping.specs.States.{received-none, none-received, not-empty, by-state, masked-below, own-key, own-in-range, uses-writing, uses-keys, request-writing, request-entering, reply-writing, reply-entering, reply-keys, reply-setpoints, reply-all}

@@ -1,21 +1,20 @@
 -- A round of requests just sent: each link that the state uses holds a request, every other link nothing. And an idle client: nothing on any link.
-use Prim.Native.Nat.{ℕ, zero, suc, _+_, _*_, _^_, _≤_, _<_}
-use mathlib.Core.Path.{_≡_, refl, sym, _∙_}
-use mathlib.Core.Bool.{Bool, true, false, cond, not, _&&_, _||_}
-use mathlib.Core.List.{List, [], _∷_}
+use Prim.Native.Nat.{ℕ, _+_, _*_, _^_, _≤_, _<_}
+use mathlib.Core.Path.{_≡_, refl, _∙_}
+use mathlib.Core.Bool.{Bool, true, false, cond}
+use mathlib.Core.List.{List}
 use native.Mathlib.Omega.{arith}
 use lib.ListN.{getD, length}
 use Rattle.ranges.specs.Tests.{by-test, by-equal, not-both, either}
 use Rattle.ranges.specs.Turns.{turns}
-use Rattle.ranges.specs.Picked.{picked, is-picked, not-picked, not-reached}
+use Rattle.ranges.specs.Picked.{picked, is-picked, not-picked}
 use Rattle.keys.specs.Masks.{Within}
-use Rattle.tables.specs.Rows.{HasRow, row-other}
-use Rattle.tables.specs.Links.{targets, linkWidth, linkRow, putLink, link-length, contentWords}
-use Rattle.tables.specs.Tables.{Tables, methodOf, serversOf, clientsOf, entriesOf, stateOf, countOf, maskOf, tagOf, receivedOf}
+use Rattle.tables.specs.Links.{targets, linkWidth, putLink, link-length, contentWords}
+use Rattle.tables.specs.Tables.{Tables, methodOf, serversOf, entriesOf, stateOf, countOf, maskOf, tagOf, receivedOf}
 use Rattle.tables.specs.declared.links.Content.{Content}
 use Rattle.rules.specs.Common.{idle}
 use Rattle.soundness.specs.Sound.{uses, requestSound, keyOn, isWriting, stateAllowed}
-use Rattle.soundness.specs.Facts.{Between, LinkFacts, ClientFacts, Sound}
+use Rattle.soundness.specs.Facts.{Between, LinkFacts, ClientFacts}
 use Rattle.keeping.specs.Links.{linkWord, kindOn, numberOn, kind-full, pending-at, put-same, put-other, put-beside, link-asks, asks-link}
 use Rattle.keeping.specs.States.{uses-idle, arrived, none-received, not-all, not-used, not-empty, allowed-idle}
 use Rattle.keeping.specs.Rows.{turns-keep-below}

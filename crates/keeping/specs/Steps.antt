@@ -1,6 +1,6 @@
 -- The theorems for the public steps: an accepted opening leaves sound tables, and each step on sound tables leaves sound tables, refused or accepted.
 use Prim.Native.Nat.{ℕ, zero, suc}
-use mathlib.Core.Path.{_≡_, refl, sym, _∙_, ap}
+use mathlib.Core.Path.{_≡_, refl, sym, ap}
 use mathlib.Core.Bool.{Bool, true, false, not, true≢false}
 use mathlib.Core.List.{List}
 use lib.Dec.{leb}

@@ -1,13 +1,13 @@
 -- Sound tables as records of facts, for proofs: the conditions of `sound`, each conjunction a record and each `allBelow` a function.
 -- `sound-facts` and `facts-sound` tie the two, component by component.
-use Prim.Native.Nat.{ℕ, _+_, _*_, _^_, _≤_, _<_}
-use mathlib.Core.Path.{_≡_, refl}
-use mathlib.Core.Bool.{Bool, true, false, cond, not, _&&_, _||_, or-true}
+use Prim.Native.Nat.{ℕ, _*_, _^_, _≤_, _<_}
+use mathlib.Core.Path.{_≡_}
+use mathlib.Core.Bool.{Bool, true, cond, _||_}
 use mathlib.Core.List.{List, [], _∷_}
 use lib.ListN.{length}
 use lib.Dec.{eqb, leb, ltb}
-use borrow.Author.Tests.{leb-true, le-leb, ltb-true, lt-ltb, eqb-true, eq-eqb, ne-eqb, eqb-false}
-use Rattle.ranges.specs.Tests.{by-test, by-equal, both, both-left, both-right}
+use borrow.Author.Tests.{leb-true, le-leb, ltb-true, lt-ltb, eqb-true, eq-eqb, ne-eqb}
+use Rattle.ranges.specs.Tests.{by-equal, both, both-left, both-right}
 use Rattle.ranges.specs.All.{allBelow, all-at, all-of}
 use Rattle.ranges.specs.Sum.{sumBelow}
 use Rattle.keys.specs.Masks.{maskWithin, Within, within-true, within-test}
