@@ -98,9 +98,6 @@ module _ (links : List ℕ) (q i : ℕ) where
   pub kind-full : linkWord links q i 0 ≤ 2 → (linkWord links q i 0 ≡ 0 → ⊥) → isEmpty (linkAt links q i .content) ≡ false
   kind-full h d = kind-by h (λ k. absurd (d k)) (λ k. ap isEmpty (at-request k)) (λ k. ap isEmpty (at-reply k))
 
-  pub empty-kind : linkWord links q i 0 ≤ 2 → isEmpty (linkAt links q i .content) ≡ true → linkWord links q i 0 ≡ 0
-  empty-kind h e = by-equal (linkWord links q i 0) 0 (λ k. k) (λ d. absurd (not-both e (kind-full h d)))
-
 -- some link of the client is full, or none is
 abbrev full : List ℕ → ℕ → ℕ → Bool
 full links q i = not (isEmpty (linkAt links q i .content))
