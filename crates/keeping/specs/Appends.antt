@@ -11,7 +11,7 @@ use Rattle.keys.specs.declared.Key.{Key}
 use Rattle.keys.specs.Keys.{keyWord}
 use Rattle.keys.specs.Masks.{Within}
 use Rattle.tables.specs.Rows.{HasRow, word-same, word-other, row-same, row-other, row-length}
-use Rattle.tables.specs.Layout.{countAt, entriesField, heldField, serverPlaces, logPlaces, versionWord, entryWidth, recordWord, clientOfRecord, numberOfRecord, tagOfRecord, putEntry}
+use Rattle.tables.specs.Layout.{countAt, entriesField, heldField, serverPlaces, logPlaces, versionWord, entryWidth, recordWord, clientOfRecord, numberOfRecord, tagOfRecord, putEntry, clientsField, methodField, readsField, serversField, stepField, writesField}
 use Rattle.tables.specs.Tables.{Tables, serversOf, clientsOf, stepOf, entriesOf, writesOf, heldOf, recordOf}
 use Rattle.server.specs.Held.{stored}
 use Rattle.coordinator.specs.Log.{enterLeft}
@@ -34,7 +34,7 @@ module _ (q i : ℕ) (key : Key) (setpoint : ℕ) (t : Tables) (s : Sound t) (cl
   same f d = getD-set-other (t .counts) (heldField + i) f _ 0 d
 
   pub stored-step : stepOf after ≡ stepOf t
-  stored-step = same 3 (λ e. omega arith)
+  stored-step = same stepField (λ e. omega arith)
 
   one-more : heldOf after i ≡ heldOf t i + 1
   one-more = getD-set-same (t .counts) (heldField + i) _ 0 (omega (arith, few, s .long .counts))
@@ -45,10 +45,10 @@ module _ (q i : ℕ) (key : Key) (setpoint : ℕ) (t : Tables) (s : Sound t) (cl
   stored-numbers : Numbers t after
   stored-numbers =
       record {
-        method = same 0 (λ e. omega arith);
-        servers = same 1 (λ e. omega arith);
-        clients = same 2 (λ e. omega arith);
-        entries = omega (arith, same 4 (λ e. omega arith));
+        method = same methodField (λ e. omega arith);
+        servers = same serversField (λ e. omega arith);
+        clients = same clientsField (λ e. omega arith);
+        entries = omega (arith, same entriesField (λ e. omega arith));
         held = λ j h. by-equal j i (λ e. rw e (omega (arith, one-more))) (λ d. omega (arith, held-other j d));
       }
 
@@ -82,9 +82,9 @@ module _ (q i : ℕ) (key : Key) (setpoint : ℕ) (t : Tables) (s : Sound t) (cl
 
   pub stored-kept : Kept q t after
   stored-kept =
-      let entries = same 4 (λ e. omega arith) in
-      let writes = same 5 (λ e. omega arith) in
-      let reads = same 6 (λ e. omega arith) in
+      let entries = same entriesField (λ e. omega arith) in
+      let writes = same writesField (λ e. omega arith) in
+      let reads = same readsField (λ e. omega arith) in
       kept q t after s stored-grows (record {
         step = rw stored-step (s .scalars .step);
         entries = rw entries (s .scalars .entries .most);
@@ -113,7 +113,7 @@ module _ (q : ℕ) (key : Key) (mask : ℕ) (t : Tables) (s : Sound t) (client :
   alike f d = getD-set-other (t .counts) entriesField f _ 0 d
 
   pub entered-step : stepOf longer ≡ stepOf t
-  entered-step = alike 3 (λ e. omega arith)
+  entered-step = alike stepField (λ e. omega arith)
 
   pub entry-more : entriesOf longer ≡ entriesOf t + 1
   entry-more = getD-set-same (t .counts) entriesField _ 0 (omega (arith, s .long .counts))
@@ -124,9 +124,9 @@ module _ (q : ℕ) (key : Key) (mask : ℕ) (t : Tables) (s : Sound t) (client :
   entered-numbers : Numbers t longer
   entered-numbers =
       record {
-        method = alike 0 (λ e. omega arith);
-        servers = alike 1 (λ e. omega arith);
-        clients = alike 2 (λ e. omega arith);
+        method = alike methodField (λ e. omega arith);
+        servers = alike serversField (λ e. omega arith);
+        clients = alike clientsField (λ e. omega arith);
         entries = omega (arith, entry-more);
         held = λ j h. omega (arith, held-alike j);
       }
@@ -148,8 +148,8 @@ module _ (q : ℕ) (key : Key) (mask : ℕ) (t : Tables) (s : Sound t) (client :
       let here : tag ≡ entriesOf t = omega (arith, entry-more) in
       let has : HasRow entryWidth (t .log) (entriesOf t) = omega (arith, s .long .log) in
       rw here (record {
-        key = rw (alike 2 (λ e. omega arith), row-same entryWidth (t .log) (entriesOf t) row 0 has (omega arith) (omega arith)) good;
-        mask = rw (alike 1 (λ e. omega arith), row-same entryWidth (t .log) (entriesOf t) row 1 has (omega arith) (omega arith)) within;
+        key = rw (alike clientsField (λ e. omega arith), row-same entryWidth (t .log) (entriesOf t) row 0 has (omega arith) (omega arith)) good;
+        mask = rw (alike serversField (λ e. omega arith), row-same entryWidth (t .log) (entriesOf t) row 1 has (omega arith) (omega arith)) within;
       })
 
   -- every record's tag is within the longer log, the new one too
@@ -168,8 +168,8 @@ module _ (q : ℕ) (key : Key) (mask : ℕ) (t : Tables) (s : Sound t) (client :
 
   pub entered-kept : Kept q t longer
   entered-kept =
-      let writes = alike 5 (λ e. omega arith) in
-      let reads = alike 6 (λ e. omega arith) in
+      let writes = alike writesField (λ e. omega arith) in
+      let reads = alike readsField (λ e. omega arith) in
       kept q t longer s entered-grows (record {
         step = rw entered-step (s .scalars .step);
         entries = rw entry-more (omega arith);

@@ -13,9 +13,10 @@ use Rattle.keys.specs.Keys.{opening}
 use Rattle.keys.specs.Masks.{hasServer}
 use Rattle.coordinator.specs.Latest.{latestKey}
 use Rattle.tables.specs.Rows.{HasRow}
-use Rattle.tables.specs.Layout.{writesField, readsField, clientWidth, clientWord, recordPlaces, recordWidth}
+use Rattle.tables.specs.Layout.{writesField, readsField, clientWidth, clientWord, recordPlaces, recordWidth, clientOfRecord, countField, maskField, numberOfRecord, receivedField, recordField, setpointsField, stateField, tagField, tagOfRecord}
 use Rattle.tables.specs.Links.{targets, linkWidth, link-length}
 use Rattle.tables.specs.Tables.{Tables, methodOf, serversOf, clientsOf, stepOf, entriesOf, writesOf, readsOf, stateOf, countOf, maskOf, recordOf, receivedOf}
+use Rattle.tables.specs.declared.links.Content.{Content}
 use Rattle.rules.specs.Common.{askingKeys, askingSetpoints, askingAll, coordinator, request}
 use Rattle.rules.specs.Begin.{lastTag, sentGets, sendAsk, sentAsks, asking, begunReadWith, begunRead}
 use Rattle.soundness.specs.Sound.{isWriting, isReading, uses, sound}
@@ -33,7 +34,7 @@ use Rattle.keeping.specs.Gets.{gets-sent}
 use Rattle.keeping.specs.Begins.{begun-other, begun-more, begun-step, begun-length}
 
 -- A begin of a READ, whatever links it leaves. It puts words into the row, below the setpoints, and no count.
-module _ (q mask : ℕ) (puts : List Put) (links′ : List ℕ) (t : Tables) (s : Sound t) (b : Beginnable q mask t) (few : readsOf t < recordPlaces) (low : under 5 puts ≡ true) (inside : inRow puts ≡ true) where
+module _ (q mask : ℕ) (puts : List Put) (links′ : List ℕ) (t : Tables) (s : Sound t) (b : Beginnable q mask t) (few : readsOf t < recordPlaces) (low : under setpointsField puts ≡ true) (inside : inRow puts ≡ true) where
   abbrev after : Tables
   after = begunReadWith q mask (asking (putAll puts q (t .clients)) links′) t
 
@@ -53,7 +54,7 @@ module _ (q mask : ℕ) (puts : List Put) (links′ : List ℕ) (t : Tables) (s 
   word g h = put-read q puts (t .clients) g (clientWord (t .clients) q g) row-room inside h refl
 
   none-received : (i : ℕ) → i < targets → receivedOf after q i ≡ 0
-  none-received i h = put-before q puts (t .clients) 5 (21 + i) low (omega arith) ∙ received-none t q i (not-all t q i (λ e. omega (arith, b .free))) (s .client q (b .client) .received i h)
+  none-received i h = put-before q puts (t .clients) setpointsField (receivedField + i) low (omega arith) ∙ received-none t q i (not-all t q i (λ e. omega (arith, b .free))) (s .client q (b .client) .received i h)
 
   -- the links of the others stay
   begun-moves : ((p i f : ℕ) → (p ≡ q → ⊥) → i < targets → f < linkWidth → linkWord links′ p i f ≡ linkWord (t .links) p i f) → length links′ ≡ length (t .links) → Moves q t after
@@ -79,7 +80,7 @@ module _ (q mask : ℕ) (puts : List Put) (links′ : List ℕ) (t : Tables) (s 
 
   module _ (m : Moves q t after) (reading : isReading (stateOf after q) ≡ true) (writes : isWriting (stateOf after q) ≡ false) (count : countOf after q ≡ countOf t q) (place : recordOf after q ≡ readsOf t) (c : ClientFacts after q) where
     begun-sum : sumBelow (countOf after) (clientsOf t) ≡ writesOf after
-    begun-sum = rw same-writes (sum-same (countOf after) (countOf t) (clientsOf t) (λ p h. by-equal p q (λ e. rw e count) (λ d. m .row p 1 d (omega arith))) ∙ s .counts)
+    begun-sum = rw same-writes (sum-same (countOf after) (countOf t) (clientsOf t) (λ p h. by-equal p q (λ e. rw e count) (λ d. m .row p countField d (omega arith))) ∙ s .counts)
 
     begun-record : (n : ℕ) → n < readsOf t + 1 → ReadFacts after n
     begun-record n h =
@@ -88,18 +89,18 @@ module _ (q mask : ℕ) (puts : List Put) (links′ : List ℕ) (t : Tables) (s 
         let kept = begun-word (t .reads) (readsOf t) q mask (stepOf t + 1) n in
         by-equal n (readsOf t)
         (λ e. rw e (record {
-          client = rw (new 0 (omega arith) record-room, num .clients) (b .client);
-          mask = rw (new 1 (omega arith) record-room, num .servers) (b .masked);
-          tag = rw (new 2 (omega arith) record-room, same-entries q t after m) (s .scalars .entries .least);
+          client = rw (new clientOfRecord (omega arith) record-room, num .clients) (b .client);
+          mask = rw (new numberOfRecord (omega arith) record-room, num .servers) (b .masked);
+          tag = rw (new tagOfRecord (omega arith) record-room, same-entries q t after m) (s .scalars .entries .least);
         }))
         (λ d. let l : n < readsOf t = omega arith in
-        read-kept t after num n (kept 0 (omega arith) d) (kept 1 (omega arith) d) (rw (kept 2 (omega arith) d, same-entries q t after m) (s .read n l .tag)) (s .read n l))
+        read-kept t after num n (kept clientOfRecord (omega arith) d) (kept numberOfRecord (omega arith) d) (rw (kept tagOfRecord (omega arith) d, same-entries q t after m) (s .read n l .tag)) (s .read n l))
 
     begun-records : (p : ℕ) → p < clientsOf t → RecordsFacts after p
     begun-records p h =
         record {
-          write = rw same-writes (records-idle isWriting q t after (t .writes) (writesOf t) (λ x d. m .row x 0 d (omega arith)) (λ x d. m .row x 4 d (omega arith)) (λ x g. s .records x g .write) (rw (b .free)) writes p h);
-          read = rw more-reads (records-begun isReading q t after (t .reads) (readsOf t) (λ x d. m .row x 0 d (omega arith)) (λ x d. m .row x 4 d (omega arith)) (λ x g. s .records x g .read) mask (stepOf t + 1) record-room (rw (b .free)) reading place p h);
+          write = rw same-writes (records-idle isWriting q t after (t .writes) (writesOf t) (λ x d. m .row x stateField d (omega arith)) (λ x d. m .row x recordField d (omega arith)) (λ x g. s .records x g .write) (rw (b .free)) writes p h);
+          read = rw more-reads (records-begun isReading q t after (t .reads) (readsOf t) (λ x d. m .row x stateField d (omega arith)) (λ x d. m .row x recordField d (omega arith)) (λ x g. s .records x g .read) mask (stepOf t + 1) record-room (rw (b .free)) reading place p h);
         }
 
     begun-kept : Kept q t after
@@ -116,9 +117,13 @@ module _ (q mask : ℕ) (puts : List Put) (links′ : List ℕ) (t : Tables) (s 
           records = begun-records;
         })
 
+-- a request that carries nothing
+abbrev ask : Content
+ask = request opening 0
+
 -- the words put into the row, by the state that the method begins with
 abbrev begunPuts : ℕ → ℕ → ℕ → List Put
-begunPuts state mask place = put 0 state ∷ put 2 mask ∷ put 4 place ∷ []
+begunPuts state mask place = put stateField state ∷ put maskField mask ∷ put recordField place ∷ []
 
 module _ (q mask : ℕ) (t : Tables) (s : Sound t) (b : Beginnable q mask t) (few : readsOf t < recordPlaces) where
   abbrev k : ℕ
@@ -142,10 +147,13 @@ module _ (q mask : ℕ) (t : Tables) (s : Sound t) (b : Beginnable q mask t) (fe
   -- "A: take the last tag and its keys from panel 0's log, then ask each masked station for its key."
   module _ (part : methodOf t ≡ 1) (reader : (eqb (methodOf t) 1 && not (eqb q 0)) ≡ false) where
     abbrev putsA : List Put
-    putsA = put 0 askingSetpoints ∷ put 2 mask ∷ put 4 (readsOf t) ∷ put 3 (lastTag t) ∷ []
+    putsA = put stateField askingSetpoints ∷ put maskField mask ∷ put recordField (readsOf t) ∷ put tagField (lastTag t) ∷ []
 
     abbrev linksA : List ℕ
     linksA = sentGets q mask (t .log) (lastTag t) k (t .links)
+
+    abbrev get : ℕ → Content
+    get i = request (latestKey (t .log) i (lastTag t)) 0
 
     abbrev afterA : Tables
     afterA = begunReadWith q mask (asking (putAll putsA q (t .clients)) linksA) t
@@ -156,23 +164,23 @@ module _ (q mask : ℕ) (t : Tables) (s : Sound t) (b : Beginnable q mask t) (fe
     movesA : Moves q t afterA
     movesA =
         begun-moves q mask putsA linksA t s b few refl refl
-        (λ p i f d h g. sent-others q k (hasServer mask) (λ j. request (latestKey (t .log) j (lastTag t)) 0) (t .links) (omega (arith, servers-few)) link-room f g p i d h)
-        (sent-length q k (hasServer mask) (λ j. request (latestKey (t .log) j (lastTag t)) 0) (t .links) (omega (arith, servers-few)) link-room)
+        (λ p i f d h g. sent-others q k (hasServer mask) get (t .links) (omega (arith, servers-few)) link-room f g p i d h)
+        (sent-length q k (hasServer mask) get (t .links) (omega (arith, servers-few)) link-room)
 
     last-within : lastTag t < entriesOf t
     last-within = omega (arith, s .scalars .entries .least)
 
     sentA : Sent afterA q
     sentA =
-        gets-sent q mask (lastTag t) (t .links) t afterA s (moves-numbers q t afterA movesA) (b .client) last-within (b .masked) empty link-room refl (wordA 0 (omega arith)) (wordA 2 (omega arith))
+        gets-sent q mask (lastTag t) (t .links) t afterA s (moves-numbers q t afterA movesA) (b .client) last-within (b .masked) empty link-room refl (wordA stateField (omega arith)) (wordA maskField (omega arith))
         (allowed-by-A (methodOf t) q part reader)
-        (rw (wordA 1 (omega arith)) counted)
-        (rw (wordA 3 (omega arith), same-entries q t afterA movesA) last-within)
+        (rw (wordA countField (omega arith)) counted)
+        (rw (wordA tagField (omega arith), same-entries q t afterA movesA) last-within)
         (none-received q mask putsA linksA t s b few refl refl)
 
     keptA : Kept q t afterA
     keptA =
-        begun-kept q mask putsA linksA t s b few refl refl movesA (rw (wordA 0 (omega arith))) (rw (wordA 0 (omega arith))) (wordA 1 (omega arith)) (wordA 4 (omega arith)) (sent-client afterA q sentA)
+        begun-kept q mask putsA linksA t s b few refl refl movesA (rw (wordA stateField (omega arith))) (rw (wordA stateField (omega arith))) (wordA countField (omega arith)) (wordA recordField (omega arith)) (sent-client afterA q sentA)
 
   -- "B: ask the head"
   module _ (part : methodOf t ≡ 2) where
@@ -191,30 +199,30 @@ module _ (q mask : ℕ) (t : Tables) (s : Sound t) (b : Beginnable q mask t) (fe
     movesB : Moves q t afterB
     movesB =
         begun-moves q mask putsB linksB t s b few refl refl
-        (λ p i f d h g. put-other (t .links) q coordinator (request opening 0) p i f (omega arith) h (λ e. d (e .0)) g)
-        (link-length (t .links) q coordinator (request opening 0))
+        (λ p i f d h g. put-other (t .links) q coordinator ask p i f (omega arith) h (λ e. d (e .0)) g)
+        (link-length (t .links) q coordinator ask)
 
     sentB : Sent afterB q
     sentB =
         let n = moves-numbers q t afterB movesB in
-        let state = wordB 0 (omega arith) in
-        let masked = wordB 2 (omega arith) in
+        let state = wordB stateField (omega arith) in
+        let masked = wordB maskField (omega arith) in
         let head : (i : ℕ) → uses (stateOf afterB q) (maskOf afterB q) i ≡ eqb i coordinator = λ i. rw (state, masked) (uses-keys mask i) in
         record {
           allowed = rw (n .method, state) (allowed-by-B (methodOf t) q part);
-          count = rw (state, wordB 1 (omega arith)) (record { least = omega arith; most = counted });
+          count = rw (state, wordB countField (omega arith)) (record { least = omega arith; most = counted });
           mask = rw (masked, n .servers) (b .masked);
-          tag = rw (wordB 3 (omega arith), same-entries q t afterB movesB) (c .tag);
+          tag = rw (wordB tagField (omega arith), same-entries q t afterB movesB) (c .tag);
           some = (coordinator, omega arith, head coordinator);
-          asked = λ i h u. let e = eqb-true i coordinator (sym (head i) ∙ u) in rw e (put-same (t .links) q coordinator (request opening 0) 0 (omega (arith, link-room)) (omega arith));
+          asked = λ i h u. let e = eqb-true i coordinator (sym (head i) ∙ u) in rw e (put-same (t .links) q coordinator ask 0 (omega (arith, link-room)) (omega arith));
           good = λ i h u. rw state (request-keys afterB q _ _);
-          rest = λ i h u. put-beside (t .links) q coordinator (request opening 0) i 0 (eqb-false i coordinator (sym (head i) ∙ u)) (omega arith) ∙ empty i h;
+          rest = λ i h u. put-beside (t .links) q coordinator ask i 0 (eqb-false i coordinator (sym (head i) ∙ u)) (omega arith) ∙ empty i h;
           received = none-received q mask putsB linksB t s b few refl refl;
         }
 
     keptB : Kept q t afterB
     keptB =
-        begun-kept q mask putsB linksB t s b few refl refl movesB (rw (wordB 0 (omega arith))) (rw (wordB 0 (omega arith))) (wordB 1 (omega arith)) (wordB 4 (omega arith)) (sent-client afterB q sentB)
+        begun-kept q mask putsB linksB t s b few refl refl movesB (rw (wordB stateField (omega arith))) (rw (wordB stateField (omega arith))) (wordB countField (omega arith)) (wordB recordField (omega arith)) (sent-client afterB q sentB)
 
   -- "C: ask all masked stations and the head together"
   module _ (other : methodOf t ≡ 1 → ⊥) (another : methodOf t ≡ 2 → ⊥) where
@@ -234,40 +242,40 @@ module _ (q mask : ℕ) (t : Tables) (s : Sound t) (b : Beginnable q mask t) (fe
     wordC = word q mask putsC linksC t s b few refl refl
 
     asks-length : length asks ≡ length (t .links)
-    asks-length = sent-length q k (hasServer mask) (λ j. request opening 0) (t .links) (omega (arith, servers-few)) link-room
+    asks-length = sent-length q k (hasServer mask) (λ j. ask) (t .links) (omega (arith, servers-few)) link-room
 
     movesC : Moves q t afterC
     movesC =
         begun-moves q mask putsC linksC t s b few refl refl
-        (λ p i f d h g. put-other asks q coordinator (request opening 0) p i f (omega arith) h (λ e. d (e .0)) g ∙ sent-others q k (hasServer mask) (λ j. request opening 0) (t .links) (omega (arith, servers-few)) link-room f g p i d h)
-        (link-length asks q coordinator (request opening 0) ∙ asks-length)
+        (λ p i f d h g. put-other asks q coordinator ask p i f (omega arith) h (λ e. d (e .0)) g ∙ sent-others q k (hasServer mask) (λ j. ask) (t .links) (omega (arith, servers-few)) link-room f g p i d h)
+        (link-length asks q coordinator ask ∙ asks-length)
 
     -- a link used holds a request: the coordinator's, or a masked server's
     askedC : (i : ℕ) → (hasServer mask i || eqb i coordinator) ≡ true → linkWord linksC q i 0 ≡ 1
     askedC i u =
         by-equal i coordinator
-        (λ e. rw e (put-same asks q coordinator (request opening 0) 0 (rw asks-length (omega (arith, link-room))) (omega arith)))
+        (λ e. rw e (put-same asks q coordinator ask 0 (rw asks-length (omega (arith, link-room))) (omega arith)))
         (λ d. let has-i : hasServer mask i ≡ true = rw (ne-eqb i coordinator d, or-false (hasServer mask i)) at u in
-        put-beside asks q coordinator (request opening 0) i 0 d (omega arith)
-        ∙ sent-there q k (hasServer mask) (λ j. request opening 0) (t .links) (omega (arith, servers-few)) link-room 0 (omega arith) i (masked-below mask k i (b .masked .below) has-i) has-i)
+        put-beside asks q coordinator ask i 0 d (omega arith)
+        ∙ sent-there q k (hasServer mask) (λ j. ask) (t .links) (omega (arith, servers-few)) link-room 0 (omega arith) i (masked-below mask k i (b .masked .below) has-i) has-i)
 
     restC : (i : ℕ) → i < targets → (hasServer mask i || eqb i coordinator) ≡ false → linkWord linksC q i 0 ≡ 0
     restC i h u =
         let x = neither (hasServer mask i) (eqb i coordinator) u in
-        put-beside asks q coordinator (request opening 0) i 0 (eqb-false i coordinator (x .1)) (omega arith)
-        ∙ (sent-not q k (hasServer mask) (λ j. request opening 0) (t .links) (omega (arith, servers-few)) link-room 0 (omega arith) i (x .0) ∙ empty i h)
+        put-beside asks q coordinator ask i 0 (eqb-false i coordinator (x .1)) (omega arith)
+        ∙ (sent-not q k (hasServer mask) (λ j. ask) (t .links) (omega (arith, servers-few)) link-room 0 (omega arith) i (x .0) ∙ empty i h)
 
     sentC : Sent afterC q
     sentC =
         let n = moves-numbers q t afterC movesC in
-        let state = wordC 0 (omega arith) in
-        let masked = wordC 2 (omega arith) in
+        let state = wordC stateField (omega arith) in
+        let masked = wordC maskField (omega arith) in
         let used : (i : ℕ) → uses (stateOf afterC q) (maskOf afterC q) i ≡ (hasServer mask i || eqb i coordinator) = λ i. rw (state, masked) (uses-all mask i) in
         record {
           allowed = rw (n .method, state) (allowed-by-C (methodOf t) q other another);
-          count = rw (state, wordC 1 (omega arith)) (record { least = omega arith; most = counted });
+          count = rw (state, wordC countField (omega arith)) (record { least = omega arith; most = counted });
           mask = rw (masked, n .servers) (b .masked);
-          tag = rw (wordC 3 (omega arith), same-entries q t afterC movesC) (c .tag);
+          tag = rw (wordC tagField (omega arith), same-entries q t afterC movesC) (c .tag);
           some = (coordinator, omega arith, used coordinator ∙ or-true (hasServer mask coordinator));
           asked = λ i h u. askedC i (sym (used i) ∙ u);
           good = λ i h u. rw state (request-all afterC q _ _);
@@ -277,7 +285,7 @@ module _ (q mask : ℕ) (t : Tables) (s : Sound t) (b : Beginnable q mask t) (fe
 
     keptC : Kept q t afterC
     keptC =
-        begun-kept q mask putsC linksC t s b few refl refl movesC (rw (wordC 0 (omega arith))) (rw (wordC 0 (omega arith))) (wordC 1 (omega arith)) (wordC 4 (omega arith)) (sent-client afterC q sentC)
+        begun-kept q mask putsC linksC t s b few refl refl movesC (rw (wordC stateField (omega arith))) (rw (wordC stateField (omega arith))) (wordC countField (omega arith)) (wordC recordField (omega arith)) (sent-client afterC q sentC)
 
   begun-read : (eqb (methodOf t) 1 && not (eqb q 0)) ≡ false → Kept q t (begunRead q mask t)
   unfolding begunRead

@@ -8,11 +8,12 @@ use lib.ListN.{getD, length}
 use lib.Dec.{eqb}
 use Rattle.ranges.specs.Tests.{by-equal}
 use Rattle.ranges.specs.Sum.{sumBelow, sum-set, sum-part}
-use Rattle.keys.specs.Keys.{keyOf, keyWord}
+use Rattle.keys.specs.Keys.{keyOf}
 use Rattle.keys.specs.Masks.{hasServer, some-server}
 use Rattle.tables.specs.Rows.{HasRow}
-use Rattle.tables.specs.Layout.{writesField, readsField, clientWidth, clientWord, recordPlaces, recordWidth}
-use Rattle.tables.specs.Links.{targets, linkWidth}
+use Rattle.tables.specs.Layout.{writesField, readsField, clientWidth, clientWord, recordPlaces, recordWidth, clientOfRecord, countField, maskField, numberOfRecord, receivedField, recordField, setpointsField, stateField, tagField, tagOfRecord}
+use Rattle.tables.specs.Links.{targets, linkWidth, contentWords}
+use Rattle.tables.specs.declared.links.Content.{Content}
 use Rattle.tables.specs.Tables.{Tables, tablesOf, methodOf, serversOf, clientsOf, stepOf, writesOf, readsOf, stateOf, countOf, maskOf, recordOf, receivedOf}
 use Rattle.rules.specs.Common.{writing, request, begunCounts, begunRecords}
 use Rattle.rules.specs.Begin.{nextCount, storedSetpoints, sentSets, begunWrite}
@@ -49,27 +50,27 @@ module _ (q mask : ℕ) (clients′ links′ : List ℕ) (t : Tables) (s : Sound
 
   module _ (m : Moves q t wrote) (state : stateOf wrote q ≡ writing) (count : countOf wrote q ≡ nextCount t q) (place : recordOf wrote q ≡ writesOf t) (c : ClientFacts wrote q) where
     wrote-sum : sumBelow (countOf wrote) (clientsOf t) ≡ writesOf wrote
-    wrote-sum = omega (arith, sum-set (countOf wrote) (countOf t) (clientsOf t) q (b .client) (λ p h d. m .row p 1 d (omega arith)), s .counts, more-writes)
+    wrote-sum = omega (arith, sum-set (countOf wrote) (countOf t) (clientsOf t) q (b .client) (λ p h d. m .row p countField d (omega arith)), s .counts, more-writes)
 
     wrote-record : (n : ℕ) → n < writesOf t + 1 → WriteFacts wrote n
     wrote-record n h =
         let num = moves-numbers q t wrote m in
-        let word = begun-here (t .writes) (writesOf t) q (nextCount t q) (stepOf t + 1) in
+        let new = begun-here (t .writes) (writesOf t) q (nextCount t q) (stepOf t + 1) in
         let kept = begun-word (t .writes) (writesOf t) q (nextCount t q) (stepOf t + 1) n in
         by-equal n (writesOf t)
         (λ e. rw e (record {
-          client = rw (word 0 (omega arith) record-room, num .clients) (b .client);
-          count = rw (word 1 (omega arith) record-room) (record { least = omega arith; most = next-few });
-          tag = rw (word 2 (omega arith) record-room, same-entries q t wrote m) (s .scalars .entries .least);
+          client = rw (new clientOfRecord (omega arith) record-room, num .clients) (b .client);
+          count = rw (new numberOfRecord (omega arith) record-room) (record { least = omega arith; most = next-few });
+          tag = rw (new tagOfRecord (omega arith) record-room, same-entries q t wrote m) (s .scalars .entries .least);
         }))
         (λ d. let l : n < writesOf t = omega arith in
-        write-kept t wrote num n (kept 0 (omega arith) d) (kept 1 (omega arith) d) (rw (kept 2 (omega arith) d, same-entries q t wrote m) (s .write n l .tag)) (s .write n l))
+        write-kept t wrote num n (kept clientOfRecord (omega arith) d) (kept numberOfRecord (omega arith) d) (rw (kept tagOfRecord (omega arith) d, same-entries q t wrote m) (s .write n l .tag)) (s .write n l))
 
     wrote-records : (p : ℕ) → p < clientsOf t → RecordsFacts wrote p
     wrote-records p h =
         record {
-          write = rw more-writes (records-begun isWriting q t wrote (t .writes) (writesOf t) (λ x d. m .row x 0 d (omega arith)) (λ x d. m .row x 4 d (omega arith)) (λ x g. s .records x g .write) (nextCount t q) (stepOf t + 1) record-room (rw (b .free)) (rw state) place p h);
-          read = rw same-reads (records-idle isReading q t wrote (t .reads) (readsOf t) (λ x d. m .row x 0 d (omega arith)) (λ x d. m .row x 4 d (omega arith)) (λ x g. s .records x g .read) (rw (b .free)) (rw state) p h);
+          write = rw more-writes (records-begun isWriting q t wrote (t .writes) (writesOf t) (λ x d. m .row x stateField d (omega arith)) (λ x d. m .row x recordField d (omega arith)) (λ x g. s .records x g .write) (nextCount t q) (stepOf t + 1) record-room (rw (b .free)) (rw state) place p h);
+          read = rw same-reads (records-idle isReading q t wrote (t .reads) (readsOf t) (λ x d. m .row x stateField d (omega arith)) (λ x d. m .row x recordField d (omega arith)) (λ x g. s .records x g .read) (rw (b .free)) (rw state) p h);
         }
 
     wrote-kept : Kept q t wrote
@@ -89,7 +90,7 @@ module _ (q mask : ℕ) (clients′ links′ : List ℕ) (t : Tables) (s : Sound
 -- "Begin a WRITE: next count; a request to each masked station; state 1."
 module _ (q mask : ℕ) (setpoints : List ℕ) (t : Tables) (s : Sound t) (b : Beginnable q mask t) (few : writesOf t < recordPlaces) (part : (eqb (methodOf t) 1 && eqb q 0) ≡ false) where
   abbrev puts : List Put
-  puts = put 0 writing ∷ put 2 mask ∷ put 4 (writesOf t) ∷ put 1 (nextCount t q) ∷ []
+  puts = put stateField writing ∷ put maskField mask ∷ put recordField (writesOf t) ∷ put countField (nextCount t q) ∷ []
 
   abbrev after : Tables
   after =
@@ -107,26 +108,27 @@ module _ (q mask : ℕ) (setpoints : List ℕ) (t : Tables) (s : Sound t) (b : B
   link-room : linkWidth * (targets * q + targets) ≤ length (t .links)
   link-room = omega (arith, s .long .links, b .client)
 
-  spared : (p g : ℕ) → g < clientWidth → ((p ≡ q) × (5 ≤ g) × (g < 5 + serversOf t) → ⊥) → clientWord (after .clients) p g ≡ clientWord (putAll puts q (t .clients)) p g
-  spared p g h d = loop-other q 5 (serversOf t) (omega (arith, servers-few)) (λ i. true) (λ i. getD setpoints i 0) (putAll puts q (t .clients)) p g h d
+  spared : (p g : ℕ) → g < clientWidth → ((p ≡ q) × (setpointsField ≤ g) × (g < setpointsField + serversOf t) → ⊥) → clientWord (after .clients) p g ≡ clientWord (putAll puts q (t .clients)) p g
+  spared p g h d = loop-other q setpointsField (serversOf t) (omega (arith, servers-few)) (λ i. true) (λ i. getD setpoints i 0) (putAll puts q (t .clients)) p g h d
 
-  word : (g : ℕ) → g < 5 → clientWord (after .clients) q g ≡ lastPut puts (clientWord (t .clients) q g) g
+  word : (g : ℕ) → g < setpointsField → clientWord (after .clients) q g ≡ lastPut puts (clientWord (t .clients) q g) g
   word g h = spared q g (omega arith) (λ y. omega (arith, y .1)) ∙ put-read q puts (t .clients) g (clientWord (t .clients) q g) row-room refl (omega arith) refl
 
   none-received : (i : ℕ) → i < targets → receivedOf after q i ≡ 0
   none-received i h =
       let c = s .client q (b .client) in
-      spared q (21 + i) (omega arith) (λ y. omega (arith, y .2, servers-few))
-      ∙ (put-before q puts (t .clients) 5 (21 + i) refl (omega arith) ∙ received-none t q i (not-all t q i (λ e. omega (arith, b .free))) (c .received i h))
+      spared q (receivedField + i) (omega arith) (λ y. omega (arith, y .2, servers-few))
+      ∙ (put-before q puts (t .clients) setpointsField (receivedField + i) refl (omega arith) ∙ received-none t q i (not-all t q i (λ e. omega (arith, b .free))) (c .received i h))
 
-  abbrev sets : ℕ → ℕ → ℕ
-  sets i f = getD (1 ∷ keyWord (keyOf (nextCount t q) q) ∷ getD setpoints i 0 ∷ []) f 0
+  -- the request to a server: the key and its setpoint
+  abbrev set : ℕ → Content
+  set i = request (keyOf (nextCount t q) q) (getD setpoints i 0)
 
-  sent : (i f : ℕ) → f < linkWidth → i < serversOf t → hasServer mask i ≡ true → linkWord (after .links) q i f ≡ sets i f
-  sent i f g h e = sent-there q (serversOf t) (hasServer mask) (λ j. request (keyOf (nextCount t q) q) (getD setpoints j 0)) (t .links) (omega (arith, servers-few)) link-room f g i h e
+  sent : (i f : ℕ) → f < linkWidth → i < serversOf t → hasServer mask i ≡ true → linkWord (after .links) q i f ≡ getD (contentWords (set i)) f 0
+  sent i f g h e = sent-there q (serversOf t) (hasServer mask) set (t .links) (omega (arith, servers-few)) link-room f g i h e
 
   unsent : (i f : ℕ) → f < linkWidth → hasServer mask i ≡ false → linkWord (after .links) q i f ≡ linkWord (t .links) q i f
-  unsent i f g e = sent-not q (serversOf t) (hasServer mask) (λ j. request (keyOf (nextCount t q) q) (getD setpoints j 0)) (t .links) (omega (arith, servers-few)) link-room f g i e
+  unsent i f g e = sent-not q (serversOf t) (hasServer mask) set (t .links) (omega (arith, servers-few)) link-room f g i e
 
   begun-moves : Moves q t after
   begun-moves =
@@ -136,11 +138,11 @@ module _ (q mask : ℕ) (setpoints : List ℕ) (t : Tables) (s : Sound t) (b : B
         values = refl;
         log = refl;
         row = λ p f d h. spared p f h (λ y. d (y .0)) ∙ put-elsewhere q puts (t .clients) p f refl h d;
-        link = λ p i f d h g. sent-others q (serversOf t) (hasServer mask) (λ j. request (keyOf (nextCount t q) q) (getD setpoints j 0)) (t .links) (omega (arith, servers-few)) link-room f g p i d h;
+        link = λ p i f d h g. sent-others q (serversOf t) (hasServer mask) set (t .links) (omega (arith, servers-few)) link-room f g p i d h;
         lengths = record {
           counts = begun-length writesField (t .counts) (s .long .counts) (omega arith) (λ z. omega arith);
-          clients = loop-length q 5 (serversOf t) (omega (arith, servers-few)) (λ i. true) (λ i. getD setpoints i 0) (putAll puts q (t .clients)) ∙ put-length q puts (t .clients);
-          links = sent-length q (serversOf t) (hasServer mask) (λ j. request (keyOf (nextCount t q) q) (getD setpoints j 0)) (t .links) (omega (arith, servers-few)) link-room;
+          clients = loop-length q setpointsField (serversOf t) (omega (arith, servers-few)) (λ i. true) (λ i. getD setpoints i 0) (putAll puts q (t .clients)) ∙ put-length q puts (t .clients);
+          links = sent-length q (serversOf t) (hasServer mask) set (t .links) (omega (arith, servers-few)) link-room;
           keys = refl;
           values = refl;
           log = refl;
@@ -153,16 +155,16 @@ module _ (q mask : ℕ) (setpoints : List ℕ) (t : Tables) (s : Sound t) (b : B
   begun-sent =
       let n = moves-numbers q t after begun-moves in
       let c = s .client q (b .client) in
-      let state = word 0 (omega arith) in
-      let masked = word 2 (omega arith) in
+      let state = word stateField (omega arith) in
+      let masked = word maskField (omega arith) in
       let small = next-few q mask (t .clients) (t .links) t s b few in
       let has : (i : ℕ) → uses (stateOf after q) (maskOf after q) i ≡ hasServer mask i = λ i. rw (state, masked) (uses-writing mask i) in
       let below : (i : ℕ) → hasServer mask i ≡ true → i < serversOf t = λ i e. masked-below mask (serversOf t) i (b .masked .below) e in
       record {
         allowed = rw (n .method, state) (allowed-writing (methodOf t) q part);
-        count = rw (state, word 1 (omega arith)) (record { least = omega arith; most = small });
+        count = rw (state, word countField (omega arith)) (record { least = omega arith; most = small });
         mask = rw (masked, n .servers) (b .masked);
-        tag = rw (word 3 (omega arith), same-entries q t after begun-moves) (c .tag);
+        tag = rw (word tagField (omega arith), same-entries q t after begun-moves) (c .tag);
         some = let x = some-server mask (serversOf t) (b .masked) in (x .0, omega (arith, x .1, servers-few), has (x .0) ∙ x .2);
         asked = λ i h u. let e = sym (has i) ∙ u in sent i 0 (omega arith) (below i e) e;
         good = λ i h u.
@@ -175,7 +177,7 @@ module _ (q mask : ℕ) (setpoints : List ℕ) (t : Tables) (s : Sound t) (b : B
 
   begun-write : Kept q t after
   begun-write =
-      wrote-kept q mask (after .clients) (after .links) t s b few begun-moves (word 0 (omega arith)) (word 1 (omega arith)) (word 4 (omega arith)) (sent-client after q begun-sent)
+      wrote-kept q mask (after .clients) (after .links) t s b few begun-moves (word stateField (omega arith)) (word countField (omega arith)) (word recordField (omega arith)) (sent-client after q begun-sent)
 
 module _ (q mask : ℕ) (setpoints : List ℕ) (t : Tables) (s : Sound t) (e : writeRefusal q mask setpoints t ≡ 0) where
   pub begunWrite-kept : Kept q t (begunWrite q mask setpoints t)

@@ -10,7 +10,7 @@ use borrow.Author.Tests.{ne-eqb, eqb-true}
 use Rattle.ranges.specs.Tests.{by-equal}
 use Rattle.keys.specs.Masks.{Within}
 use Rattle.tables.specs.Rows.{HasRow}
-use Rattle.tables.specs.Layout.{clientWidth, clientWord}
+use Rattle.tables.specs.Layout.{clientWidth, clientWord, countField, maskField, recordField, stateField, tagField, setpointsField}
 use Rattle.tables.specs.Links.{targets, linkWidth, link-length}
 use Rattle.tables.specs.Tables.{Tables, serversOf, clientsOf, stepOf, stateOf, maskOf, receivedOf}
 use Rattle.tables.specs.declared.links.Content.the-variants.{Nothing}
@@ -81,7 +81,7 @@ module _ {q i : ℕ} {t : Tables} (a : Came q i t) where
       beside j 0 e (omega arith) ∙ unused-empty t q j (facts .link j h) (head j ∙ ne-eqb j coordinator (λ z. e (z ∙ sym here))))
 
   -- "wait": replies are still to come. The row stays but for a setpoint or an n.
-  module _ (clients′ : List ℕ) (v : Moving q clients′ rest t) (same : (f : ℕ) → f < 5 → clientWord clients′ q f ≡ clientWord (t .clients) q f)
+  module _ (clients′ : List ℕ) (v : Moving q clients′ rest t) (same : (f : ℕ) → f < setpointsField → clientWord clients′ q f ≡ clientWord (t .clients) q f)
       (received : (j : ℕ) → j < targets → (j ≡ i → ⊥) → receivedIn clients′ q j ≡ receivedOf t q j) (more : pending rest q ≡ true) where
     abbrev waiting : Tables
     waiting = repliedTables clients′ rest (t .writes) (t .reads) t
@@ -93,14 +93,14 @@ module _ {q i : ℕ} {t : Tables} (a : Came q i t) where
     waiting-client here =
         let n = moves-numbers q t waiting waiting-moves in
         let c = facts in
-        let state = same 0 (omega arith) in
-        let mask = same 2 (omega arith) in
+        let state = same stateField (omega arith) in
+        let mask = same maskField (omega arith) in
         record {
           allowed = rw (n .method, state) (c .allowed);
-          count = rw (state, same 1 (omega arith)) (c .count);
+          count = rw (state, same countField (omega arith)) (c .count);
           mask = rw (n .servers, mask) (c .mask);
           masked = λ e. rw mask (c .masked (λ z. e (state ∙ z)));
-          tag = rw (same 3 (omega arith), same-entries q t waiting waiting-moves) (c .tag);
+          tag = rw (same tagField (omega arith), same-entries q t waiting waiting-moves) (c .tag);
           link = λ j h. by-equal j i (λ e. rw e (link-empty waiting q i gone)) (λ e. link-kept t waiting n q j h state mask (λ f g. beside j f e g) (c .link j h));
           received = λ j h. by-equal j i (λ e. rw e here) (λ e. received-kept t waiting n q j h state mask (λ f g. beside j f e g) (received j h e) (c .received j h));
           busy = λ e. more;
@@ -108,4 +108,4 @@ module _ {q i : ℕ} {t : Tables} (a : Came q i t) where
 
     pub waiting-kept : receivedSound waiting q i ≡ true → Kept q t waiting
     waiting-kept here =
-        going-kept q clients′ rest t (a .sound) (a .client) (a .early) v (rw (same 0 (omega arith))) (rw (same 0 (omega arith))) (same 1 (omega arith)) (same 4 (omega arith)) (waiting-client here)
+        going-kept q clients′ rest t (a .sound) (a .client) (a .early) v (rw (same stateField (omega arith))) (rw (same stateField (omega arith))) (same countField (omega arith)) (same recordField (omega arith)) (waiting-client here)

@@ -10,7 +10,7 @@ use borrow.Author.Tests.{eq-eqb, ne-eqb, ltb-true, ltb-false, lt-ltb}
 use Rattle.ranges.specs.Tests.{by-test, by-equal, both, both-left, both-right}
 use Rattle.ranges.specs.Sum.{sumBelow}
 use Rattle.tables.specs.Rows.{wordAt}
-use Rattle.tables.specs.Layout.{clientWidth, clientWord, serverPlaces, logPlaces, recordPlaces, entryWidth, versionWord, recordWord, clientOfRecord, numberOfRecord, tagOfRecord}
+use Rattle.tables.specs.Layout.{clientWidth, clientWord, serverPlaces, logPlaces, recordPlaces, entryWidth, versionWord, recordWord, clientOfRecord, numberOfRecord, tagOfRecord, countField, maskField, stateField, tagField}
 use Rattle.tables.specs.Links.{targets, linkWidth, isEmpty}
 use Rattle.tables.specs.Tables.{Tables, methodOf, serversOf, clientsOf, stepOf, entriesOf, writesOf, readsOf, heldOf, stateOf, countOf, maskOf, tagOf, receivedOf, contentAt}
 use Rattle.rules.specs.Common.{entering, askingKeys, askingAll, coordinator}
@@ -70,10 +70,10 @@ module _ (t t′ : Tables) (n : Numbers t t′) where
   -- a client whose row and links stay
   pub client-kept : (q : ℕ) → ((f : ℕ) → f < clientWidth → clientWord (t′ .clients) q f ≡ clientWord (t .clients) q f) → ((i f : ℕ) → i < targets → f < linkWidth → linkWord (t′ .links) q i f ≡ linkWord (t .links) q i f) → ClientFacts t q → ClientFacts t′ q
   client-kept q row words c =
-      let state : stateOf t′ q ≡ stateOf t q = row 0 (omega arith) in
-      let mask : maskOf t′ q ≡ maskOf t q = row 2 (omega arith) in
-      let count : countOf t′ q ≡ countOf t q = row 1 (omega arith) in
-      let tag : tagOf t′ q ≡ tagOf t q = row 3 (omega arith) in
+      let state : stateOf t′ q ≡ stateOf t q = row stateField (omega arith) in
+      let mask : maskOf t′ q ≡ maskOf t q = row maskField (omega arith) in
+      let count : countOf t′ q ≡ countOf t q = row countField (omega arith) in
+      let tag : tagOf t′ q ≡ tagOf t q = row tagField (omega arith) in
       record {
         allowed = rw (n .method, state) (c .allowed);
         count = rw (state, count) (c .count);

@@ -13,6 +13,7 @@ use Rattle.tables.specs.Rows.{wordAt}
 use Rattle.tables.specs.Layout.{entryWidth}
 use Rattle.tables.specs.Links.{targets, linkWidth}
 use Rattle.tables.specs.Tables.{Tables, methodOf, serversOf, clientsOf, entriesOf, stateOf, countOf, maskOf, tagOf, receivedOf}
+use Rattle.tables.specs.declared.links.Content.{Content}
 use Rattle.rules.specs.Common.{askingSetpoints, request}
 use Rattle.rules.specs.Begin.{sentGets}
 use Rattle.soundness.specs.Sound.{keyInRange, uses, stateAllowed}
@@ -34,6 +35,9 @@ module _ (q mask tag : ℕ) (links : List ℕ) (t t′ : Tables) (s : Sound t) (
     (empty : (i : ℕ) → i < targets → linkWord links q i 0 ≡ 0) (long : linkWidth * (targets * q + targets) ≤ length links)
     (sends : t′ .links ≡ sentGets q mask (t .log) tag (serversOf t) links)
     (state : stateOf t′ q ≡ askingSetpoints) (mask′ : maskOf t′ q ≡ mask) where
+  abbrev get : ℕ → Content
+  get i = request (latestKey (t .log) i tag) 0
+
   few : serversOf t ≤ 16
   few = s .scalars .press .servers .most
 
@@ -44,7 +48,7 @@ module _ (q mask tag : ℕ) (links : List ℕ) (t t′ : Tables) (s : Sound t) (
   below i e = masked-below mask (serversOf t) i (masked .below) e
 
   got : (i f : ℕ) → f < linkWidth → hasServer mask i ≡ true → linkWord (t′ .links) q i f ≡ getD (1 ∷ keyWord (latestKey (t .log) i tag) ∷ 0 ∷ []) f 0
-  got i f g e = ap (λ (xs : List ℕ). linkWord xs q i f) sends ∙ sent-there q (serversOf t) (hasServer mask) (λ j. request (latestKey (t .log) j tag) 0) links (omega (arith, few)) long f g i (below i e) e
+  got i f g e = ap (λ (xs : List ℕ). linkWord xs q i f) sends ∙ sent-there q (serversOf t) (hasServer mask) get links (omega (arith, few)) long f g i (below i e) e
 
   pub gets-sent : stateAllowed (methodOf t) q askingSetpoints ≡ true → countOf t′ q ≤ 255 → tagOf t′ q < entriesOf t′ → ((i : ℕ) → i < targets → receivedOf t′ q i ≡ 0) → Sent t′ q
   gets-sent allowed count tagged received =
@@ -56,6 +60,6 @@ module _ (q mask tag : ℕ) (links : List ℕ) (t t′ : Tables) (s : Sound t) (
         some = let x = some-server mask (serversOf t) masked in (x .0, omega (arith, x .1, few), has (x .0) ∙ x .2);
         asked = λ i h u. got i 0 (omega arith) (sym (has i) ∙ u);
         good = λ i h u. rw (state, got i 1 (omega arith) (sym (has i) ∙ u), request-setpoints, n .clients) (latest-in-range t i tag s within);
-        rest = λ i h u. ap (λ (xs : List ℕ). linkWord xs q i 0) sends ∙ (sent-not q (serversOf t) (hasServer mask) (λ j. request (latestKey (t .log) j tag) 0) links (omega (arith, few)) long 0 (omega arith) i (sym (has i) ∙ u) ∙ empty i h);
+        rest = λ i h u. ap (λ (xs : List ℕ). linkWord xs q i 0) sends ∙ (sent-not q (serversOf t) (hasServer mask) get links (omega (arith, few)) long 0 (omega arith) i (sym (has i) ∙ u) ∙ empty i h);
         received = received;
       }

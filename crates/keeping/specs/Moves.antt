@@ -8,7 +8,7 @@ use lib.ListN.{length, length-set}
 use lib.Seq.{getD-set-same, getD-set-other}
 use Rattle.ranges.specs.Sum.{sumBelow}
 use Rattle.tables.specs.Rows.{wordAt}
-use Rattle.tables.specs.Layout.{countWords, countAt, stepField, writesField, readsField, heldField, recordPlaces, clientWidth, clientWord, versionWord, entryWidth}
+use Rattle.tables.specs.Layout.{countWords, countAt, stepField, writesField, readsField, heldField, recordPlaces, clientWidth, clientWord, versionWord, entryWidth, clientsField, entriesField, methodField, serversField}
 use Rattle.tables.specs.Links.{targets, linkWidth}
 use Rattle.tables.specs.Tables.{Tables, clientsOf, stepOf, entriesOf, writesOf, readsOf, heldOf, countOf}
 use Rattle.rules.specs.Common.{counted}
@@ -28,7 +28,7 @@ pub record Moves (q : ℕ) (t t′ : Tables) : Type 0 where
 
 module _ (q : ℕ) (t t′ : Tables) (m : Moves q t t′) where
   pub same-entries : entriesOf t′ ≡ entriesOf t
-  same-entries = m .count 4 (λ e. omega arith) (λ e. omega arith) (λ e. omega arith)
+  same-entries = m .count entriesField (λ e. omega arith) (λ e. omega arith) (λ e. omega arith)
 
   pub same-held : (i : ℕ) → heldOf t′ i ≡ heldOf t i
   same-held i = m .count (heldField + i) (λ e. omega arith) (λ e. omega arith) (λ e. omega arith)
@@ -39,9 +39,9 @@ module _ (q : ℕ) (t t′ : Tables) (m : Moves q t t′) where
   pub moves-numbers : Numbers t t′
   moves-numbers =
       record {
-        method = m .count 0 (λ e. omega arith) (λ e. omega arith) (λ e. omega arith);
-        servers = m .count 1 (λ e. omega arith) (λ e. omega arith) (λ e. omega arith);
-        clients = m .count 2 (λ e. omega arith) (λ e. omega arith) (λ e. omega arith);
+        method = m .count methodField (λ e. omega arith) (λ e. omega arith) (λ e. omega arith);
+        servers = m .count serversField (λ e. omega arith) (λ e. omega arith) (λ e. omega arith);
+        clients = m .count clientsField (λ e. omega arith) (λ e. omega arith) (λ e. omega arith);
         entries = omega (arith, same-entries);
         held = λ i h. omega (arith, same-held i);
       }

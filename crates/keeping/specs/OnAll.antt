@@ -13,7 +13,7 @@ use Rattle.ranges.specs.Picked.{picked}
 use Rattle.ranges.specs.Last.{last-below}
 use Rattle.keys.specs.Masks.{hasServer}
 use Rattle.tables.specs.Rows.{word-same}
-use Rattle.tables.specs.Layout.{clientWidth, clientWord, setpointsField, receivedField}
+use Rattle.tables.specs.Layout.{clientWidth, clientWord, setpointsField, receivedField, countField, maskField, stateField, tagField}
 use Rattle.tables.specs.Links.{targets, isEmpty, contentsOf}
 use Rattle.tables.specs.Tables.{Tables, serversOf, entriesOf, stateOf, maskOf, receivedOf, contentAt}
 use Rattle.tables.specs.declared.links.Contents.{Contents}
@@ -48,7 +48,7 @@ module _ (q i : ℕ) (t : Tables) (a : Came q i t) (state : stateOf t q ≡ aski
   row = putAll gotN q (t .clients)
 
   n-inside : ltb (receivedField + i) clientWidth ≡ true
-  n-inside = lt-ltb (receivedField + i) clientWidth (omega (arith, (a .target)))
+  n-inside = lt-ltb (receivedField + i) clientWidth (omega (arith, a .target))
 
   n-between : Between 1 number (holding t i)
   n-between = between-facts 1 number (holding t i) (rw (state, reply-all) at (asks a .reply (a .kind)))
@@ -57,13 +57,13 @@ module _ (q i : ℕ) (t : Tables) (a : Came q i t) (state : stateOf t q ≡ aski
   n-low f h = put-skip q gotN (t .clients) f (λ e. omega arith, tt)
 
   n-here : receivedIn row q i ≡ number
-  n-here = word-same clientWidth (t .clients) q (receivedField + i) number (row-room a) (omega (arith, (a .target)))
+  n-here = word-same clientWidth (t .clients) q (receivedField + i) number (row-room a) (omega (arith, a .target))
 
   n-beside : (j : ℕ) → (j ≡ i → ⊥) → receivedIn row q j ≡ receivedOf t q j
   n-beside j e = put-skip q gotN (t .clients) (receivedField + j) (λ z. e (omega arith), tt)
 
   n-moving : Moving q row rest t
-  n-moving = record { row = λ p f e h. put-elsewhere q gotN (t .clients) p f (rw n-inside) h e; link = elsewhere a; clients = put-length q gotN (t .clients); links = (rest-long a) }
+  n-moving = record { row = λ p f e h. put-elsewhere q gotN (t .clients) p f (rw n-inside) h e; link = elsewhere a; clients = put-length q gotN (t .clients); links = rest-long a }
 
   all-waits : pending rest q ≡ true → Kept q t (repliedTables row rest (t .writes) (t .reads) t)
   all-waits more =
@@ -71,8 +71,8 @@ module _ (q i : ℕ) (t : Tables) (a : Came q i t) (state : stateOf t q ≡ aski
       let m = going-moves q row rest t (a .sound) (a .client) (a .early) n-moving in
       let here : arrived after q i ≡ true =
       both (eqb (stateOf after q) askingAll) (uses (stateOf after q) (maskOf after q) i && isEmpty (contentAt after q i))
-      (eq-eqb (stateOf after q) askingAll (n-low 0 (omega arith) ∙ state))
-      (both (uses (stateOf after q) (maskOf after q) i) (isEmpty (contentAt after q i)) (rw (n-low 0 (omega arith), n-low 2 (omega arith)) (used a)) (kind-empty rest q i (gone a))) in
+      (eq-eqb (stateOf after q) askingAll (n-low stateField (omega arith) ∙ state))
+      (both (uses (stateOf after q) (maskOf after q) i) (isEmpty (contentAt after q i)) (rw (n-low stateField (omega arith), n-low maskField (omega arith)) (used a)) (kind-empty rest q i (gone a))) in
       let held : holding after i ≡ holding t i = same-holding q t after m i in
       waiting-kept a row n-moving (λ f h. n-low f (omega arith)) (λ j h e. n-beside j e) more
       (some-received after q i here (rw (n-here, held) n-between))
@@ -113,7 +113,7 @@ module _ (q i : ℕ) (t : Tables) (a : Came q i t) (state : stateOf t q ≡ aski
     forgotten = turns (forget q) targets shown
 
     abbrev putsEnd : List Put
-    putsEnd = put 3 chosen ∷ put 0 idle ∷ []
+    putsEnd = put tagField chosen ∷ put stateField idle ∷ []
 
     abbrev endRow : List ℕ
     endRow = putAll putsEnd q forgotten
@@ -136,28 +136,28 @@ module _ (q i : ℕ) (t : Tables) (a : Came q i t) (state : stateOf t q ≡ aski
           row = λ p f e h. put-elsewhere q putsEnd forgotten p f refl h e ∙ (forgotten-other p f h (λ z. e (z .0)) ∙ (shown-other p f h (λ z. e (z .0)) ∙ n-moving .row p f e h));
           link = elsewhere a;
           clients = put-length q putsEnd forgotten ∙ forgotten-long;
-          links = (rest-long a);
+          links = rest-long a;
         }
 
     end-word : (g : ℕ) → g < clientWidth → clientWord endRow q g ≡ lastPut putsEnd (clientWord forgotten q g) g
     end-word g h = put-read q putsEnd forgotten g (clientWord forgotten q g) (rw forgotten-long (row-room a)) refl h refl
 
-    low-word : (g : ℕ) → g < 5 → clientWord forgotten q g ≡ clientWord (t .clients) q g
+    low-word : (g : ℕ) → g < setpointsField → clientWord forgotten q g ≡ clientWord (t .clients) q g
     low-word g h = forgotten-other q g (omega arith) (λ z. omega (arith, z .1)) ∙ (shown-other q g (omega arith) (λ z. omega (arith, z .1)) ∙ n-low g (omega arith))
 
     end-received : (j : ℕ) → j < targets → receivedIn endRow q j ≡ 0
-    end-received j h = put-before q putsEnd forgotten 5 (receivedField + j) refl (omega arith) ∙ loop-there q receivedField targets (omega arith) (λ x. true) (λ x. 0) shown j (rw shown-long (row-room a)) h refl
+    end-received j h = put-before q putsEnd forgotten setpointsField (receivedField + j) refl (omega arith) ∙ loop-there q receivedField targets (omega arith) (λ x. true) (λ x. 0) shown j (rw shown-long (row-room a)) h refl
 
     all-ends : Kept q t (endedByC chosen row q rest t .tables)
     all-ends =
         let m = finished-moves q chosen endRow rest t (a .sound) (a .client) (a .early) end-moving (rw state) (rw state) chosen-within in
-        let count = end-word 1 (omega arith) ∙ low-word 1 (omega arith) in
-        ended-read-kept q chosen endRow rest t (a .sound) (a .client) (a .early) end-moving (rw state) (rw state) chosen-within (end-word 0 (omega arith)) count
+        let count = end-word countField (omega arith) ∙ low-word countField (omega arith) in
+        ended-read-kept q chosen endRow rest t (a .sound) (a .client) (a .early) end-moving (rw state) (rw state) chosen-within (end-word stateField (omega arith)) count
         (idle-client _ q (record {
-          state = end-word 0 (omega arith);
+          state = end-word stateField (omega arith);
           count = rw count (facts a .count .most);
-          mask = rw (end-word 2 (omega arith) ∙ low-word 2 (omega arith), moves-numbers q t _ m .servers) (facts a .mask);
-          tag = rw (end-word 3 (omega arith), same-entries q t _ m) chosen-within;
+          mask = rw (end-word maskField (omega arith) ∙ low-word maskField (omega arith), moves-numbers q t _ m .servers) (facts a .mask);
+          tag = rw (end-word tagField (omega arith), same-entries q t _ m) chosen-within;
           link = λ j h. none-pending rest q j h (kinds a j h) none;
           received = end-received;
         }))

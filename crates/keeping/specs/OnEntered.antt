@@ -6,7 +6,7 @@ use native.Mathlib.Omega.{arith}
 use lib.Dec.{leb, ltb}
 use borrow.Author.Tests.{ltb-true}
 use Rattle.ranges.specs.Tests.{both-right}
-use Rattle.tables.specs.Layout.{clientWidth, clientWord}
+use Rattle.tables.specs.Layout.{clientWidth, clientWord, countField, maskField, receivedField, setpointsField, stateField, tagField}
 use Rattle.tables.specs.Links.{contentsOf}
 use Rattle.tables.specs.Tables.{Tables, entriesOf, stateOf, maskOf}
 use Rattle.tables.specs.declared.links.Contents.{Contents}
@@ -33,10 +33,10 @@ module _ (q i : ℕ) (t : Tables) (a : Came q i t) (state : stateOf t q ≡ ente
   rest = emptied q i t
 
   abbrev putsEntered : List Put
-  putsEntered = put 3 number ∷ put 0 idle ∷ []
+  putsEntered = put tagField number ∷ put stateField idle ∷ []
 
   entered-moving : Moving q (putAll putsEntered q (t .clients)) rest t
-  entered-moving = record { row = λ p f e h. put-elsewhere q putsEntered (t .clients) p f refl h e; link = elsewhere a; clients = put-length q putsEntered (t .clients); links = (rest-long a) }
+  entered-moving = record { row = λ p f e h. put-elsewhere q putsEntered (t .clients) p f refl h e; link = elsewhere a; clients = put-length q putsEntered (t .clients); links = rest-long a }
 
   entered-word : (g : ℕ) → g < clientWidth → clientWord (putAll putsEntered q (t .clients)) q g ≡ lastPut putsEntered (clientWord (t .clients) q g) g
   entered-word g h = put-read q putsEntered (t .clients) g (clientWord (t .clients) q g) (row-room a) refl h refl
@@ -52,12 +52,12 @@ module _ (q i : ℕ) (t : Tables) (a : Came q i t) (state : stateOf t q ≡ ente
       let m = ended-moves q clients′ rest t (a .sound) (a .client) (a .early) entered-moving (rw state) (rw state) in
       let n = moves-numbers q t after m in
       let not-five : stateOf t q ≡ askingAll → ⊥ = λ e. omega (arith, state) in
-      ended-write-kept q clients′ rest t (a .sound) (a .client) (a .early) entered-moving (rw state) (rw state) (entered-word 0 (omega arith)) (entered-word 1 (omega arith))
+      ended-write-kept q clients′ rest t (a .sound) (a .client) (a .early) entered-moving (rw state) (rw state) (entered-word stateField (omega arith)) (entered-word countField (omega arith))
       (idle-client after q (record {
-        state = entered-word 0 (omega arith);
-        count = rw (entered-word 1 (omega arith)) (facts a .count .most);
-        mask = rw (entered-word 2 (omega arith), n .servers) (facts a .mask);
-        tag = rw (entered-word 3 (omega arith), same-entries q t after m) tag-within;
+        state = entered-word stateField (omega arith);
+        count = rw (entered-word countField (omega arith)) (facts a .count .most);
+        mask = rw (entered-word maskField (omega arith), n .servers) (facts a .mask);
+        tag = rw (entered-word tagField (omega arith), same-entries q t after m) tag-within;
         link = head-only a (λ j. rw state (uses-entering (maskOf t q) j));
-        received = λ j h. put-before q putsEntered (t .clients) 5 (21 + j) refl (omega arith) ∙ received-zero a not-five j h;
+        received = λ j h. put-before q putsEntered (t .clients) setpointsField (receivedField + j) refl (omega arith) ∙ received-zero a not-five j h;
       }))

@@ -7,10 +7,11 @@ use lib.ListN.{length}
 use borrow.Author.Tests.{eq-eqb, eqb-true}
 use Rattle.keys.specs.Masks.{hasServer}
 use Rattle.coordinator.specs.Latest.{latestKey}
-use Rattle.tables.specs.Layout.{clientWidth, clientWord}
+use Rattle.tables.specs.Layout.{clientWidth, clientWord, countField, maskField, receivedField, recordField, setpointsField, stateField, tagField}
 use Rattle.tables.specs.Links.{targets, linkWidth, contentsOf}
 use Rattle.tables.specs.Tables.{Tables, methodOf, serversOf, entriesOf, stateOf, maskOf}
 use Rattle.tables.specs.declared.links.Contents.{Contents}
+use Rattle.tables.specs.declared.links.Content.{Content}
 use Rattle.rules.specs.Common.{askingKeys, askingSetpoints, coordinator, request}
 use Rattle.rules.specs.Begin.{sentGets}
 use Rattle.rules.specs.Reply.{emptied, onKeys}
@@ -40,7 +41,10 @@ module _ (q i : ℕ) (t : Tables) (a : Came q i t) (state : stateOf t q ≡ aski
   lastKnown = number - 1
 
   abbrev putsKeys : List Put
-  putsKeys = put 3 lastKnown ∷ put 0 askingSetpoints ∷ []
+  putsKeys = put tagField lastKnown ∷ put stateField askingSetpoints ∷ []
+
+  abbrev get : ℕ → Content
+  get j = request (latestKey (t .log) j lastKnown) 0
 
   abbrev gets : List ℕ
   gets = sentGets q (maskOf t q) (t .log) lastKnown (serversOf t) rest
@@ -55,7 +59,7 @@ module _ (q i : ℕ) (t : Tables) (a : Came q i t) (state : stateOf t q ≡ aski
       omega (arith, f .least, f .most)
 
   rest-room : linkWidth * (targets * q + targets) ≤ length rest
-  rest-room = rw (rest-long a) (omega (arith, a .sound .long .links, (a .client)))
+  rest-room = rw (rest-long a) (omega (arith, a .sound .long .links, a .client))
 
   few : serversOf t ≤ targets
   few = omega (arith, a .sound .scalars .press .servers .most)
@@ -64,9 +68,9 @@ module _ (q i : ℕ) (t : Tables) (a : Came q i t) (state : stateOf t q ≡ aski
   keys-moving =
       record {
         row = λ p f e h. put-elsewhere q putsKeys (t .clients) p f refl h e;
-        link = λ p j f e h g. sent-others q (serversOf t) (hasServer (maskOf t q)) (λ x. request (latestKey (t .log) x lastKnown) 0) rest few rest-room f g p j e h ∙ elsewhere a p j f e h g;
+        link = λ p j f e h g. sent-others q (serversOf t) (hasServer (maskOf t q)) get rest few rest-room f g p j e h ∙ elsewhere a p j f e h g;
         clients = put-length q putsKeys (t .clients);
-        links = sent-length q (serversOf t) (hasServer (maskOf t q)) (λ x. request (latestKey (t .log) x lastKnown) 0) rest few rest-room ∙ (rest-long a);
+        links = sent-length q (serversOf t) (hasServer (maskOf t q)) get rest few rest-room ∙ rest-long a;
       }
 
   keys-word : (g : ℕ) → g < clientWidth → clientWord (putAll putsKeys q (t .clients)) q g ≡ lastPut putsKeys (clientWord (t .clients) q g) g
@@ -79,10 +83,10 @@ module _ (q i : ℕ) (t : Tables) (a : Came q i t) (state : stateOf t q ≡ aski
       let after = onKeys w q i t .tables in
       let m = going-moves q clients′ gets t (a .sound) (a .client) (a .early) keys-moving in
       let n = moves-numbers q t after m in
-      going-kept q clients′ gets t (a .sound) (a .client) (a .early) keys-moving (rw (keys-word 0 (omega arith), state)) (rw (keys-word 0 (omega arith), state)) (keys-word 1 (omega arith)) (keys-word 4 (omega arith))
+      going-kept q clients′ gets t (a .sound) (a .client) (a .early) keys-moving (rw (keys-word stateField (omega arith), state)) (rw (keys-word stateField (omega arith), state)) (keys-word countField (omega arith)) (keys-word recordField (omega arith))
       (sent-client after q
-      (gets-sent q (maskOf t q) lastKnown rest t after (a .sound) n (a .client) known-within (busy a (λ e. omega (arith, state))) (head-only a (λ j. rw state (uses-keys (maskOf t q) j))) rest-room refl (keys-word 0 (omega arith)) (keys-word 2 (omega arith))
+      (gets-sent q (maskOf t q) lastKnown rest t after (a .sound) n (a .client) known-within (busy a (λ e. omega (arith, state))) (head-only a (λ j. rw state (uses-keys (maskOf t q) j))) rest-room refl (keys-word stateField (omega arith)) (keys-word maskField (omega arith))
       (allowed-setpoints (methodOf t) q (rw state at (facts a .allowed)))
-      (rw (keys-word 1 (omega arith)) (facts a .count .most))
-      (rw (keys-word 3 (omega arith), same-entries q t after m) known-within)
-      (λ j h. put-before q putsKeys (t .clients) 5 (21 + j) refl (omega arith) ∙ received-zero a (λ e. omega (arith, state)) j h)))
+      (rw (keys-word countField (omega arith)) (facts a .count .most))
+      (rw (keys-word tagField (omega arith), same-entries q t after m) known-within)
+      (λ j h. put-before q putsKeys (t .clients) setpointsField (receivedField + j) refl (omega arith) ∙ received-zero a (λ e. omega (arith, state)) j h)))

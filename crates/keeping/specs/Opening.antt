@@ -16,7 +16,7 @@ use Rattle.ranges.specs.Turns.{turns, turns-keep}
 use Rattle.ranges.specs.Picked.{is-picked}
 use Rattle.keys.specs.Masks.{Within}
 use Rattle.tables.specs.Rows.{wordAt, HasRow, word-same, word-other, word-length, row-same, row-length, sets-at, sets-behind}
-use Rattle.tables.specs.Layout.{countWords, clientWidth, clientWord, serverPlaces, versionWord, putVersionWord, heldField, entryWidth, entryMask}
+use Rattle.tables.specs.Layout.{countWords, clientWidth, clientWord, serverPlaces, versionWord, putVersionWord, heldField, entryWidth, entryMask, clientsField, countField, entriesField, maskField, methodField, readsField, receivedField, serversField, stateField, stepField, tagField, writesField}
 use Rattle.tables.specs.Tables.{Tables, methodOf, serversOf, clientsOf, stepOf, entriesOf, writesOf, readsOf, heldOf, countOf}
 use Rattle.tables.specs.Links.{linkWidth, linkRow}
 use Rattle.rules.specs.Open.{cleared, holdOne, openedCounts, allServers, opened}
@@ -119,13 +119,13 @@ opened-words m k p setpoints t a =
         writes = l .writes;
         reads = l .reads;
       };
-      method = scalar m k p (t .counts) (l .counts) 0 (omega arith);
-      servers = scalar m k p (t .counts) (l .counts) 1 (omega arith);
-      clients = scalar m k p (t .counts) (l .counts) 2 (omega arith);
-      step = scalar m k p (t .counts) (l .counts) 3 (omega arith);
-      entries = scalar m k p (t .counts) (l .counts) 4 (omega arith);
-      writes = none-begun m k p (t .counts) (l .counts) 5 (omega arith) (omega arith);
-      reads = none-begun m k p (t .counts) (l .counts) 6 (omega arith) (omega arith);
+      method = scalar m k p (t .counts) (l .counts) methodField (omega arith);
+      servers = scalar m k p (t .counts) (l .counts) serversField (omega arith);
+      clients = scalar m k p (t .counts) (l .counts) clientsField (omega arith);
+      step = scalar m k p (t .counts) (l .counts) stepField (omega arith);
+      entries = scalar m k p (t .counts) (l .counts) entriesField (omega arith);
+      writes = none-begun m k p (t .counts) (l .counts) writesField (omega arith) (omega arith);
+      reads = none-begun m k p (t .counts) (l .counts) readsField (omega arith) (omega arith);
       held = λ i h. one-held m k p (t .counts) (l .counts) i (a .press .servers .most) h;
       key = first-put k (λ i. 0) (t .keys) (l .keys);
       value = first-put k (λ i. getD setpoints i 0) (t .values) (l .values);
@@ -164,12 +164,12 @@ module _ (m k p : ℕ) (setpoints : List ℕ) (t : Tables) (press : Press m k p)
   opened-client : (q : ℕ) → ClientFacts t q
   opened-client q =
       idle-client t q (record {
-        state = o .word q 0;
-        count = rw (o .word q 1) (omega arith);
-        mask = rw (o .word q 2, o .servers) (omega (arith, two));
-        tag = rw (o .word q 3, o .entries) (omega arith);
+        state = o .word q stateField;
+        count = rw (o .word q countField) (omega arith);
+        mask = rw (o .word q maskField, o .servers) (omega (arith, two));
+        tag = rw (o .word q tagField, o .entries) (omega arith);
         link = λ i h. o .link q i 0;
-        received = λ i h. o .word q (21 + i);
+        received = λ i h. o .word q (receivedField + i);
       })
 
   opened-facts : Sound t
@@ -186,12 +186,12 @@ module _ (m k p : ℕ) (setpoints : List ℕ) (t : Tables) (press : Press m k p)
         server = λ i h. opened-server i (rw (o .servers) at h);
         log = opened-log;
         client = λ q h. opened-client q;
-        counts = let z : sumBelow (countOf t) (clientsOf t) ≤ clientsOf t * 0 = sum-most (countOf t) 0 (clientsOf t) (λ q l. rw (o .word q 1) (omega arith)) in omega (arith, o .writes);
+        counts = let z : sumBelow (countOf t) (clientsOf t) ≤ clientsOf t * 0 = sum-most (countOf t) 0 (clientsOf t) (λ q l. rw (o .word q countField) (omega arith)) in omega (arith, o .writes);
         write = λ n h. let z : ⊥ = omega (arith, o .writes) in absurd z;
         read = λ n h. let z : ⊥ = omega (arith, o .reads) in absurd z;
         records = λ q h. record {
-          write = rw (o .word q 0, o .writes) (facts-none (t .writes) 0 q _ (count-zero (isOpen (t .writes) q)));
-          read = rw (o .word q 0, o .reads) (facts-none (t .reads) 0 q _ (count-zero (isOpen (t .reads) q)));
+          write = rw (o .word q stateField, o .writes) (facts-none (t .writes) 0 q _ (count-zero (isOpen (t .writes) q)));
+          read = rw (o .word q stateField, o .reads) (facts-none (t .reads) 0 q _ (count-zero (isOpen (t .reads) q)));
         };
       }
 

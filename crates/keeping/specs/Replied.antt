@@ -8,7 +8,7 @@ use lib.ListN.{length, length-set}
 use Rattle.ranges.specs.Tests.{by-equal}
 use Rattle.ranges.specs.Sum.{sum-same}
 use Rattle.tables.specs.Rows.{HasRow}
-use Rattle.tables.specs.Layout.{writesField, readsField, stateField, recordField, clientWidth, clientWord, recordWidth, recordWord, clientOfRecord, numberOfRecord, tagOfRecord, endOfRecord}
+use Rattle.tables.specs.Layout.{writesField, readsField, stateField, recordField, clientWidth, clientWord, recordWidth, recordWord, clientOfRecord, numberOfRecord, tagOfRecord, endOfRecord, countField}
 use Rattle.tables.specs.Links.{targets, linkWidth}
 use Rattle.tables.specs.Tables.{Tables, tablesOf, clientsOf, stepOf, entriesOf, writesOf, readsOf, stateOf, countOf, recordOf}
 use Rattle.rules.specs.Common.{idle, nextStep, counted, endedRecord, taggedRecord}
@@ -70,7 +70,7 @@ module _ (q : ℕ) (clients′ links′ writes′ reads′ : List ℕ) (t : Tabl
         writes = rw same-writes (s .scalars .writes);
         reads = rw same-reads (s .scalars .reads);
         client = c;
-        counts = rw same-writes (sum-same (countOf after) (countOf t) (clientsOf t) (λ p h. by-equal p q (λ e. rw e count) (λ d. v .row p 1 d (omega arith))) ∙ s .counts);
+        counts = rw same-writes (sum-same (countOf after) (countOf t) (clientsOf t) (λ p h. by-equal p q (λ e. rw e count) (λ d. v .row p countField d (omega arith))) ∙ s .counts);
         write = λ n h. w n (rw same-writes at h);
         read = λ n h. r n (rw same-reads at h);
         records = λ p h. record { write = rw same-writes (x p h); read = rw same-reads (y p h) };

@@ -11,7 +11,7 @@ use Rattle.ranges.specs.Tests.{by-test, by-equal, both, both-left, both-right}
 use Rattle.keys.specs.Keys.{keyWord, keyAtWord, key-back}
 use Rattle.keys.specs.Masks.{maskWithin, within-true}
 use Rattle.tables.specs.Rows.{HasRow}
-use Rattle.tables.specs.Layout.{countAt, stepField, entriesField, serverPlaces, logPlaces, putEntry}
+use Rattle.tables.specs.Layout.{countAt, stepField, entriesField, serverPlaces, logPlaces, putEntry, methodField, readsField, serversField, writesField}
 use Rattle.tables.specs.Links.{targets, linkWidth, linkRow, link-length, contentsOf}
 use Rattle.tables.specs.Tables.{Tables, serversOf, clientsOf, stepOf, entriesOf, heldOf, stateOf, maskOf, contentAt}
 use Rattle.server.specs.Held.{stored, appended, firstBearing}
@@ -89,11 +89,11 @@ module _ (q i number : ℕ) (t : Tables) (s : Sound t) (client : q < clientsOf t
   answered-client =
       let c = s .client q client in
       record {
-        allowed = rw (same 0 (λ e. omega arith)) (c .allowed);
+        allowed = rw (same methodField (λ e. omega arith)) (c .allowed);
         count = c .count;
-        mask = rw (same 1 (λ e. omega arith)) (c .mask);
+        mask = rw (same serversField (λ e. omega arith)) (c .mask);
         masked = c .masked;
-        tag = rw (same 4 (λ e. omega arith)) (c .tag);
+        tag = rw (same entriesField (λ e. omega arith)) (c .tag);
         link = λ j h. by-equal j i (λ e. rw e answered-link) (λ d. link-kept t after answered-numbers q j h refl refl (λ f l. other q j f (λ e. d (e .1)) h l) (c .link j h));
         received = λ j h. by-equal j i (λ e. rw e answered-received) (λ d. received-kept t after answered-numbers q j h refl refl (λ f l. other q j f (λ e. d (e .1)) h l) refl (c .received j h));
         busy = λ d. pending-at (after .links) q i target (answered-link .kind) answered-full;
@@ -101,9 +101,9 @@ module _ (q i number : ℕ) (t : Tables) (s : Sound t) (client : q < clientsOf t
 
   answered-anew : Anew q t after
   answered-anew =
-      let entries = same 4 (λ e. omega arith) in
-      let writes = same 5 (λ e. omega arith) in
-      let reads = same 6 (λ e. omega arith) in
+      let entries = same entriesField (λ e. omega arith) in
+      let writes = same writesField (λ e. omega arith) in
+      let reads = same readsField (λ e. omega arith) in
       record {
         step = rw (counted-step (t .counts) (s .long .counts)) (record { least = omega arith; most = omega arith });
         writes = rw writes (s .scalars .writes);
