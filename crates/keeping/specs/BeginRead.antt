@@ -78,7 +78,8 @@ module _ (q mask : ℕ) (puts : List Put) (links′ : List ℕ) (t : Tables) (s 
         };
       }
 
-  module _ (m : Moves q t after) (reading : isReading (stateOf after q) ≡ true) (writes : isWriting (stateOf after q) ≡ false) (count : countOf after q ≡ countOf t q) (place : recordOf after q ≡ readsOf t) (c : ClientFacts after q) where
+  module _ (m : Moves q t after) (reading : isReading (stateOf after q) ≡ true) (writes : isWriting (stateOf after q) ≡ false) (count : countOf after q ≡ countOf t q)
+      (place : recordOf after q ≡ readsOf t) (c : ClientFacts after q) where
     begun-sum : sumBelow (countOf after) (clientsOf t) ≡ writesOf after
     begun-sum = rw same-writes (sum-same (countOf after) (countOf t) (clientsOf t) (λ p h. by-equal p q (λ e. rw e count) (λ d. m .row p countField d (omega arith))) ∙ s .counts)
 

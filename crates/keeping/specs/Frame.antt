@@ -27,7 +27,8 @@ pub record Numbers (t t′ : Tables) : Type 0 where
   pub held : (i : ℕ) → i < 16 → heldOf t i ≤ heldOf t′ i
 
 -- a number within a bound is within a greater one
-reply-more : (b c : Bool) (number n n′ h h′ : ℕ) → n ≤ n′ → h ≤ h′ → cond b (leb 1 number && ltb number n) (cond c (between 1 number h) true) ≡ true → cond b (leb 1 number && ltb number n′) (cond c (between 1 number h′) true) ≡ true
+reply-more : (b c : Bool) (number n n′ h h′ : ℕ) → n ≤ n′ → h ≤ h′ → cond b (leb 1 number && ltb number n) (cond c (between 1 number h) true) ≡ true →
+    cond b (leb 1 number && ltb number n′) (cond c (between 1 number h′) true) ≡ true
 reply-more true c number n n′ h h′ g l e = both (leb 1 number) (ltb number n′) (both-left _ _ e) (lt-ltb number n′ (omega (arith, ltb-true number n (both-right (leb 1 number) _ e))))
 reply-more false true number n n′ h h′ g l e = let f = between-facts 1 number h e in facts-between 1 number h′ (record { least = f .least; most = omega (arith, f .most) })
 reply-more false false number n n′ h h′ g l e = refl
@@ -68,7 +69,8 @@ module _ (t t′ : Tables) (n : Numbers t t′) where
         (received-more (eqb (stateOf t q) askingAll && (uses (stateOf t q) (maskOf t q) i && isEmpty (contentAt t q i))) (receivedOf t q i) (holding t i) (holding t′ i) (holding-more i h) e)
 
   -- a client whose row and links stay
-  pub client-kept : (q : ℕ) → ((f : ℕ) → f < clientWidth → clientWord (t′ .clients) q f ≡ clientWord (t .clients) q f) → ((i f : ℕ) → i < targets → f < linkWidth → linkWord (t′ .links) q i f ≡ linkWord (t .links) q i f) → ClientFacts t q → ClientFacts t′ q
+  pub client-kept : (q : ℕ) → ((f : ℕ) → f < clientWidth → clientWord (t′ .clients) q f ≡ clientWord (t .clients) q f) →
+      ((i f : ℕ) → i < targets → f < linkWidth → linkWord (t′ .links) q i f ≡ linkWord (t .links) q i f) → ClientFacts t q → ClientFacts t′ q
   client-kept q row words c =
       let state : stateOf t′ q ≡ stateOf t q = row stateField (omega arith) in
       let mask : maskOf t′ q ≡ maskOf t q = row maskField (omega arith) in
@@ -86,10 +88,12 @@ module _ (t t′ : Tables) (n : Numbers t t′) where
       }
 
   -- a record whose client and number stay, and whose tag is within the log
-  pub write-kept : (m : ℕ) → recordWord (t′ .writes) m clientOfRecord ≡ recordWord (t .writes) m clientOfRecord → recordWord (t′ .writes) m numberOfRecord ≡ recordWord (t .writes) m numberOfRecord → recordWord (t′ .writes) m tagOfRecord < entriesOf t′ → WriteFacts t m → WriteFacts t′ m
+  pub write-kept : (m : ℕ) → recordWord (t′ .writes) m clientOfRecord ≡ recordWord (t .writes) m clientOfRecord →
+      recordWord (t′ .writes) m numberOfRecord ≡ recordWord (t .writes) m numberOfRecord → recordWord (t′ .writes) m tagOfRecord < entriesOf t′ → WriteFacts t m → WriteFacts t′ m
   write-kept m c k h w = record { client = rw (c, n .clients) (w .client); count = rw k (w .count); tag = h }
 
-  pub read-kept : (m : ℕ) → recordWord (t′ .reads) m clientOfRecord ≡ recordWord (t .reads) m clientOfRecord → recordWord (t′ .reads) m numberOfRecord ≡ recordWord (t .reads) m numberOfRecord → recordWord (t′ .reads) m tagOfRecord < entriesOf t′ → ReadFacts t m → ReadFacts t′ m
+  pub read-kept : (m : ℕ) → recordWord (t′ .reads) m clientOfRecord ≡ recordWord (t .reads) m clientOfRecord →
+      recordWord (t′ .reads) m numberOfRecord ≡ recordWord (t .reads) m numberOfRecord → recordWord (t′ .reads) m tagOfRecord < entriesOf t′ → ReadFacts t m → ReadFacts t′ m
   read-kept m c k h w = record { client = rw (c, n .clients) (w .client); mask = rw (k, n .servers) (w .mask); tag = h }
 
 -- No table changes its length.

@@ -101,7 +101,8 @@ pub open-client : (records : List ℕ) (q n : ℕ) → isOpen records q n ≡ tr
 open-client records q n e = eqb-true _ _ (both-left (eqb (recordWord records n clientOfRecord) q) (eqb (recordWord records n endOfRecord) 0) e)
 
 -- whether a record is open goes by two of its words
-pub open-words : (records records′ : List ℕ) (q n : ℕ) → recordWord records′ n clientOfRecord ≡ recordWord records n clientOfRecord → recordWord records′ n endOfRecord ≡ recordWord records n endOfRecord → isOpen records′ q n ≡ isOpen records q n
+pub open-words : (records records′ : List ℕ) (q n : ℕ) → recordWord records′ n clientOfRecord ≡ recordWord records n clientOfRecord →
+    recordWord records′ n endOfRecord ≡ recordWord records n endOfRecord → isOpen records′ q n ≡ isOpen records q n
 open-words records records′ q n c e = rw (c, e)
 
 -- A tag put into a record: no record in progress comes or goes.

@@ -91,7 +91,8 @@ module _ (q : ℕ) (clients′ links′ : List ℕ) (t : Tables) (s : Sound t) (
   pub going-moves : Moves q t going
   going-moves = replied-moves q clients′ links′ (t .writes) (t .reads) t s client early v refl refl
 
-  pub going-kept : isWriting (stateOf going q) ≡ isWriting (stateOf t q) → isReading (stateOf going q) ≡ isReading (stateOf t q) → countOf going q ≡ countOf t q → recordOf going q ≡ recordOf t q → ClientFacts going q → Kept q t going
+  pub going-kept : isWriting (stateOf going q) ≡ isWriting (stateOf t q) → isReading (stateOf going q) ≡ isReading (stateOf t q) → countOf going q ≡ countOf t q →
+      recordOf going q ≡ recordOf t q → ClientFacts going q → Kept q t going
   going-kept w r count place c =
       replied-kept q clients′ links′ (t .writes) (t .reads) t s client early v refl refl count c
       (write-stays q clients′ links′ (t .writes) (t .reads) t s client early v refl refl refl)

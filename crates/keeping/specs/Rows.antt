@@ -53,7 +53,8 @@ Avoids (x ∷ puts) g = (g ≡ x .field → ⊥) × Avoids puts g
 
 module _ (q : ℕ) where
   -- the client's row: at each field the last word put there
-  pub put-read : (puts : List Put) (clients : List ℕ) (g d : ℕ) → HasRow clientWidth clients q → inRow puts ≡ true → g < clientWidth → clientWord clients q g ≡ d → clientWord (putAll puts q clients) q g ≡ lastPut puts d g
+  pub put-read : (puts : List Put) (clients : List ℕ) (g d : ℕ) → HasRow clientWidth clients q → inRow puts ≡ true → g < clientWidth → clientWord clients q g ≡ d →
+      clientWord (putAll puts q clients) q g ≡ lastPut puts d g
   put-read [] clients g d h l k e = e
   put-read (x ∷ puts) clients g d h l k e =
       let f = ltb-true (x .field) clientWidth (both-left (ltb (x .field) clientWidth) (inRow puts) l) in
