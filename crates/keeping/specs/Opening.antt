@@ -1,0 +1,202 @@
+-- An accepted opening leaves sound tables, whatever stood in them before.
+use Prim.Native.Nat.{ℕ, _+_, _*_, _^_, _≤_, _<_}
+use mathlib.Core.Path.{_≡_, refl, _∙_}
+use mathlib.Core.Bool.{true}
+use mathlib.Core.List.{List, [], _∷_}
+use native.Mathlib.Nat.{zero-add}
+use native.Mathlib.Omega.{arith}
+use lib.ListN.{getD, length, length-set, length-replicate, getD-replicate, List·getD-eq-default}
+use lib.Seq.{getD-set-same, getD-set-other, sets, length-sets}
+use lib.Pow.{pow-mono}
+use lib.Dec.{ltb}
+use borrow.Author.Tests.{ltb-true, ltb-false}
+use Rattle.ranges.specs.Tests.{by-test}
+use Rattle.ranges.specs.Sum.{sumBelow, sum-most, count-zero}
+use Rattle.ranges.specs.Turns.{turns, turns-keep}
+use Rattle.ranges.specs.Picked.{is-picked}
+use Rattle.keys.specs.Masks.{Within}
+use Rattle.tables.specs.Rows.{wordAt, HasRow, word-same, word-other, word-length, row-same, row-length, sets-at, sets-behind}
+use Rattle.tables.specs.Layout.{countWords, clientWidth, clientWord, serverPlaces, versionWord, putVersionWord, heldField, entryWidth, entryMask, clientsField, countField, entriesField, maskField, methodField, readsField, receivedField, serversField, stateField, stepField, tagField, writesField}
+use Rattle.tables.specs.Tables.{Tables, methodOf, serversOf, clientsOf, stepOf, entriesOf, writesOf, readsOf, heldOf, countOf}
+use Rattle.tables.specs.Links.{linkWidth, linkRow}
+use Rattle.rules.specs.Open.{cleared, holdOne, openedCounts, allServers, opened}
+use Rattle.soundness.specs.Sound.{keyInRange, isOpen}
+use Rattle.soundness.specs.Facts.{Long, Press, ServerFacts, LogFacts, ClientFacts, Sound}
+use Rattle.store.specs.Refusals.{openRefusal}
+use Rattle.keeping.specs.Accepted.{Openable, openable}
+use Rattle.keeping.specs.Links.{linkWord}
+use Rattle.keeping.specs.Rounds.{idle-client}
+use Rattle.keeping.specs.Records.{facts-none}
+
+-- a cleared table has its length, and holds 0 everywhere
+cleared-length : (words : List ℕ) → length (cleared words) ≡ length words
+cleared-length words = length-replicate (length words) 0
+
+cleared-word : (words : List ℕ) (i : ℕ) → getD (cleared words) i 0 ≡ 0
+cleared-word words i =
+    by-test (ltb i (length words))
+    (λ b. getD-replicate (length words) i 0 0 (ltb-true _ _ b))
+    (λ b. List·getD-eq-default (cleared words) 0 (rw (cleared-length words) (ltb-false _ _ b)))
+
+-- the counts that an opening leaves
+module _ (m k p : ℕ) (counts : List ℕ) (long : countWords ≤ length counts) where
+  abbrev row : List ℕ
+  row = m ∷ k ∷ p ∷ 1 ∷ 1 ∷ []
+
+  abbrev start : List ℕ
+  start = sets (cleared counts) 0 row
+
+  start-length : length start ≡ length counts
+  start-length = length-sets (cleared counts) 0 row ∙ cleared-length counts
+
+  opened-length : length (openedCounts m k p counts) ≡ length counts
+  opened-length = turns-keep holdOne (λ xs. length xs ≡ length counts) (λ i xs e. length-set xs (heldField + i) 1 ∙ e) k start start-length
+
+  -- below the versions held nothing is touched by the loop
+  before-held : (f : ℕ) → f < heldField → getD (openedCounts m k p counts) f 0 ≡ getD start f 0
+  before-held f h = turns-keep holdOne (λ xs. getD xs f 0 ≡ getD start f 0) (λ i xs e. getD-set-other xs (heldField + i) f 1 0 (λ z. omega arith) ∙ e) k start refl
+
+  scalar : (f : ℕ) → f < 5 → getD (openedCounts m k p counts) f 0 ≡ getD row f 0
+  scalar f h = before-held f (omega arith) ∙ rw (zero-add f) at (sets-at row (cleared counts) 0 f h (rw (cleared-length counts) (omega arith)))
+
+  none-begun : (f : ℕ) → 5 ≤ f → f < heldField → getD (openedCounts m k p counts) f 0 ≡ 0
+  none-begun f h g = before-held f g ∙ (sets-behind row (cleared counts) 0 f (omega arith) ∙ cleared-word counts f)
+
+  one-held : (i : ℕ) → k ≤ 16 → i < k → getD (openedCounts m k p counts) (heldField + i) 0 ≡ 1
+  one-held i few h =
+      is-picked (λ xs j. getD xs (heldField + j) 0) holdOne (λ j. 1) (λ xs. countWords ≤ length xs) k
+      (λ j xs r. rw (length-set xs (heldField + j) 1) r)
+      (λ j xs l r. getD-set-same xs (heldField + j) 1 0 (omega arith))
+      (λ j n xs l d. getD-set-other xs (heldField + j) (heldField + n) 1 0 (λ z. d (omega arith)))
+      (λ j. true) start (rw start-length long) k i (omega arith) h refl
+
+-- the first word of each server's versions, keys or setpoints
+module _ (k : ℕ) (value : ℕ → ℕ) (words : List ℕ) (long : serverPlaces * k ≤ length words) where
+  abbrev first : ℕ → List ℕ → List ℕ
+  first i xs = putVersionWord xs i 0 (value i)
+
+  first-put : (i : ℕ) → i < k → versionWord (turns first k words) i 0 ≡ value i
+  first-put i h =
+      is-picked (λ xs j. versionWord xs j 0) first value (λ xs. serverPlaces * k ≤ length xs) k
+      (λ j xs r. rw (word-length serverPlaces xs j 0 (value j)) r)
+      (λ j xs l r. word-same serverPlaces xs j 0 (value j) (omega arith) (omega arith))
+      (λ j n xs l d. word-other serverPlaces xs j 0 (value j) n 0 (omega arith) (omega arith) (λ z. d (z .0)))
+      (λ j. true) words long k i (omega arith) h refl
+
+  first-length : length (turns first k words) ≡ length words
+  first-length = turns-keep first (λ xs. length xs ≡ length words) (λ i xs e. word-length serverPlaces xs i 0 (value i) ∙ e) k words refl
+
+-- What an opening leaves, word by word.
+pub record Opened (m k p : ℕ) (setpoints : List ℕ) (t : Tables) : Type 0 where
+  pub long : Long k p t
+  pub method : methodOf t ≡ m
+  pub servers : serversOf t ≡ k
+  pub clients : clientsOf t ≡ p
+  pub step : stepOf t ≡ 1
+  pub entries : entriesOf t ≡ 1
+  pub writes : writesOf t ≡ 0
+  pub reads : readsOf t ≡ 0
+  pub held : (i : ℕ) → i < k → heldOf t i ≡ 1
+  pub key : (i : ℕ) → i < k → versionWord (t .keys) i 0 ≡ 0
+  pub value : (i : ℕ) → i < k → versionWord (t .values) i 0 ≡ getD setpoints i 0
+  pub entrykey : wordAt entryWidth (t .log) 0 0 ≡ 0
+  pub entrymask : entryMask (t .log) 0 ≡ allServers k
+  pub word : (q f : ℕ) → clientWord (t .clients) q f ≡ 0
+  pub link : (q i f : ℕ) → linkWord (t .links) q i f ≡ 0
+
+pub opened-words : (m k p : ℕ) (setpoints : List ℕ) (t : Tables) → Openable m k p setpoints t → Opened m k p setpoints (opened m k p setpoints t)
+opened-words m k p setpoints t a =
+    let l = a .long in
+    let entry : HasRow entryWidth (t .log) 0 = omega (arith, l .log) in
+    record {
+      long = record {
+        counts = rw (opened-length m k p (t .counts) (l .counts)) (l .counts);
+        clients = rw (cleared-length (t .clients)) (l .clients);
+        links = rw (cleared-length (t .links)) (l .links);
+        keys = rw (first-length k (λ i. 0) (t .keys) (l .keys)) (l .keys);
+        values = rw (first-length k (λ i. getD setpoints i 0) (t .values) (l .values)) (l .values);
+        log = rw (row-length entryWidth (t .log) 0 (0 ∷ allServers k ∷ [])) (l .log);
+        writes = l .writes;
+        reads = l .reads;
+      };
+      method = scalar m k p (t .counts) (l .counts) methodField (omega arith);
+      servers = scalar m k p (t .counts) (l .counts) serversField (omega arith);
+      clients = scalar m k p (t .counts) (l .counts) clientsField (omega arith);
+      step = scalar m k p (t .counts) (l .counts) stepField (omega arith);
+      entries = scalar m k p (t .counts) (l .counts) entriesField (omega arith);
+      writes = none-begun m k p (t .counts) (l .counts) writesField (omega arith) (omega arith);
+      reads = none-begun m k p (t .counts) (l .counts) readsField (omega arith) (omega arith);
+      held = λ i h. one-held m k p (t .counts) (l .counts) i (a .press .servers .most) h;
+      key = first-put k (λ i. 0) (t .keys) (l .keys);
+      value = first-put k (λ i. getD setpoints i 0) (t .values) (l .values);
+      entrykey = row-same entryWidth (t .log) 0 (0 ∷ allServers k ∷ []) 0 entry (omega arith) (omega arith);
+      entrymask = row-same entryWidth (t .log) 0 (0 ∷ allServers k ∷ []) 1 entry (omega arith) (omega arith);
+      word = λ q f. cleared-word (t .clients) (clientWidth * q + f);
+      link = λ q i f. cleared-word (t .links) (linkWidth * linkRow q i + f);
+    }
+
+-- Tables opened so are sound.
+module _ (m k p : ℕ) (setpoints : List ℕ) (t : Tables) (press : Press m k p) (o : Opened m k p setpoints t) where
+  opened-server : (i : ℕ) → i < k → ServerFacts t i
+  unfolding keyInRange
+  opened-server i h =
+      record {
+        held = rw (o .held i h) (record { least = omega arith; most = omega arith });
+        first = o .key i h;
+        key = λ place l. let z : place ≡ 0 = omega (arith, o .held i h) in rw (z, o .key i h);
+      }
+
+  two : 2 ^ 1 ≤ 2 ^ k
+  two = pow-mono (press .servers .least)
+
+  all-servers : Within (allServers k) k
+  all-servers = record { some = omega (arith, two); below = omega (arith, two) }
+
+  opened-log : LogFacts t
+  unfolding keyInRange
+  opened-log =
+      record {
+        firstkey = o .entrykey;
+        firstmask = rw (o .servers) (o .entrymask);
+        entry = λ tag h. let z : tag ≡ 0 = omega (arith, o .entries) in rw z (record { key = rw (o .entrykey); mask = rw (o .servers, o .entrymask) all-servers });
+      }
+
+  opened-client : (q : ℕ) → ClientFacts t q
+  opened-client q =
+      idle-client t q (record {
+        state = o .word q stateField;
+        count = rw (o .word q countField) (omega arith);
+        mask = rw (o .word q maskField, o .servers) (omega (arith, two));
+        tag = rw (o .word q tagField, o .entries) (omega arith);
+        link = λ i h. o .link q i 0;
+        received = λ i h. o .word q (receivedField + i);
+      })
+
+  opened-facts : Sound t
+  opened-facts =
+      record {
+        long = rw (o .servers, o .clients) (o .long);
+        scalars = record {
+          press = rw (o .method, o .servers, o .clients) press;
+          step = rw (o .step) (record { least = omega arith; most = omega arith });
+          entries = rw (o .entries) (record { least = omega arith; most = omega arith });
+          writes = rw (o .writes) (omega arith);
+          reads = rw (o .reads) (omega arith);
+        };
+        server = λ i h. opened-server i (rw (o .servers) at h);
+        log = opened-log;
+        client = λ q h. opened-client q;
+        counts = let z : sumBelow (countOf t) (clientsOf t) ≤ clientsOf t * 0 = sum-most (countOf t) 0 (clientsOf t) (λ q l. rw (o .word q countField) (omega arith)) in omega (arith, o .writes);
+        write = λ n h. let z : ⊥ = omega (arith, o .writes) in absurd z;
+        read = λ n h. let z : ⊥ = omega (arith, o .reads) in absurd z;
+        records = λ q h. record {
+          write = rw (o .word q stateField, o .writes) (facts-none (t .writes) 0 q _ (count-zero (isOpen (t .writes) q)));
+          read = rw (o .word q stateField, o .reads) (facts-none (t .reads) 0 q _ (count-zero (isOpen (t .reads) q)));
+        };
+      }
+
+-- "Open" on tables that are long enough, accepted, leaves sound tables.
+pub opened-sound : (m k p : ℕ) (setpoints : List ℕ) (t : Tables) → openRefusal m k p setpoints t ≡ 0 → Sound (opened m k p setpoints t)
+opened-sound m k p setpoints t e =
+    let a = openable m k p setpoints t e in
+    opened-facts m k p setpoints (opened m k p setpoints t) (a .press) (opened-words m k p setpoints t a)
