@@ -15,7 +15,7 @@ use Rattle.tables.specs.Tables.{Tables, methodOf, serversOf, clientsOf, stepOf,
 use Rattle.rules.specs.Common.{idle, coordinator}
 use Rattle.soundness.specs.Sound.{longEnough, pressFits, holding, sound}
 use Rattle.soundness.specs.Facts.{Long, long-facts, Press, press-facts, Sound}
-use Rattle.store.specs.Refusals.{openRefusal, writeRefusal, readRefusal, deliveryRefusal, isTarget, atLastStep}
+use Rattle.refusals.specs.Refusals.{openRefusal, writeRefusal, readRefusal, deliveryRefusal, isTarget, atLastStep}
 
 -- a cause that is a failed test is absent: the test passed, and no later cause refuses
 has : (b : Bool) (n rest : ℕ) → cond (not b) (suc n) rest ≡ 0 → (b ≡ true) × (rest ≡ 0)

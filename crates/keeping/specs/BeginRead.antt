@@ -21,7 +21,7 @@ use Rattle.rules.specs.Common.{askingKeys, askingSetpoints, askingAll, coordina
 use Rattle.rules.specs.Begin.{lastTag, sentGets, sendAsk, sentAsks, asking, begunReadWith, begunRead}
 use Rattle.soundness.specs.Sound.{isWriting, isReading, uses, sound}
 use Rattle.soundness.specs.Facts.{ClientFacts, ReadFacts, RecordsFacts, Sound}
-use Rattle.store.specs.Refusals.{readRefusal}
+use Rattle.refusals.specs.Refusals.{readRefusal}
 use Rattle.keeping.specs.Accepted.{neither, Beginnable, readable}
 use Rattle.keeping.specs.Links.{linkWord, put-same, put-other, put-beside}
 use Rattle.keeping.specs.States.{masked-below, not-all, received-none, allowed-by-A, allowed-by-B, allowed-by-C, uses-keys, uses-all, request-keys, request-all}

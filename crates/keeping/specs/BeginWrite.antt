@@ -19,7 +19,7 @@ use Rattle.rules.specs.Common.{writing, request, begunCounts, begunRecords}
 use Rattle.rules.specs.Begin.{nextCount, storedSetpoints, sentSets, begunWrite}
 use Rattle.soundness.specs.Sound.{isWriting, isReading, uses}
 use Rattle.soundness.specs.Facts.{ClientFacts, WriteFacts, RecordsFacts, Sound}
-use Rattle.store.specs.Refusals.{writeRefusal}
+use Rattle.refusals.specs.Refusals.{writeRefusal}
 use Rattle.keeping.specs.Accepted.{Beginnable, writable}
 use Rattle.keeping.specs.Links.{linkWord}
 use Rattle.keeping.specs.States.{masked-below, key-own, not-all, received-none, allowed-writing, uses-writing, request-writing}

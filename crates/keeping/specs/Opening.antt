@@ -22,7 +22,7 @@ use Rattle.tables.specs.Links.{linkWidth, linkRow}
 use Rattle.rules.specs.Open.{cleared, holdOne, openedCounts, allServers, opened}
 use Rattle.soundness.specs.Sound.{keyInRange, isOpen}
 use Rattle.soundness.specs.Facts.{Long, Press, ServerFacts, LogFacts, ClientFacts, Sound}
-use Rattle.store.specs.Refusals.{openRefusal}
+use Rattle.refusals.specs.Refusals.{openRefusal}
 use Rattle.keeping.specs.Accepted.{Openable, openable}
 use Rattle.keeping.specs.Links.{linkWord}
 use Rattle.keeping.specs.Rounds.{idle-client}

@@ -9,7 +9,7 @@ use Rattle.tables.specs.declared.links.Content.the-variants.{Nothing, Request, 
 use Rattle.rules.specs.Reply.{onReplyIn, onReply, replyDelivered}
 use Rattle.soundness.specs.Sound.{keyOn}
 use Rattle.soundness.specs.Facts.{Sound}
-use Rattle.store.specs.Refusals.{deliveryRefusal}
+use Rattle.refusals.specs.Refusals.{deliveryRefusal}
 use Rattle.keeping.specs.Links.{numberOn, reply-kind, reply-words}
 use Rattle.keeping.specs.States.{by-state}
 use Rattle.keeping.specs.Frame.{Kept, kept-same}

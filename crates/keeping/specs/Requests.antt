@@ -23,7 +23,7 @@ use Rattle.tables.specs.declared.links.Contents.{Contents}
 use Rattle.tables.specs.declared.links.Content.{Content}
 use Rattle.tables.specs.declared.links.Content.the-variants.{Nothing, Request, Reply}
 use Rattle.soundness.specs.Facts.{facts-between, ClientFacts, LinkFacts, Sound}
-use Rattle.store.specs.Refusals.{deliveryRefusal}
+use Rattle.refusals.specs.Refusals.{deliveryRefusal}
 use Rattle.keeping.specs.Accepted.{Deliverable, deliverable, target-below, holding-some}
 use Rattle.keeping.specs.Links.{linkWord, kindOn, numberOn, kind-full, pending-at, LinkAsks, request-kind, request-words, put-same, put-other, link-asks, asks-link}
 use Rattle.keeping.specs.States.{received-none, none-received, not-empty, by-state, masked-below, own-key, own-in-range, uses-writing, uses-keys, request-writing, request-entering, reply-writing, reply-entering, reply-keys, reply-setpoints, reply-all}

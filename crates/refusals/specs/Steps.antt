@@ -9,7 +9,7 @@ use Rattle.rules.specs.Open.{opened}
 use Rattle.rules.specs.Begin.{begunWrite, begunRead}
 use Rattle.rules.specs.Request.{refused, requestDelivered}
 use Rattle.rules.specs.Reply.{said, replyDelivered}
-use Rattle.store.specs.Refusals.{openRefusal, writeRefusal, readRefusal, deliveryRefusal}
+use Rattle.refusals.specs.Refusals.{openRefusal, writeRefusal, readRefusal, deliveryRefusal}
 
 -- number 0 refuses nothing
 abbrev pub unless : ℕ → Left → Tables → Left
