@@ -1,3 +1,4 @@
--- The public steps: the refusals in their order, then the change.
+-- The refusals in their order, and the five public steps as definitions.
 pub mod Refusals
 pub mod Steps
+pub mod Cases

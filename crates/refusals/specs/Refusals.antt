@@ -20,25 +20,18 @@ openRefusal method k p setpoints t =
 abbrev pub atLastStep : Tables → Bool
 atLastStep t = leb 4294967295 (stepOf t)
 
--- 2 "tables not sound", 3 "no such panel or target", 4 "method 1: panel 0 writes, another reads", 5 "panel not idle",
+-- 3 "no such panel or target", 4 "method 1: panel 0 writes, another reads", 5 "panel not idle",
 -- 6 "mask zero or beyond k; not k setpoints in a WRITE", 7 "255 WRITEs (or, for a READ, READs) begun; any step … at step number 2^32 − 1"
-unfoldable pub writeRefusal : ℕ → ℕ → List ℕ → Tables → ℕ
-writeRefusal q mask setpoints t =
-    cond (not (sound t)) 2
-    (cond (leb (clientsOf t) q) 3
-    (cond (eqb (methodOf t) 1 && eqb q 0) 4
-    (cond (not (eqb (stateOf t q) idle)) 5
-    (cond (not (maskWithin mask (serversOf t) && eqb (length setpoints) (serversOf t))) 6
-    (cond (leb recordPlaces (writesOf t) || atLastStep t) 7 0)))))
+abbrev pub beginFault : Bool → Bool → Bool → Bool → Bool → ℕ
+beginFault absent barred free fits spent = cond absent 3 (cond barred 4 (cond (not free) 5 (cond (not fits) 6 (cond spent 7 0))))
 
-unfoldable pub readRefusal : ℕ → ℕ → Tables → ℕ
-readRefusal q mask t =
-    cond (not (sound t)) 2
-    (cond (leb (clientsOf t) q) 3
-    (cond (eqb (methodOf t) 1 && not (eqb q 0)) 4
-    (cond (not (eqb (stateOf t q) idle)) 5
-    (cond (not (maskWithin mask (serversOf t))) 6
-    (cond (leb recordPlaces (readsOf t) || atLastStep t) 7 0)))))
+abbrev pub writeFault : ℕ → ℕ → ℕ → Tables → ℕ
+writeFault q mask given t =
+    beginFault (leb (clientsOf t) q) (eqb (methodOf t) 1 && eqb q 0) (eqb (stateOf t q) idle) (maskWithin mask (serversOf t) && eqb given (serversOf t)) (leb recordPlaces (writesOf t) || atLastStep t)
+
+abbrev pub readFault : ℕ → ℕ → Tables → ℕ
+readFault q mask t =
+    beginFault (leb (clientsOf t) q) (eqb (methodOf t) 1 && not (eqb q 0)) (eqb (stateOf t q) idle) (maskWithin mask (serversOf t)) (leb recordPlaces (readsOf t) || atLastStep t)
 
 -- "Targets 0..k−1 and 16": a station's number, or the head's
 abbrev pub isTargetOf : ℕ → ℕ → Bool
@@ -47,8 +40,17 @@ isTargetOf k i = ltb i k || eqb i coordinator
 abbrev pub isTarget : Tables → ℕ → Bool
 isTarget t i = isTargetOf (serversOf t) i
 
+abbrev pub deliveryFault : ℕ → ℕ → Tables → ℕ
+deliveryFault q i t =
+    cond (leb (clientsOf t) q || not (isTarget t i)) 3
+    (cond (atLastStep t) 7 0)
+
+-- 2 "tables not sound" stands ahead of these
+unfoldable pub writeRefusal : ℕ → ℕ → List ℕ → Tables → ℕ
+writeRefusal q mask setpoints t = cond (not (sound t)) 2 (writeFault q mask (length setpoints) t)
+
+unfoldable pub readRefusal : ℕ → ℕ → Tables → ℕ
+readRefusal q mask t = cond (not (sound t)) 2 (readFault q mask t)
+
 unfoldable pub deliveryRefusal : ℕ → ℕ → Tables → ℕ
-deliveryRefusal q i t =
-    cond (not (sound t)) 2
-    (cond (leb (clientsOf t) q || not (isTarget t i)) 3
-    (cond (atLastStep t) 7 0))
+deliveryRefusal q i t = cond (not (sound t)) 2 (deliveryFault q i t)

@@ -1,6 +1,17 @@
-// In which order a step is refused, and the public steps as definitions.
+// In which order a step is refused, on tables known to be sound. 0 refuses nothing.
 ghost use mathlib.Core.Path.{_≡_};
-ghost use Rattle.refusals.specs.Refusals.{isTargetOf};
+ghost use mathlib.Core.List.{List};
+ghost use mathlib.Core.Bool.{not, _&&_};
+ghost use Prim.Native.Nat.{ℕ, _≤_, _<_};
+ghost use lib.ListN.{length};
+ghost use lib.Dec.{eqb};
+ghost use Rattle.keys.specs.Masks.{maskWithin};
+ghost use Rattle.tables.specs.Layout.{countWords};
+ghost use Rattle.tables.specs.Tables.{tablesOf};
+ghost use Rattle.refusals.specs.Refusals.{isTargetOf, writeFault, readFault, deliveryFault};
+ghost use Rattle.refusals.specs.Cases.{Judged, isSpent};
+use tables::clients;
+use tables::counts;
 
 // Whether a number names a target: a server below their number, or the coordinator.
 pub fn is_target(servers: u32, target: u32) -> bool
@@ -10,4 +21,108 @@ pub fn is_target(servers: u32, target: u32) -> bool
         return true;
     }
     target == 16
+}
+
+// A delivery: no such client or target, or the last step.
+pub fn delivery_fault(counts: &[u32], client: u32, target: u32) -> u8
+    requires { ⌜ countWords ≤ length (now counts) ⌝ }
+    ensures { λ r. ⌜ ((clients links keys values log writes reads : List ℕ) → r ≡ deliveryFault client target (tablesOf (now (counts .entry)) clients links keys values log writes reads)) ⌝ }
+{
+    if counts::count_at(counts, counts::CLIENTS) <= client {
+        return 3;
+    }
+    if !is_target(counts::count_at(counts, counts::SERVERS), target) {
+        return 3;
+    }
+    if 4294967295 <= counts::count_at(counts, counts::STEP) {
+        return 7;
+    }
+    0
+}
+
+// Under method 1 client 0 does not write, and no other reads.
+fn may_not_write(method: u32, client: u32) -> bool
+    ensures { λ r. ⌜ r ≡ (eqb method 1 && eqb client 0) ⌝ }
+{
+    if method == 1 {
+        return client == 0;
+    }
+    false
+}
+
+fn may_not_read(method: u32, client: u32) -> bool
+    ensures { λ r. ⌜ r ≡ (eqb method 1 && not (eqb client 0)) ⌝ }
+{
+    if method == 1 {
+        return client != 0;
+    }
+    false
+}
+
+// What both kinds of begin ask last: a record's place, and a step number that can grow.
+fn is_spent(counts: &[u32], kind: usize) -> bool
+    requires { ⌜ (countWords ≤ length (now counts)) × (kind < countWords) ⌝ }
+    ensures { λ r. ⌜ r ≡ isSpent (now (counts .entry)) kind ⌝ }
+{
+    if 255 <= counts::count_at(counts, kind) {
+        return true;
+    }
+    4294967295 <= counts::count_at(counts, counts::STEP)
+}
+
+// Whether a WRITE has a mask within the servers, and a setpoint for each of them.
+fn fits_write(mask: u32, given: usize, servers: u32) -> bool
+    requires { ⌜ servers ≤ 16 ⌝ }
+    ensures { λ r. ⌜ r ≡ (maskWithin mask servers && eqb given servers) ⌝ }
+{
+    if keys::mask_within(mask, servers) {
+        return given == servers as usize;
+    }
+    false
+}
+
+// A WRITE: the numbers 3 to 7 in their order.
+pub fn write_fault(counts: &[u32], clients: &[u32], client: u32, mask: u32, given: usize) -> u8
+    requires { ⌜ Judged (now counts) (now clients) ⌝ }
+    ensures { λ r. ⌜ ((links keys values log writes reads : List ℕ) → r ≡ writeFault client mask given (tablesOf (now (counts .entry)) (now (clients .entry)) links keys values log writes reads)) ⌝ }
+{
+    if counts::count_at(counts, counts::CLIENTS) <= client {
+        return 3;
+    }
+    if may_not_write(counts::count_at(counts, counts::METHOD), client) {
+        return 4;
+    }
+    if clients::client_word(clients, client as usize, clients::STATE) != 0 {
+        return 5;
+    }
+    if !fits_write(mask, given, counts::count_at(counts, counts::SERVERS)) {
+        return 6;
+    }
+    if is_spent(counts, counts::WRITES) {
+        return 7;
+    }
+    0
+}
+
+// A READ: the numbers 3 to 7 in their order.
+pub fn read_fault(counts: &[u32], clients: &[u32], client: u32, mask: u32) -> u8
+    requires { ⌜ Judged (now counts) (now clients) ⌝ }
+    ensures { λ r. ⌜ ((links keys values log writes reads : List ℕ) → r ≡ readFault client mask (tablesOf (now (counts .entry)) (now (clients .entry)) links keys values log writes reads)) ⌝ }
+{
+    if counts::count_at(counts, counts::CLIENTS) <= client {
+        return 3;
+    }
+    if may_not_read(counts::count_at(counts, counts::METHOD), client) {
+        return 4;
+    }
+    if clients::client_word(clients, client as usize, clients::STATE) != 0 {
+        return 5;
+    }
+    if !keys::mask_within(mask, counts::count_at(counts, counts::SERVERS)) {
+        return 6;
+    }
+    if is_spent(counts, counts::READS) {
+        return 7;
+    }
+    0
 }

@@ -1,0 +1,14 @@
+-- `refusals::may_not_read` meets its contract: each way out is one value of the first test.
+use borrow.Author.Tests.{eq-eqb, ne-eqb}
+use borrow.Author.Needs.{needs}
+use Rattle.refusals.proofs.may_not_read.Statement.{statement}
+use Rattle.refusals.proofs.may_not_read.Tie as tie
+
+returns : tie.Need-returns
+returns c = rw (eq-eqb _ _ (c .if1 .taken))
+
+returns-2 : tie.Need-returns-2
+returns-2 c = rw (ne-eqb _ _ (c .if1 .left))
+
+pub may-not-read-spec : {M : Type 1} → statement M
+may-not-read-spec = tie.close (tie.spec returns returns-2)

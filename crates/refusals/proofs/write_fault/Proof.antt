@@ -1,0 +1,31 @@
+-- `refusals::write_fault` meets its contract: each way out is one value of the tests in their order.
+use mathlib.Core.Path.{sym, _∙_}
+use borrow.Author.Tests.{not-true, not-false}
+use Rattle.refusals.specs.Cases.{most, above, is, is-not}
+use borrow.Author.Needs.{needs}
+use Rattle.refusals.proofs.write_fault.Statement.{statement}
+use Rattle.refusals.proofs.write_fault.Tie as tie
+use Rattle.refusals.proofs.write_fault.Reads as reads
+
+returns : tie.Need-returns
+returns c = λ links keys values log writes reads. rw (most (c .before .count-at .ensures) (c .if1 .taken))
+
+returns-2 : tie.Need-returns-2
+returns-2 c = λ links keys values log writes reads. rw (above (c .before .before .before .before .count-at .ensures) (c .before .before .before .if1 .left), ← c .before .before .count-at2 .ensures, sym (c .before .may-not-write .ensures) ∙ c .if2 .taken)
+
+returns-3 : tie.Need-returns-3
+returns-3 c = λ links keys values log writes reads. rw (above (c .before .before .before .before .before .before .count-at .ensures) (c .before .before .before .before .before .if1 .left), ← c .before .before .before .before .count-at2 .ensures, sym (c .before .before .before .may-not-write .ensures) ∙ c .before .before .if2 .left, is-not (c .before .client-word .ensures) (c .if3 .taken))
+
+returns-4 : tie.Need-returns-4
+returns-4 c = λ links keys values log writes reads. rw (above (c .before .before .before .before .before .before .before .before .before .count-at .ensures) (c .before .before .before .before .before .before .before .before .if1 .left), ← c .before .before .before .before .before .before .before .count-at2 .ensures, sym (c .before .before .before .before .before .before .may-not-write .ensures) ∙ c .before .before .before .before .before .if2 .left, is (c .before .before .before .before .client-word .ensures) (c .before .before .before .if3 .left), ← c .before .before .count-at3 .ensures, sym (c .before .fits-write .ensures) ∙ not-true _ (c .if4 .taken))
+
+returns-5 : tie.Need-returns-5
+returns-5 c = λ links keys values log writes reads. rw (above (c .before .before .before .before .before .before .before .before .before .before .before .count-at .ensures) (c .before .before .before .before .before .before .before .before .before .before .if1 .left), ← c .before .before .before .before .before .before .before .before .before .count-at2 .ensures, sym (c .before .before .before .before .before .before .before .before .may-not-write .ensures) ∙ c .before .before .before .before .before .before .before .if2 .left, is (c .before .before .before .before .before .before .client-word .ensures) (c .before .before .before .before .before .if3 .left), ← c .before .before .before .before .count-at3 .ensures, sym (c .before .before .before .fits-write .ensures) ∙ not-false _ (c .before .before .if4 .left), sym (c .before .is-spent .ensures) ∙ c .if5 .taken)
+
+returns-6 : tie.Need-returns-6
+returns-6 c = λ links keys values log writes reads. rw (above (c .before .before .before .before .before .before .before .before .before .before .before .count-at .ensures) (c .before .before .before .before .before .before .before .before .before .before .if1 .left), ← c .before .before .before .before .before .before .before .before .before .count-at2 .ensures, sym (c .before .before .before .before .before .before .before .before .may-not-write .ensures) ∙ c .before .before .before .before .before .before .before .if2 .left, is (c .before .before .before .before .before .before .client-word .ensures) (c .before .before .before .before .before .if3 .left), ← c .before .before .before .before .count-at3 .ensures, sym (c .before .before .before .fits-write .ensures) ∙ not-false _ (c .before .before .if4 .left), sym (c .before .is-spent .ensures) ∙ c .if5 .left)
+
+pub write-fault-spec : {M : Type 1} → statement M
+write-fault-spec =
+    tie.close
+    (tie.spec (λ c κs. search needs) returns (λ c κs. search needs) (λ c κs. search needs) returns-2 (λ c κs. search needs) returns-3 (λ c κs. search needs) (λ c κs. search needs) returns-4 (λ c κs. search needs) returns-5 returns-6)
