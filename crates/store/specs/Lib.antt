@@ -1,0 +1,3 @@
+-- What the public functions need besides the definitions of the steps: sound tables are ready for every inner step.
+pub mod Ready
+pub mod ReadyReplies

@@ -1,0 +1,2 @@
+// The public steps.
+fn nothing() {}
