@@ -24,7 +24,7 @@ pub struct Link {
     pub content: Content,
 }
 
-const WIDTH: usize = 3;
+pub const WIDTH: usize = 3;
 
 pub const KIND: usize = 0;
 

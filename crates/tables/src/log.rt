@@ -6,7 +6,7 @@ use keys::Key;
 
 pub const PLACES: usize = 256;
 
-const WIDTH: usize = 2;
+pub const WIDTH: usize = 2;
 
 const KEY: usize = 0;
 

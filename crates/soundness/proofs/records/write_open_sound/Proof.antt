@@ -1,0 +1,10 @@
+-- `soundness::records::write_open_sound` meets its contract: it passes on what it read.
+use borrow.Author.Needs.{needs}
+use Rattle.soundness.proofs.records.write_open_sound.Statement.{statement}
+use Rattle.soundness.proofs.records.write_open_sound.Tie as tie
+
+returns : tie.Need-returns
+returns c = λ t. rw (← (c .before .before .before .before .client-word .ensures), ← (c .before .before .before .is-writing .ensures), ← (c .before .before .client-word2 .ensures), ← (c .before .count-at .ensures)) (c .open-sound .ensures)
+
+pub write-open-sound-spec : {M : Type 1} → statement M
+write-open-sound-spec = tie.close (tie.spec (λ c κs. search needs) (λ c κs. search needs) (λ c κs. search needs) (λ c. search needs) (λ c κs. search needs) (λ c. search needs) (λ c κs. search needs) returns)

@@ -1,0 +1,33 @@
+-- A loop that asks a test of each number below n, as the code meets it; m is how the definition names n.
+use Prim.Native.Nat.{ℕ, _+_, _≤_, _<_}
+use mathlib.Core.Path.{_≡_, refl, sym}
+use mathlib.Core.Bool.{Bool, true, false, not}
+use native.Mathlib.Omega.{arith}
+use native.Mathlib.Numerals.{add-one}
+use Rattle.ranges.specs.All.{allBelow, anyBelow, all-more, all-not, any-at}
+use Rattle.soundness.specs.Parts.{fails, holds}
+
+pub any-none : (p : ℕ → Bool) → anyBelow p 0 ≡ false
+unfolding anyBelow
+any-none p = refl
+
+module _ (p : ℕ → Bool) (i : ℕ) where
+  -- the test passed at i
+  pub all-next : {r : Bool} → allBelow p i ≡ true → r ≡ p i → not r ≡ false → allBelow p (i + 1) ≡ true
+  all-next a d e = all-more p i a (holds d e)
+
+  -- the test failed at i
+  pub all-stop : {r : Bool} {n m : ℕ} → n ≡ m → i < n → r ≡ p i → not r ≡ true → false ≡ allBelow p m
+  all-stop {r} {n} {m} s h d e = sym (all-not p m i (omega arith) (fails d e))
+
+  -- the loop came to its end
+  pub all-end : {n m : ℕ} → n ≡ m → i ≤ n → n ≤ i → allBelow p i ≡ true → true ≡ allBelow p m
+  all-end {n} {m} s h g a = let e : i ≡ m = omega arith in rw (← e) (sym a)
+
+  -- the same for a loop that looks for one that passes
+  pub any-next : anyBelow p i ≡ false → p i ≡ false → anyBelow p (i + 1) ≡ false
+  unfolding anyBelow
+  any-next a e = rw (add-one i, a, e)
+
+  pub any-end : {n : ℕ} → i ≤ n → n ≤ i → anyBelow p i ≡ false → false ≡ anyBelow p n
+  any-end {n} h g a = let e : i ≡ n = omega arith in rw (← e) (sym a)
