@@ -5,3 +5,4 @@ pub mod Asked
 pub mod Loops
 pub mod Kinds
 pub mod There
+pub mod Opens

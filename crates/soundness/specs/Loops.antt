@@ -1,7 +1,7 @@
 -- A loop that asks a test of each number below n, as the code meets it; m is how the definition names n.
-use Prim.Native.Nat.{ℕ, _+_, _≤_, _<_}
+use Prim.Native.Nat.{ℕ, zero, suc, _+_, _≤_, _<_}
 use mathlib.Core.Path.{_≡_, refl, sym}
-use mathlib.Core.Bool.{Bool, true, false, not}
+use mathlib.Core.Bool.{Bool, true, false, not, _&&_}
 use native.Mathlib.Omega.{arith}
 use native.Mathlib.Numerals.{add-one}
 use Rattle.ranges.specs.All.{allBelow, anyBelow, all-more, all-not, any-at}
@@ -31,3 +31,15 @@ module _ (p : ℕ → Bool) (i : ℕ) where
 
   pub any-end : {n : ℕ} → i ≤ n → n ≤ i → anyBelow p i ≡ false → false ≡ anyBelow p n
   any-end {n} h g a = let e : i ≡ n = omega arith in rw (← e) (sym a)
+
+-- two tests asked together, or each of its own
+pub all-both : (p q : ℕ → Bool) (n : ℕ) → allBelow (λ i. p i && q i) n ≡ (allBelow p n && allBelow q n)
+unfolding allBelow
+all-both p q zero = refl
+all-both p q (suc n) = rw (all-both p q n) (swap (allBelow p n) (allBelow q n) (p n) (q n))
+  where
+    swap : (a b c d : Bool) → ((a && b) && (c && d)) ≡ ((a && c) && (b && d))
+    swap true true c d = refl
+    swap true false true d = refl
+    swap true false false d = refl
+    swap false b c d = refl
