@@ -1,9 +1,9 @@
 -- Whether a link is sound, by the word of its kind, as the code meets it.
-use Prim.Native.Nat.{ℕ, _≤_, _<_}
-use mathlib.Core.Path.{_≡_, sym, _∙_}
+use Prim.Native.Nat.{ℕ, _<_}
+use mathlib.Core.Path.{_≡_}
 use mathlib.Core.Bool.{Bool, true, false}
 use native.Mathlib.Omega.{arith}
-use borrow.Author.Tests.{eq-eqb, ne-eqb, lt-leb}
+use borrow.Author.Tests.{lt-leb}
 use Rattle.ranges.specs.Tests.{by-equal}
 use Rattle.tables.specs.Rows.{wordAt}
 use Rattle.tables.specs.Links.{linkWidth, linkRow, linkAt}

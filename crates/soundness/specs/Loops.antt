@@ -4,7 +4,8 @@ use mathlib.Core.Path.{_≡_, refl, sym}
 use mathlib.Core.Bool.{Bool, true, false, not, _&&_}
 use native.Mathlib.Omega.{arith}
 use native.Mathlib.Numerals.{add-one}
-use Rattle.ranges.specs.All.{allBelow, anyBelow, all-more, all-not, any-at}
+use Rattle.ranges.specs.All.{allBelow, anyBelow, all-none, all-more, all-not}
+use Rattle.tables.specs.Tables.{Tables}
 use Rattle.soundness.specs.Parts.{fails, holds}
 
 pub any-none : (p : ℕ → Bool) → anyBelow p 0 ≡ false
@@ -31,6 +32,26 @@ module _ (p : ℕ → Bool) (i : ℕ) where
 
   pub any-end : {n : ℕ} → i ≤ n → n ≤ i → anyBelow p i ≡ false → false ≡ anyBelow p n
   any-end {n} h g a = let e : i ≡ n = omega arith in rw (← e) (sym a)
+
+-- The test goes by tables t of which the loop reads a part: it passes whatever the other tables hold.
+pub record Passed (p : Tables → ℕ → Bool) (n i : ℕ) : Type 0 where
+  pub within : i ≤ n
+  pub passed : (t : Tables) → allBelow (p t) i ≡ true
+
+module _ {p : Tables → ℕ → Bool} {n : ℕ} where
+  pub passed-none : Passed p n 0
+  passed-none = record { within = omega arith; passed = λ t. all-none (p t) }
+
+  module _ {i : ℕ} {r : Bool} (a : Passed p n i) where
+    pub passed-more : i < n → ((t : Tables) → r ≡ p t i) → not r ≡ false → Passed p n (i + 1)
+    passed-more h d e = record { within = omega arith; passed = λ t. all-next (p t) i (a .passed t) (d t) e }
+
+    pub passed-stop : {m : ℕ} → n ≡ m → i < n → ((t : Tables) → r ≡ p t i) → not r ≡ true → (t : Tables) → false ≡ allBelow (p t) m
+    passed-stop s h d e t = all-stop (p t) i s h (d t) e
+
+  module _ {i : ℕ} (a : Passed p n i) where
+    pub passed-end : {m : ℕ} → n ≡ m → n ≤ i → (t : Tables) → true ≡ allBelow (p t) m
+    passed-end s h t = all-end (p t) i s (a .within) h (a .passed t)
 
 -- two tests asked together, or each of its own
 pub all-both : (p q : ℕ → Bool) (n : ℕ) → allBelow (λ i. p i && q i) n ≡ (allBelow p n && allBelow q n)

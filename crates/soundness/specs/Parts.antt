@@ -2,6 +2,7 @@
 use Prim.Native.Nat.{ℕ, _^_, _≤_}
 use mathlib.Core.Path.{_≡_, sym, _∙_}
 use mathlib.Core.Bool.{Bool, true, false, cond, not, _&&_}
+use mathlib.Core.List.{List}
 use lib.Dec.{eqb, leb, ltb}
 use borrow.Author.Tests.{not-true, not-false, leb-true}
 use Rattle.ranges.specs.Tests.{both-left, both-right}
@@ -12,7 +13,7 @@ use Rattle.keys.specs.Masks.{maskWithin}
 use Rattle.tables.specs.Rows.{wordAt}
 use Rattle.tables.specs.Layout.{logPlaces, recordPlaces, entryWidth, entryMask}
 use Rattle.tables.specs.Links.{linkWidth, linkRow, isEmpty}
-use Rattle.tables.specs.Tables.{Tables, methodOf, serversOf, clientsOf, stepOf, entriesOf, writesOf, readsOf, stateOf, countOf, maskOf, tagOf, recordOf, contentAt}
+use Rattle.tables.specs.Tables.{Tables, withVersions, methodOf, serversOf, clientsOf, stepOf, entriesOf, writesOf, readsOf, stateOf, countOf, maskOf, tagOf, recordOf, contentAt}
 use Rattle.rules.specs.Common.{idle, askingAll}
 use Rattle.rules.specs.Open.{allServers}
 use Rattle.soundness.specs.Sound.{between, serverSound, logSound, isWriting, isReading, stateAllowed, uses, clientSound, openSound, writeSound, readSound, recordsSound}
@@ -24,6 +25,10 @@ module _ {r a : Bool} where
 
   pub holds : r ≡ a → not r ≡ false → a ≡ true
   holds d e = sym d ∙ not-false r e
+
+-- the keys alone; no condition is on the setpoints of versions
+abbrev pub withKeys : List ℕ → Tables → Tables
+withKeys keys t = withVersions keys (t .values) t
 
 -- what a number between two others has
 pub record Between (low n high : ℕ) : Type 0 where

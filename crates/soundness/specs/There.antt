@@ -1,18 +1,17 @@
 -- The first two conditions of `sound` give all that the other parts of the check ask before they read.
-use Prim.Native.Nat.{ℕ, _*_, _≤_}
-use mathlib.Core.Path.{_≡_, refl, sym}
-use mathlib.Core.Bool.{Bool, true, false, cond, _&&_, true≢false}
+use Prim.Native.Nat.{ℕ, _*_, _≤_, _<_}
+use mathlib.Core.Path.{_≡_}
+use mathlib.Core.Bool.{Bool, true, false, cond, _&&_}
 use lib.ListN.{length}
 use lib.Dec.{eqb, leb}
 use borrow.Author.Tests.{leb-true, lt-leb}
-use Prim.Native.Nat.{_<_}
 use Rattle.ranges.specs.Tests.{both-left, both-right}
 use Rattle.tables.specs.Layout.{countWords, clientWidth, serverPlaces, logPlaces, entryWidth, recordPlaces, recordWidth}
 use Rattle.tables.specs.Links.{targets, linkWidth}
 use Rattle.tables.specs.Tables.{Tables, methodOf, serversOf, clientsOf, stepOf, entriesOf, writesOf, readsOf}
 use Rattle.soundness.specs.Sound.{longEnough, between, pressFits, scalarsSound}
-use Rattle.soundness.specs.Parts.{Between, between-true}
-use Rattle.soundness.specs.Asked.{Counted, ClientsThere, VersionsThere, LogThere, RecordsThere, TablesThere}
+use Rattle.soundness.specs.Parts.{between-true}
+use Rattle.soundness.specs.Asked.{Counted, TablesThere}
 
 -- counts that are too short make the tables too short, whatever they say
 pub short-counts : (k p : ℕ) (t : Tables) → length (t .counts) < countWords → false ≡ longEnough k p t

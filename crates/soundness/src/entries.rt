@@ -1,12 +1,10 @@
 // The log: tag 0 holds the opening's key with all servers, and every entry is in its range.
 ghost use mathlib.Core.Path.{_≡_};
 ghost use Prim.Native.Nat.{_≤_};
-ghost use mathlib.Core.Bool.{_&&_};
-ghost use lib.Dec.{eqb};
 ghost use Rattle.ranges.specs.All.{allBelow};
 ghost use Rattle.tables.specs.Rows.{HasRow};
 ghost use Rattle.tables.specs.Layout.{entryWidth};
-ghost use Rattle.tables.specs.Tables.{Tables, withCounts, withLog, entriesOf, serversOf};
+ghost use Rattle.tables.specs.Tables.{Tables, withCounts, withLog, entriesOf};
 ghost use Rattle.rules.specs.Open.{allServers};
 ghost use Rattle.soundness.specs.Sound.{entrySound, logSound};
 ghost use Rattle.soundness.specs.Asked.{Counted, LogThere};

@@ -2,20 +2,21 @@
 ghost use mathlib.Core.Path.{_≡_};
 ghost use Prim.Native.Nat.{ℕ};
 ghost use mathlib.Core.List.{List};
-ghost use Rattle.tables.specs.Tables.{Tables, tablesOf, withCounts, withVersions, withLog, serversOf, clientsOf};
+ghost use Rattle.tables.specs.Tables.{Tables, tablesOf, withCounts, withLog, serversOf, clientsOf};
 ghost use Rattle.soundness.specs.Sound.{longEnough, sound};
-ghost use Rattle.soundness.specs.Parts.{storesSound, restSound};
+ghost use Rattle.soundness.specs.Parts.{withKeys, storesSound, restSound};
 ghost use Rattle.soundness.specs.Asked.{Counted, VersionsThere, LogThere, TablesThere};
 use tables::counts;
 
-pub mod clients;
-pub mod entries;
+mod clients;
+mod entries;
 pub mod lengths;
-pub mod links;
-pub mod messages;
-pub mod records;
+mod links;
+mod messages;
+mod progress;
+mod records;
 pub mod scalars;
-pub mod servers;
+mod servers;
 pub mod states;
 
 // Long enough for the servers and clients that the counts name.
@@ -55,7 +56,7 @@ fn stores_sound(counts: &[u32], keys: &[u32], log: &[u32]) -> bool
     requires { ⌜ Counted (now counts) ⌝ }
     requires { ⌜ VersionsThere (now counts) (now keys) ⌝ }
     requires { ⌜ LogThere (now log) ⌝ }
-    ensures { λ r. ⌜ ((t : Tables) (values : List ℕ) → r ≡ storesSound (withLog (now (log .entry)) (withVersions (now (keys .entry)) values (withCounts (now (counts .entry)) t)))) ⌝ }
+    ensures { λ r. ⌜ ((t : Tables) → r ≡ storesSound (withLog (now (log .entry)) (withKeys (now (keys .entry)) (withCounts (now (counts .entry)) t)))) ⌝ }
 {
     if !servers::servers_sound(counts, keys) {
         return false;
@@ -103,7 +104,7 @@ pub fn sound(
     if !tables_long(counts, clients, links, keys, values, log, writes, reads) {
         return false;
     }
-    if !scalars::scalars_sound(counts) {
+    if !progress::scalars_sound(counts) {
         return false;
     }
     rest_sound(counts, clients, links, keys, log, writes, reads)

@@ -1,12 +1,6 @@
-// The numbers of the counts, and what a key's word may be.
+// Numbers by themselves: whether there is such a press, and such a key.
 ghost use mathlib.Core.Path.{_≡_};
-ghost use Prim.Native.Nat.{_≤_};
-ghost use lib.ListN.{length};
-ghost use Rattle.tables.specs.Layout.{countWords};
-ghost use Rattle.tables.specs.Tables.{Tables, withCounts, methodOf, serversOf, clientsOf};
-ghost use Rattle.soundness.specs.Sound.{between, pressFits, scalarsSound, keyInRange};
-ghost use Rattle.soundness.specs.Parts.{progressSound};
-use tables::counts;
+ghost use Rattle.soundness.specs.Sound.{between, pressFits, keyInRange};
 
 // Whether a number stands between two others, both included.
 pub fn between(low: u32, number: u32, high: u32) -> bool
@@ -45,42 +39,4 @@ pub fn key_in_range(clients: u32, word: u32) -> bool
         return false;
     }
     word % 256 < clients
-}
-
-// Whether the counts are those of a press.
-fn press_sound(counts: &[u32]) -> bool
-    requires { ⌜ countWords ≤ length (now counts) ⌝ }
-    ensures { λ r. ⌜ ((t : Tables) → let u = withCounts (now (counts .entry)) t in r ≡ pressFits (methodOf u) (serversOf u) (clientsOf u)) ⌝ }
-{
-    let method = counts::count_at(counts, counts::METHOD);
-    let servers = counts::count_at(counts, counts::SERVERS);
-    let clients = counts::count_at(counts, counts::CLIENTS);
-    press_fits(method, servers, clients)
-}
-
-// Whether the step number, the entries and the transactions begun are in their ranges.
-fn progress_sound(counts: &[u32]) -> bool
-    requires { ⌜ countWords ≤ length (now counts) ⌝ }
-    ensures { λ r. ⌜ ((t : Tables) → r ≡ progressSound (withCounts (now (counts .entry)) t)) ⌝ }
-{
-    if !between(1, counts::count_at(counts, counts::STEP), 4294967295) {
-        return false;
-    }
-    if !between(1, counts::count_at(counts, counts::ENTRIES), 256) {
-        return false;
-    }
-    if counts::count_at(counts, counts::WRITES) > 255 {
-        return false;
-    }
-    counts::count_at(counts, counts::READS) <= 255
-}
-
-pub fn scalars_sound(counts: &[u32]) -> bool
-    requires { ⌜ countWords ≤ length (now counts) ⌝ }
-    ensures { λ r. ⌜ ((t : Tables) → r ≡ scalarsSound (withCounts (now (counts .entry)) t)) ⌝ }
-{
-    if !press_sound(counts) {
-        return false;
-    }
-    progress_sound(counts)
 }

@@ -1,12 +1,12 @@
 // The versions of each server: the first bears the opening's key, and every key is in its range.
 ghost use mathlib.Core.Path.{_≡_};
-ghost use Prim.Native.Nat.{ℕ, _≤_, _<_};
-ghost use mathlib.Core.List.{List};
+ghost use Prim.Native.Nat.{_≤_, _<_};
 ghost use Rattle.ranges.specs.All.{allBelow};
 ghost use Rattle.tables.specs.Rows.{HasRow};
 ghost use Rattle.tables.specs.Layout.{serverPlaces, versionWord};
-ghost use Rattle.tables.specs.Tables.{Tables, withCounts, withVersions, serversOf};
+ghost use Rattle.tables.specs.Tables.{Tables, withCounts, serversOf};
 ghost use Rattle.soundness.specs.Sound.{keyInRange, serverSound};
+ghost use Rattle.soundness.specs.Parts.{withKeys};
 ghost use Rattle.soundness.specs.Asked.{Counted, VersionsThere};
 use super::scalars;
 use tables::counts;
@@ -30,7 +30,7 @@ fn keys_in_range(keys: &[u32], server: usize, held: usize, clients: u32) -> bool
 fn server_sound(counts: &[u32], keys: &[u32], server: usize) -> bool
     requires { ⌜ (server < 16) × HasRow serverPlaces (now keys) server ⌝ }
     requires { ⌜ Counted (now counts) ⌝ }
-    ensures { λ r. ⌜ ((t : Tables) (values : List ℕ) → r ≡ serverSound (withVersions (now (keys .entry)) values (withCounts (now (counts .entry)) t)) server) ⌝ }
+    ensures { λ r. ⌜ ((t : Tables) → r ≡ serverSound (withKeys (now (keys .entry)) (withCounts (now (counts .entry)) t)) server) ⌝ }
 {
     let held = counts::count_at(counts, counts::HELD + server);
     if !scalars::between(1, held, 256) {
@@ -50,7 +50,7 @@ fn server_sound(counts: &[u32], keys: &[u32], server: usize) -> bool
 pub fn servers_sound(counts: &[u32], keys: &[u32]) -> bool
     requires { ⌜ Counted (now counts) ⌝ }
     requires { ⌜ VersionsThere (now counts) (now keys) ⌝ }
-    ensures { λ r. ⌜ ((t : Tables) (values : List ℕ) → let u = withVersions (now (keys .entry)) values (withCounts (now (counts .entry)) t) in r ≡ allBelow (serverSound u) (serversOf u)) ⌝ }
+    ensures { λ r. ⌜ ((t : Tables) → let u = withKeys (now (keys .entry)) (withCounts (now (counts .entry)) t) in r ≡ allBelow (serverSound u) (serversOf u)) ⌝ }
 {
     let servers = counts::count_at(counts, counts::SERVERS) as usize;
     let mut server = 0;

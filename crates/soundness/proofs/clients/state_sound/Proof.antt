@@ -7,4 +7,6 @@ returns : tie.Need-returns
 returns c = λ t. rw (← (c .before .before .count-at .ensures), ← (c .before .client-word .ensures)) (c .state-allowed .ensures)
 
 pub state-sound-spec : {M : Type 1} → statement M
-state-sound-spec = tie.close (tie.spec (λ c κs. search needs) (λ c κs. search needs) (λ c κs. search needs) returns)
+state-sound-spec =
+    tie.close
+    (tie.spec (λ c κs. search needs) (λ c κs. search needs) (λ c κs. search needs) returns)

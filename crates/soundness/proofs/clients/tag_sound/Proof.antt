@@ -7,4 +7,6 @@ returns : tie.Need-returns
 returns c = λ t. rw ((c .before .client-word .ensures), (c .count-at .ensures))
 
 pub tag-sound-spec : {M : Type 1} → statement M
-tag-sound-spec = tie.close (tie.spec (λ c κs. search needs) (λ c κs. search needs) returns)
+tag-sound-spec =
+    tie.close
+    (tie.spec (λ c κs. search needs) (λ c κs. search needs) returns)

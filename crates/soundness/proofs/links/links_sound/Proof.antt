@@ -1,32 +1,32 @@
 -- `soundness::links::links_sound` meets its contract: the links before `target` are sound.
-use mathlib.Core.Path.{refl, _≡_}
-use Prim.Native.Nat.{_-_, _≤_}
-use mathlib.Core.Bool.{true}
-use Rattle.ranges.specs.All.{allBelow, all-none}
-use Rattle.tables.specs.Tables.{Tables, withCounts, withClients, withLinks}
-use Rattle.soundness.specs.Loops.{all-next, all-stop, all-end}
+use mathlib.Core.Path.{refl}
+use Prim.Native.Nat.{_-_}
+use Rattle.tables.specs.Tables.{withCounts, withClients, withLinks}
+use Rattle.soundness.specs.Loops.{Passed, passed-none, passed-more, passed-stop, passed-end}
 use Rattle.soundness.specs.Sound.{linkSound}
 use borrow.Author.Needs.{needs}
 use Rattle.soundness.proofs.links.links_sound.Statement.{statement}
 use Rattle.soundness.proofs.links.links_sound.Tie as tie
 
 abbrev Inv-loop : tie.InvT-loop
-Inv-loop counts clients links client target₀ target = (target ≤ 17) × ((t : Tables) → allBelow (linkSound (withLinks links (withClients clients (withCounts counts t))) client) target ≡ true)
+Inv-loop counts clients links client target₀ target = Passed (λ t. linkSound (withLinks links (withClients clients (withCounts counts t))) client) 17 target
 
 abbrev μ-loop : tie.MeasureT-loop
 μ-loop counts clients links client target₀ target = 17 - target
 
 loop-holds : tie.Need-loop-holds Inv-loop μ-loop
-loop-holds c = let a = (c .before .before .before .args) in (search needs, λ t. all-none (linkSound (withLinks (a .links .now) (withClients (a .clients .now) (withCounts (a .counts .now) t))) (a .client)))
+loop-holds c = passed-none
 
 returns : tie.Need-returns Inv-loop μ-loop
-returns c = λ t. let a = (c .before .before .before .before .before .before .before .args) in all-stop (linkSound (withLinks (a .links .now) (withClients (a .clients .now) (withCounts (a .counts .now) t))) (a .client)) _ refl (c .before .before .loop-test .taken) ((c .before .link-sound .ensures) t) (c .if1 .taken)
+returns c = passed-stop (c .before .before .before .loop .inv) refl (c .before .before .loop-test .taken) (c .before .link-sound .ensures) (c .if1 .taken)
 
 loop-again : tie.Need-loop-again Inv-loop μ-loop
-loop-again c = let a = (c .before .before .before .before .before .before .before .args) in (search needs, λ t. all-next (linkSound (withLinks (a .links .now) (withClients (a .clients .now) (withCounts (a .counts .now) t))) (a .client)) _ ((c .before .before .before .loop .inv .1) t) ((c .before .link-sound .ensures) t) (c .if1 .left))
+loop-again c = passed-more (c .before .before .before .loop .inv) (c .before .before .loop-test .taken) (c .before .link-sound .ensures) (c .if1 .left)
 
 returns-2 : tie.Need-returns-2 Inv-loop μ-loop
-returns-2 c = λ t. let a = (c .before .before .before .before .before .args) in all-end (linkSound (withLinks (a .links .now) (withClients (a .clients .now) (withCounts (a .counts .now) t))) (a .client)) _ refl (c .before .loop .inv .0) (c .loop-test .left) ((c .before .loop .inv .1) t)
+returns-2 c = passed-end (c .before .loop .inv) refl (c .loop-test .left)
 
 pub links-sound-spec : {M : Type 1} → statement M
-links-sound-spec = tie.close (tie.spec Inv-loop μ-loop loop-holds (λ c κs. search needs) returns (λ c. search needs) (λ c. search needs) loop-again returns-2)
+links-sound-spec =
+    tie.close
+    (tie.spec Inv-loop μ-loop loop-holds (λ c κs. search needs) returns (λ c. search needs) (λ c. search needs) loop-again returns-2)

@@ -30,4 +30,6 @@ returns-2 : tie.Need-returns-2 Inv-loop μ-loop
 returns-2 c = any-end (λ i. not (isEmpty (linkAt (c .before .before .before .args .links .now) (c .before .before .before .args .client) i .content))) _ (c .before .loop .inv .0) (c .loop-test .left) (c .before .loop .inv .1)
 
 pub pending-spec : {M : Type 1} → statement M
-pending-spec = tie.close (tie.spec Inv-loop μ-loop loop-holds (λ c κs. search needs) returns (λ c. search needs) (λ c. search needs) loop-again returns-2)
+pending-spec =
+    tie.close
+    (tie.spec Inv-loop μ-loop loop-holds (λ c κs. search needs) returns (λ c. search needs) (λ c. search needs) loop-again returns-2)

@@ -11,4 +11,6 @@ returns-2 : tie.Need-returns-2
 returns-2 c = λ t. rw (ne-eqb _ _ (c .before .if1 .left)) (c .count-at2 .ensures)
 
 pub holding-spec : {M : Type 1} → statement M
-holding-spec = tie.close (tie.spec (λ c κs. search needs) returns (λ c. search needs) (λ c κs. search needs) returns-2)
+holding-spec =
+    tie.close
+    (tie.spec (λ c κs. search needs) returns (λ c. search needs) (λ c κs. search needs) returns-2)

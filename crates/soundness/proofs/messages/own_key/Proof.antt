@@ -11,4 +11,6 @@ returns-2 : tie.Need-returns-2
 returns-2 c = rw (holds (c .before .between .ensures) (c .if1 .left))
 
 pub own-key-spec : {M : Type 1} → statement M
-own-key-spec = tie.close (tie.spec (λ c κs. search needs) returns (λ c. search needs) returns-2)
+own-key-spec =
+    tie.close
+    (tie.spec (λ c κs. search needs) returns (λ c. search needs) returns-2)

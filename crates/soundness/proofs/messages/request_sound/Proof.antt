@@ -16,7 +16,11 @@ returns-2 c = λ t. rw (c .before .match .keys1) (c .own-key .ensures)
 
 returns-3 : tie.Need-returns-3
 unfolding requestSound
-returns-3 c = λ t. rw ((c .before .before .before .before .match .keys2), holds (c .before .before .before .own-key2 .ensures) (c .before .before .if1 .left), ← (c .before .count-at .ensures)) (c .mask-within .ensures)
+returns-3 c = λ t. rw (
+  (c .before .before .before .before .match .keys2),
+  holds (c .before .before .before .own-key2 .ensures) (c .before .before .if1 .left),
+  ← (c .before .count-at .ensures),
+) (c .mask-within .ensures)
 
 returns-4 : tie.Need-returns-4
 unfolding requestSound
@@ -24,7 +28,9 @@ returns-4 c = λ t. rw ((c .before .before .match .keys3), ← (c .before .count
 
 returns-5 : tie.Need-returns-5
 unfolding requestSound
-returns-5 c = λ t. let d = (c .match .rest) in rw (ne-eqb _ _ (d .1), ne-eqb _ _ (d .0 .1), ne-eqb _ _ (d .0 .0 .1))
+returns-5 c = λ t. let d = c .match .rest in rw (ne-eqb _ _ (d .1), ne-eqb _ _ (d .0 .1), ne-eqb _ _ (d .0 .0 .1))
 
 pub request-sound-spec : {M : Type 1} → statement M
-request-sound-spec = tie.close (tie.spec (λ c κs. search needs) (λ c κs. search needs) returns (λ c κs. search needs) (λ c κs. search needs) (λ c κs. search needs) (λ c κs. search needs) returns-2 returns-3 returns-4 returns-5)
+request-sound-spec =
+    tie.close
+    (tie.spec (λ c κs. search needs) (λ c κs. search needs) returns (λ c κs. search needs) (λ c κs. search needs) (λ c κs. search needs) (λ c κs. search needs) returns-2 returns-3 returns-4 returns-5)

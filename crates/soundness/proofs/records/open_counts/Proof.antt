@@ -26,4 +26,6 @@ returns : tie.Need-returns Inv-loop μ-loop
 returns c = let e : (c .before .loop .place) ≡ (c .before .before .before .args .begun) = omega arith in rw (← e) (c .before .loop .inv .1)
 
 pub open-counts-spec : {M : Type 1} → statement M
-open-counts-spec = tie.close (tie.spec Inv-loop μ-loop loop-holds count-open-requires (λ c. search needs) (λ c. search needs) loop-again returns)
+open-counts-spec =
+    tie.close
+    (tie.spec Inv-loop μ-loop loop-holds count-open-requires (λ c. search needs) (λ c. search needs) loop-again returns)

@@ -12,11 +12,29 @@ returns c = λ t. rw (← (c .before .before .count-at .ensures), ← (c .before
 
 returns-2 : tie.Need-returns-2
 unfolding readSound
-returns-2 c = λ t. rw (← (c .before .before .before .before .before .before .count-at .ensures), ← (c .before .before .before .before .before .record-word .ensures), lt-ltb _ _ (c .before .before .before .before .if1 .left), ← (c .before .before .before .record-word2 .ensures), ← (c .before .before .count-at2 .ensures), fails (c .before .mask-within .ensures) (c .if2 .taken))
+returns-2 c = λ t. rw (
+  ← (c .before .before .before .before .before .before .count-at .ensures),
+  ← (c .before .before .before .before .before .record-word .ensures),
+  lt-ltb _ _ (c .before .before .before .before .if1 .left),
+  ← (c .before .before .before .record-word2 .ensures),
+  ← (c .before .before .count-at2 .ensures),
+  fails (c .before .mask-within .ensures) (c .if2 .taken),
+)
 
 returns-3 : tie.Need-returns-3
 unfolding readSound
-returns-3 c = λ t. rw (← (c .before .before .before .before .before .before .before .before .count-at .ensures), ← (c .before .before .before .before .before .before .before .record-word .ensures), lt-ltb _ _ (c .before .before .before .before .before .before .if1 .left), ← (c .before .before .before .before .before .record-word2 .ensures), ← (c .before .before .before .before .count-at2 .ensures), holds (c .before .before .before .mask-within .ensures) (c .before .before .if2 .left), ← (c .before .record-word3 .ensures), ← (c .count-at3 .ensures))
+returns-3 c = λ t. rw (
+  ← (c .before .before .before .before .before .before .before .before .count-at .ensures),
+  ← (c .before .before .before .before .before .before .before .record-word .ensures),
+  lt-ltb _ _ (c .before .before .before .before .before .before .if1 .left),
+  ← (c .before .before .before .before .before .record-word2 .ensures),
+  ← (c .before .before .before .before .count-at2 .ensures),
+  holds (c .before .before .before .mask-within .ensures) (c .before .before .if2 .left),
+  ← (c .before .record-word3 .ensures),
+  ← (c .count-at3 .ensures),
+)
 
 pub read-sound-spec : {M : Type 1} → statement M
-read-sound-spec = tie.close (tie.spec (λ c κs. search needs) (λ c κs. search needs) returns (λ c κs. search needs) (λ c κs. search needs) (λ c κs. search needs) returns-2 (λ c κs. search needs) (λ c κs. search needs) returns-3)
+read-sound-spec =
+    tie.close
+    (tie.spec (λ c κs. search needs) (λ c κs. search needs) returns (λ c κs. search needs) (λ c κs. search needs) (λ c κs. search needs) returns-2 (λ c κs. search needs) (λ c κs. search needs) returns-3)

@@ -19,4 +19,6 @@ unfolding keyInRange
 returns-3 c = rw (ne-eqb _ _ (c .before .before .if1 .left), holds (c .before .between .ensures) (c .if2 .left))
 
 pub key-in-range-spec : {M : Type 1} → statement M
-key-in-range-spec = tie.close (tie.spec returns (λ c κs. search needs) returns-2 returns-3)
+key-in-range-spec =
+    tie.close
+    (tie.spec returns (λ c κs. search needs) returns-2 returns-3)

@@ -29,4 +29,6 @@ returns-2 : tie.Need-returns-2 Inv-loop μ-loop
 returns-2 c = all-end (λ at. keyInRange (c .before .before .before .args .clients) (versionWord (c .before .before .before .args .keys .now) (c .before .before .before .args .server) at)) _ refl (c .before .loop .inv .0) (c .loop-test .left) (c .before .loop .inv .1)
 
 pub keys-in-range-spec : {M : Type 1} → statement M
-keys-in-range-spec = tie.close (tie.spec Inv-loop μ-loop loop-holds (λ c κs. search needs) (λ c κs. search needs) returns (λ c. search needs) (λ c. search needs) loop-again returns-2)
+keys-in-range-spec =
+    tie.close
+    (tie.spec Inv-loop μ-loop loop-holds (λ c κs. search needs) (λ c κs. search needs) returns (λ c. search needs) (λ c. search needs) loop-again returns-2)

@@ -11,4 +11,6 @@ returns-2 : tie.Need-returns-2
 returns-2 c = rw (ne-eqb _ _ (c .if1 .left))
 
 pub is-writing-spec : {M : Type 1} → statement M
-is-writing-spec = tie.close (tie.spec returns returns-2)
+is-writing-spec =
+    tie.close
+    (tie.spec returns returns-2)

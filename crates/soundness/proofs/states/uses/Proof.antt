@@ -32,7 +32,10 @@ returns-6 c = rw ((c .before .before .match .keys5), sym (c .before .has-server3
 
 returns-7 : tie.Need-returns-7
 unfolding uses
-returns-7 c = let d = (c .match .rest) in rw (ne-eqb _ _ (d .1), ne-eqb _ _ (d .0 .1), ne-eqb _ _ (d .0 .0 .1), ne-eqb _ _ (d .0 .0 .0 .1), ne-eqb _ _ (d .0 .0 .0 .0 .1))
+returns-7 c = let d = c .match .rest in
+    rw (ne-eqb _ _ (d .1), ne-eqb _ _ (d .0 .1), ne-eqb _ _ (d .0 .0 .1), ne-eqb _ _ (d .0 .0 .0 .1), ne-eqb _ _ (d .0 .0 .0 .0 .1))
 
 pub uses-spec : {M : Type 1} → statement M
-uses-spec = tie.close (tie.spec (λ c κs. search needs) (λ c κs. search needs) (λ c κs. search needs) returns returns-2 returns-3 returns-4 returns-5 returns-6 returns-7)
+uses-spec =
+    tie.close
+    (tie.spec (λ c κs. search needs) (λ c κs. search needs) (λ c κs. search needs) returns returns-2 returns-3 returns-4 returns-5 returns-6 returns-7)
