@@ -1,4 +1,6 @@
-// Whether tables are sound: number 2 of the refusals. A small function decides each small definition of specs/Sound.
+// Whether tables are sound: number 2 of the refusals. A small function decides each small definition of specs/Sound, in whose words it is named.
+// Each is lent only the tables that it reads and promises its answer for every contents of the others: that is the `(t : Tables) →` of a contract.
+// `sound` and `long_enough` take tables as they come; the inner functions ask for the lengths and ranges that were tested before them.
 ghost use mathlib.Core.Path.{_≡_};
 ghost use Prim.Native.Nat.{ℕ};
 ghost use mathlib.Core.List.{List};
