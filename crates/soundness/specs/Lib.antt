@@ -1,5 +1,12 @@
--- Sound tables: the definition, condition by condition, and the same as records of facts for proofs.
+-- Sound tables: `Sound` is the definition, condition by condition. The other files serve the check of it, and no reader needs to believe them:
+-- runs of conditions that one function decides, what a function asks before it reads, and laws that the proofs cite.
 pub mod Sound
 pub mod Every
 pub mod Facts
 pub mod Balance
+pub mod Parts
+pub mod Asked
+pub mod Loops
+pub mod Kinds
+pub mod Opens
+pub mod There

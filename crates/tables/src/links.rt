@@ -4,7 +4,7 @@ ghost use Prim.Native.Nat.{_+_, _<_};
 ghost use mathlib.Core.List.{[], _∷_};
 ghost use lib.ListN.{length};
 ghost use lib.Seq.{sets};
-ghost use Rattle.tables.specs.Rows.{HasRow};
+ghost use Rattle.tables.specs.Rows.{wordAt, HasRow};
 ghost use Rattle.tables.specs.Links.{linkWidth, linkRow, linkAt, putLink, isEmpty};
 use keys::Key;
 
@@ -24,13 +24,13 @@ pub struct Link {
     pub content: Content,
 }
 
-const WIDTH: usize = 3;
+pub const WIDTH: usize = 3;
 
-const KIND: usize = 0;
+pub const KIND: usize = 0;
 
-const KEY: usize = 1;
+pub const KEY: usize = 1;
 
-const NUMBER: usize = 2;
+pub const NUMBER: usize = 2;
 // The targets of a client: servers 0 to 15, and the coordinator.
 pub const TARGETS: usize = 17;
 
@@ -59,6 +59,15 @@ pub fn link_at(links: &[u32], client: usize, target: usize) -> Link
     Link {
         content: Content::Nothing,
     }
+}
+
+// A word of a link's row as it stands, for those who ask whether it is in its range.
+pub fn link_word(links: &[u32], client: usize, target: usize, field: usize) -> u32
+    requires { ⌜ HasRow linkWidth (now links) (linkRow client target) ⌝ }
+    requires { ⌜ field < linkWidth ⌝ }
+    ensures { λ r. ⌜ r ≡ wordAt linkWidth (now (links .entry)) (linkRow client target) field ⌝ }
+{
+    links[WIDTH * (TARGETS * client + target) + field]
 }
 
 // Three words from a place on.

@@ -1,12 +1,12 @@
 // The coordinator's log: (key, mask) at each tag.
 ghost use mathlib.Core.Path.{_≡_};
-ghost use Rattle.tables.specs.Rows.{HasRow};
+ghost use Rattle.tables.specs.Rows.{wordAt, HasRow};
 ghost use Rattle.tables.specs.Layout.{entryWidth, entryKey, entryMask, putEntry};
 use keys::Key;
 
 pub const PLACES: usize = 256;
 
-const WIDTH: usize = 2;
+pub const WIDTH: usize = 2;
 
 const KEY: usize = 0;
 
@@ -17,6 +17,14 @@ pub fn entry_key(log: &[u32], tag: usize) -> Key
     ensures { λ r. ⌜ r ≡ entryKey (now (log .entry)) tag ⌝ }
 {
     Key::at_word(log[WIDTH * tag + KEY])
+}
+
+// The word of an entry's key as it stands, for those who ask whether it is in its range.
+pub fn key_word(log: &[u32], tag: usize) -> u32
+    requires { ⌜ HasRow entryWidth (now log) tag ⌝ }
+    ensures { λ r. ⌜ r ≡ wordAt entryWidth (now (log .entry)) tag 0 ⌝ }
+{
+    log[WIDTH * tag + KEY]
 }
 
 pub fn entry_mask(log: &[u32], tag: usize) -> u32

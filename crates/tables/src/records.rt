@@ -6,7 +6,7 @@ ghost use Rattle.tables.specs.Layout.{recordWidth, recordWord, putRecord
 
 pub const PLACES: usize = 255;
 
-const WIDTH: usize = 5;
+pub const WIDTH: usize = 5;
 
 pub const CLIENT: usize = 0;
 

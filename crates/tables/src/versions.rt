@@ -23,6 +23,14 @@ pub fn version_key(keys: &[u32], server: usize, place: usize) -> Key
     Key::at_word(keys[PLACES * server + place])
 }
 
+// The word of a key as it stands, for those who ask whether it is in its range.
+pub fn key_word(keys: &[u32], server: usize, place: usize) -> u32
+    requires { ⌜ serverPlaces * server + place < length (now keys) ⌝ }
+    ensures { λ r. ⌜ r ≡ versionWord (now (keys .entry)) server place ⌝ }
+{
+    keys[PLACES * server + place]
+}
+
 pub fn version_setpoint(values: &[u32], server: usize, place: usize) -> u32
     requires { ⌜ serverPlaces * server + place < length (now values) ⌝ }
     ensures { λ r. ⌜ r ≡ versionWord (now (values .entry)) server place ⌝ }

@@ -1,8 +1,8 @@
--- `soundness::between` meets its contract: each way out is one value of the first test.
+-- `soundness::scalars::between` meets its contract: each way out is one value of the first test.
 use borrow.Author.Tests.{le-leb, lt-leb}
 use borrow.Author.Needs.{needs}
-use Rattle.soundness.proofs.between.Statement.{statement}
-use Rattle.soundness.proofs.between.Tie as tie
+use Rattle.soundness.proofs.scalars.between.Statement.{statement}
+use Rattle.soundness.proofs.scalars.between.Tie as tie
 
 returns : tie.Need-returns
 returns c = rw (le-leb _ _ (c .if1 .taken))

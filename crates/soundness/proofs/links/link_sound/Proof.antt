@@ -1,0 +1,43 @@
+-- `soundness::links::link_sound` meets its contract: each kind is a case law of `linkSound`.
+use Rattle.tables.specs.Tables.{withCounts, withClients, withLinks}
+use Rattle.soundness.specs.Kinds.{nothing-sound, kind-beyond, request-sound, reply-sound, not-used}
+use Rattle.soundness.specs.Parts.{fails, holds}
+use borrow.Author.Needs.{needs}
+use Rattle.soundness.proofs.links.link_sound.Statement.{statement}
+use Rattle.soundness.proofs.links.link_sound.Tie as tie
+
+returns : tie.Need-returns
+returns c = λ t. let a = c .before .before .before .before .before .args in
+    nothing-sound (withLinks (a .links .now) (withClients (a .clients .now) (withCounts (a .counts .now) t))) (a .client) (a .target) (c .before .link-word .ensures) (c .if1 .taken)
+
+returns-2 : tie.Need-returns-2
+returns-2 c = λ t. let a = c .before .before .before .before .before .before .before .before .before .args in
+    not-used (withLinks (a .links .now) (withClients (a .clients .now) (withCounts (a .counts .now) t))) (a .client) (a .target) (c .before .before .before .before .before .link-word .ensures) (c .before .before .before .before .if1 .left) (fails (rw (
+      (c .before .before .before .client-word .ensures),
+      (c .before .before .client-word2 .ensures),
+    ) at (c .before .uses .ensures)) (c .if2 .taken))
+
+returns-3 : tie.Need-returns-3
+returns-3 c = λ t. let a = c .before .before .before .before .before .before .before .before .before .before .before .args in
+    request-sound (withLinks (a .links .now) (withClients (a .clients .now) (withCounts (a .counts .now) t))) (a .client) (a .target) (c .before .before .before .before .before .before .before .link-word .ensures) (c .before .if3 .taken) (holds (rw (
+      (c .before .before .before .before .before .client-word .ensures),
+      (c .before .before .before .before .client-word2 .ensures),
+    ) at (c .before .before .before .uses .ensures))
+    (c .before .before .if2 .left)) (rw (c .before .before .before .before .before .client-word .ensures) at (c .request-on .ensures (withClients (a .clients .now) t)))
+
+returns-4 : tie.Need-returns-4
+returns-4 c = λ t. let a = c .before .before .before .before .before .before .before .before .before .before .before .before .args in
+    reply-sound (withLinks (a .links .now) (withClients (a .clients .now) (withCounts (a .counts .now) t))) (a .client) (a .target) (c .before .before .before .before .before .before .before .before .link-word .ensures) (c .before .if4 .taken) (holds (rw (
+      (c .before .before .before .before .before .before .client-word .ensures),
+      (c .before .before .before .before .before .client-word2 .ensures),
+    ) at (c .before .before .before .before .uses .ensures))
+    (c .before .before .before .if2 .left)) (rw (c .before .before .before .before .before .before .client-word .ensures) at (c .reply-on .ensures (withClients (a .clients .now) t)))
+
+returns-5 : tie.Need-returns-5
+returns-5 c = λ t. let a = c .before .before .before .before .before .before .before .before .before .before .before .args in
+    kind-beyond (withLinks (a .links .now) (withClients (a .clients .now) (withCounts (a .counts .now) t))) (a .client) (a .target) (c .before .before .before .before .before .before .before .link-word .ensures) (c .before .before .before .before .before .before .if1 .left) (c .before .if3 .left) (c .if4 .left)
+
+pub link-sound-spec : {M : Type 1} → statement M
+link-sound-spec =
+    tie.close
+    (tie.spec (λ c κs. search needs) returns (λ c κs. search needs) (λ c κs. search needs) (λ c κs. search needs) returns-2 (λ c κs. search needs) returns-3 (λ c κs. search needs) returns-4 returns-5)

@@ -1,0 +1,45 @@
+-- Whether a link is sound, by the word of its kind, as the code meets it.
+use Prim.Native.Nat.{ℕ, _<_}
+use mathlib.Core.Path.{_≡_}
+use mathlib.Core.Bool.{Bool, true, false}
+use native.Mathlib.Omega.{arith}
+use borrow.Author.Tests.{lt-leb}
+use Rattle.ranges.specs.Tests.{by-equal}
+use Rattle.tables.specs.Rows.{wordAt}
+use Rattle.tables.specs.Links.{linkWidth, linkRow, linkAt}
+use Rattle.tables.specs.Tables.{Tables, stateOf, maskOf}
+use Rattle.soundness.specs.Sound.{uses, requestSound, replySound, keyOn, contentSound, linkSound}
+use Rattle.soundness.specs.Parts.{numberOn}
+
+module _ (t : Tables) (q i : ℕ) {kind : ℕ} (d : kind ≡ wordAt linkWidth (t .links) (linkRow q i) 0) where
+  abbrev used : Bool
+  used = uses (stateOf t q) (maskOf t q) i
+
+  pub nothing-sound : kind ≡ 0 → true ≡ linkSound t q i
+  unfolding linkSound contentSound linkAt
+  nothing-sound e = rw (← d, e)
+
+  -- a kind that there is not
+  pub kind-beyond : (kind ≡ 0 → ⊥) → (kind ≡ 1 → ⊥) → (kind ≡ 2 → ⊥) → false ≡ linkSound t q i
+  unfolding linkSound
+  kind-beyond f g h =
+      let l : 2 < kind = by-equal kind 0 (λ e. absurd (f e)) (λ e. by-equal kind 1 (λ e. absurd (g e)) (λ e. by-equal kind 2 (λ e. absurd (h e)) (λ e. omega arith))) in
+      rw (← d, lt-leb _ _ l)
+
+  pub request-sound : {r : Bool} → kind ≡ 1 → used ≡ true → r ≡ requestSound (stateOf t q) q (keyOn t q i) (numberOn t q i) t → r ≡ linkSound t q i
+  unfolding linkSound contentSound linkAt
+  request-sound e u s = rw (← d, e, u) s
+
+  pub reply-sound : {r : Bool} → kind ≡ 2 → used ≡ true → r ≡ replySound (stateOf t q) i (numberOn t q i) t → r ≡ linkSound t q i
+  unfolding linkSound contentSound linkAt
+  reply-sound e u s = rw (← d, e, u) s
+
+  -- something stands on a link that the state does not use
+  pub not-used : (kind ≡ 0 → ⊥) → used ≡ false → false ≡ linkSound t q i
+  unfolding linkSound contentSound linkAt
+  not-used f u =
+      by-equal kind 1
+      (λ e. rw (← d, e, u))
+      (λ g. by-equal kind 2
+      (λ e. rw (← d, e, u))
+      (λ h. kind-beyond f g h))

@@ -1,0 +1,90 @@
+-- Runs of conditions of `Sound` as one function of the check decides them, and what a check that failed or passed tells.
+use Prim.Native.Nat.{ℕ, _^_, _≤_}
+use mathlib.Core.Path.{_≡_, sym, _∙_}
+use mathlib.Core.Bool.{Bool, true, false, cond, not, _&&_}
+use mathlib.Core.List.{List}
+use lib.Dec.{eqb, leb, ltb}
+use borrow.Author.Tests.{not-true, not-false, leb-true}
+use Rattle.ranges.specs.Tests.{both-left, both-right}
+use Rattle.ranges.specs.All.{allBelow}
+use Rattle.ranges.specs.Sum.{sumBelow}
+use Rattle.keys.specs.Keys.{keyWord, opening}
+use Rattle.keys.specs.Masks.{maskWithin}
+use Rattle.tables.specs.Rows.{wordAt}
+use Rattle.tables.specs.Layout.{logPlaces, recordPlaces, entryWidth, entryMask}
+use Rattle.tables.specs.Links.{linkWidth, linkRow, isEmpty}
+use Rattle.tables.specs.Tables.{Tables, withVersions, methodOf, serversOf, clientsOf, stepOf, entriesOf, writesOf, readsOf, stateOf, countOf, maskOf, tagOf, recordOf, contentAt}
+use Rattle.rules.specs.Common.{idle, askingAll}
+use Rattle.rules.specs.Open.{allServers}
+use Rattle.soundness.specs.Sound.{between, serverSound, logSound, isWriting, isReading, stateAllowed, uses, clientSound, openSound, writeSound, readSound, recordsSound}
+
+-- a check answered no, or yes: so does its definition
+module _ {r a : Bool} where
+  pub fails : r ≡ a → not r ≡ true → a ≡ false
+  fails d e = sym d ∙ not-true r e
+
+  pub holds : r ≡ a → not r ≡ false → a ≡ true
+  holds d e = sym d ∙ not-false r e
+
+-- the keys alone; no condition is on the setpoints of versions
+abbrev pub withKeys : List ℕ → Tables → Tables
+withKeys keys t = withVersions keys (t .values) t
+
+-- what a number between two others has
+pub record Between (low n high : ℕ) : Type 0 where
+  pub least : low ≤ n
+  pub most : n ≤ high
+
+pub between-true : (low n high : ℕ) → between low n high ≡ true → Between low n high
+between-true low n high e = record { least = leb-true low n (both-left (leb low n) (leb n high) e); most = leb-true n high (both-right (leb low n) (leb n high) e) }
+
+-- the scalars behind `pressFits`
+abbrev pub progressSound : Tables → Bool
+progressSound t = between 1 (stepOf t) 4294967295 && between 1 (entriesOf t) logPlaces && leb (writesOf t) recordPlaces && leb (readsOf t) recordPlaces
+
+-- what stands at tag 0
+abbrev pub firstEntrySound : Tables → Bool
+firstEntrySound t = eqb (wordAt entryWidth (t .log) 0 0) (keyWord opening) && eqb (entryMask (t .log) 0) (allServers (serversOf t))
+
+-- the number on a link
+abbrev pub numberOn : Tables → ℕ → ℕ → ℕ
+numberOn t q i = wordAt linkWidth (t .links) (linkRow q i) 2
+
+-- the first conditions of `clientSound`: count, mask and tag; all that its row alone decides
+abbrev pub countSound : Tables → ℕ → Bool
+countSound t q = between (cond (isWriting (stateOf t q)) 1 0) (countOf t q) 255
+
+abbrev pub maskSound : Tables → ℕ → Bool
+maskSound t q = cond (eqb (stateOf t q) idle) (ltb (maskOf t q) (2 ^ serversOf t)) (maskWithin (maskOf t q) (serversOf t))
+
+abbrev pub tagSound : Tables → ℕ → Bool
+tagSound t q = ltb (tagOf t q) (entriesOf t)
+
+abbrev pub rowSound : Tables → ℕ → Bool
+rowSound t q = stateAllowed (methodOf t) q (stateOf t q) && countSound t q && maskSound t q && tagSound t q
+
+-- the test of `receivedSound`
+abbrev pub expects : Tables → ℕ → ℕ → Bool
+expects t q i = eqb (stateOf t q) askingAll && (uses (stateOf t q) (maskOf t q) i && isEmpty (contentAt t q i))
+
+-- the two conditions of `recordsSound`
+abbrev pub writeOpenSound : Tables → ℕ → Bool
+writeOpenSound t q = openSound (isWriting (stateOf t q)) (t .writes) (writesOf t) q (recordOf t q)
+
+abbrev pub readOpenSound : Tables → ℕ → Bool
+readOpenSound t q = openSound (isReading (stateOf t q)) (t .reads) (readsOf t) q (recordOf t q)
+
+-- the last conditions of `sound`: those on counts and records
+abbrev pub countsSound : Tables → Bool
+countsSound t = eqb (sumBelow (countOf t) (clientsOf t)) (writesOf t)
+
+abbrev pub historySound : Tables → Bool
+historySound t = countsSound t && allBelow (writeSound t) (writesOf t) && allBelow (readSound t) (readsOf t) && allBelow (recordsSound t) (clientsOf t)
+
+-- the conditions on the servers' versions and the log
+abbrev pub storesSound : Tables → Bool
+storesSound t = allBelow (serverSound t) (serversOf t) && logSound t
+
+-- all conditions behind the lengths and the scalars
+abbrev pub restSound : Tables → Bool
+restSound t = storesSound t && allBelow (clientSound t) (clientsOf t) && countsSound t && allBelow (writeSound t) (writesOf t) && allBelow (readSound t) (readsOf t) && allBelow (recordsSound t) (clientsOf t)

@@ -1,0 +1,132 @@
+// A client: the words of its row, its links, and that a busy one waits for something.
+ghost use mathlib.Core.Path.{_≡_};
+ghost use Prim.Native.Nat.{_*_, _≤_};
+ghost use lib.ListN.{length};
+ghost use Rattle.ranges.specs.All.{allBelow};
+ghost use Rattle.ranges.specs.Sum.{sumBelow};
+ghost use Rattle.tables.specs.Rows.{HasRow};
+ghost use Rattle.tables.specs.Layout.{clientWidth};
+ghost use Rattle.tables.specs.Tables.{Tables, withCounts, withClients, withLinks, methodOf, clientsOf, stateOf, countOf};
+ghost use Rattle.soundness.specs.Sound.{stateAllowed, clientSound};
+ghost use Rattle.soundness.specs.Parts.{countSound, maskSound, tagSound, rowSound};
+ghost use Rattle.soundness.specs.Asked.{Counted, ClientThere, ClientsThere};
+use super::links;
+use super::scalars;
+use super::states;
+use tables::clients;
+use tables::counts;
+
+fn state_sound(counts: &[u32], clients: &[u32], client: usize) -> bool
+    requires { ⌜ Counted (now counts) ⌝ }
+    requires { ⌜ HasRow clientWidth (now clients) client ⌝ }
+    ensures { λ r. ⌜ ((t : Tables) → let u = withClients (now (clients .entry)) (withCounts (now (counts .entry)) t) in r ≡ stateAllowed (methodOf u) client (stateOf u client)) ⌝ }
+{
+    let method = counts::count_at(counts, counts::METHOD);
+    let state = clients::client_word(clients, client, clients::STATE);
+    states::state_allowed(method, client, state)
+}
+
+// A client that writes has a count of at least 1.
+fn count_sound(clients: &[u32], client: usize) -> bool
+    requires { ⌜ HasRow clientWidth (now clients) client ⌝ }
+    ensures { λ r. ⌜ ((t : Tables) → r ≡ countSound (withClients (now (clients .entry)) t) client) ⌝ }
+{
+    let count = clients::client_word(clients, client, clients::COUNT);
+    if states::is_writing(clients::client_word(clients, client, clients::STATE)) {
+        return scalars::between(1, count, 255);
+    }
+    scalars::between(0, count, 255)
+}
+
+// A busy client has a mask that is not zero.
+fn mask_sound(counts: &[u32], clients: &[u32], client: usize) -> bool
+    requires { ⌜ Counted (now counts) ⌝ }
+    requires { ⌜ HasRow clientWidth (now clients) client ⌝ }
+    ensures { λ r. ⌜ ((t : Tables) → r ≡ maskSound (withClients (now (clients .entry)) (withCounts (now (counts .entry)) t)) client) ⌝ }
+{
+    let mask = clients::client_word(clients, client, clients::MASK);
+    let state = clients::client_word(clients, client, clients::STATE);
+    if state == states::IDLE {
+        if mask == 0 {
+            return true;
+        }
+        return keys::mask_within(mask, counts::count_at(counts, counts::SERVERS));
+    }
+    keys::mask_within(mask, counts::count_at(counts, counts::SERVERS))
+}
+
+fn tag_sound(counts: &[u32], clients: &[u32], client: usize) -> bool
+    requires { ⌜ Counted (now counts) ⌝ }
+    requires { ⌜ HasRow clientWidth (now clients) client ⌝ }
+    ensures { λ r. ⌜ ((t : Tables) → r ≡ tagSound (withClients (now (clients .entry)) (withCounts (now (counts .entry)) t)) client) ⌝ }
+{
+    let tag = clients::client_word(clients, client, clients::TAG);
+    tag < counts::count_at(counts, counts::ENTRIES)
+}
+
+fn row_sound(counts: &[u32], clients: &[u32], client: usize) -> bool
+    requires { ⌜ Counted (now counts) ⌝ }
+    requires { ⌜ HasRow clientWidth (now clients) client ⌝ }
+    ensures { λ r. ⌜ ((t : Tables) → r ≡ rowSound (withClients (now (clients .entry)) (withCounts (now (counts .entry)) t)) client) ⌝ }
+{
+    if !state_sound(counts, clients, client) {
+        return false;
+    }
+    if !count_sound(clients, client) {
+        return false;
+    }
+    if !mask_sound(counts, clients, client) {
+        return false;
+    }
+    tag_sound(counts, clients, client)
+}
+
+fn client_sound(counts: &[u32], clients: &[u32], links: &[u32], client: usize) -> bool
+    requires { ⌜ Counted (now counts) ⌝ }
+    requires { ⌜ ClientThere (now clients) (now links) client ⌝ }
+    ensures { λ r. ⌜ ((t : Tables) → r ≡ clientSound (withLinks (now (links .entry)) (withClients (now (clients .entry)) (withCounts (now (counts .entry)) t))) client) ⌝ }
+{
+    if !row_sound(counts, clients, client) {
+        return false;
+    }
+    if !links::links_sound(counts, clients, links, client) {
+        return false;
+    }
+    if !links::all_received_sound(counts, clients, links, client) {
+        return false;
+    }
+    if clients::client_word(clients, client, clients::STATE) == states::IDLE {
+        return true;
+    }
+    links::pending(links, client)
+}
+
+pub fn clients_sound(counts: &[u32], clients: &[u32], links: &[u32]) -> bool
+    requires { ⌜ Counted (now counts) ⌝ }
+    requires { ⌜ ClientsThere (now counts) (now clients) (now links) ⌝ }
+    ensures { λ r. ⌜ ((t : Tables) → let u = withLinks (now (links .entry)) (withClients (now (clients .entry)) (withCounts (now (counts .entry)) t)) in r ≡ allBelow (clientSound u) (clientsOf u)) ⌝ }
+{
+    let rows = counts::count_at(counts, counts::CLIENTS) as usize;
+    let mut client = 0;
+    while client < rows {
+        if !client_sound(counts, clients, links, client) {
+            return false;
+        }
+        client += 1;
+    }
+    true
+}
+
+// All counts together. Each is below 2^32, so that sixteen of them fit.
+pub fn counts_together(clients: &[u32], rows: usize) -> u64
+    requires { ⌜ (rows ≤ 16) × (clientWidth * rows ≤ length (now clients)) ⌝ }
+    ensures { λ r. ⌜ ((t : Tables) → r ≡ sumBelow (countOf (withClients (now (clients .entry)) t)) rows) ⌝ }
+{
+    let mut total: u64 = 0;
+    let mut client = 0;
+    while client < rows {
+        total += clients::client_word(clients, client, clients::COUNT) as u64;
+        client += 1;
+    }
+    total
+}

@@ -1,0 +1,269 @@
+// The records: each in its range; as many WRITEs as the counts together; one without an end for each busy client, of the kind it is doing.
+ghost use mathlib.Core.Path.{_≡_};
+ghost use Prim.Native.Nat.{_+_, _≤_, _<_};
+ghost use Rattle.ranges.specs.All.{allBelow};
+ghost use Rattle.ranges.specs.Sum.{countBelow};
+ghost use Rattle.tables.specs.Rows.{HasRow};
+ghost use Rattle.tables.specs.Layout.{clientWidth, recordWidth, recordPlaces, countAt, writesField, readsField};
+ghost use Rattle.tables.specs.Tables.{Tables, withCounts, withClients, withWrites, withReads, clientsOf, writesOf, readsOf};
+ghost use Rattle.soundness.specs.Sound.{writeSound, readSound, isOpen, openSound, recordsSound};
+ghost use Rattle.soundness.specs.Parts.{writeOpenSound, readOpenSound, countsSound, historySound};
+ghost use Rattle.soundness.specs.Asked.{Counted, RecordsThere, RowsThere};
+ghost use Rattle.soundness.specs.Opens.{OpenCounts};
+use super::clients::counts_together;
+use super::scalars;
+use super::states;
+use tables::clients;
+use tables::counts;
+use tables::records;
+
+fn write_sound(counts: &[u32], writes: &[u32], place: usize) -> bool
+    requires { ⌜ Counted (now counts) ⌝ }
+    requires { ⌜ HasRow recordWidth (now writes) place ⌝ }
+    ensures { λ r. ⌜ ((t : Tables) → r ≡ writeSound (withWrites (now (writes .entry)) (withCounts (now (counts .entry)) t)) place) ⌝ }
+{
+    if counts::count_at(counts, counts::CLIENTS)
+        <= records::record_word(writes, place, records::CLIENT)
+    {
+        return false;
+    }
+    if !scalars::between(1, records::record_word(writes, place, records::NUMBER), 255) {
+        return false;
+    }
+    records::record_word(writes, place, records::TAG) < counts::count_at(counts, counts::ENTRIES)
+}
+
+pub fn writes_sound(counts: &[u32], writes: &[u32]) -> bool
+    requires { ⌜ Counted (now counts) ⌝ }
+    requires { ⌜ RecordsThere (now writes) ⌝ }
+    ensures { λ r. ⌜ ((t : Tables) → let u = withWrites (now (writes .entry)) (withCounts (now (counts .entry)) t) in r ≡ allBelow (writeSound u) (writesOf u)) ⌝ }
+{
+    let begun = counts::count_at(counts, counts::WRITES) as usize;
+    let mut place = 0;
+    while place < begun {
+        if !write_sound(counts, writes, place) {
+            return false;
+        }
+        place += 1;
+    }
+    true
+}
+
+fn read_sound(counts: &[u32], reads: &[u32], place: usize) -> bool
+    requires { ⌜ Counted (now counts) ⌝ }
+    requires { ⌜ HasRow recordWidth (now reads) place ⌝ }
+    ensures { λ r. ⌜ ((t : Tables) → r ≡ readSound (withReads (now (reads .entry)) (withCounts (now (counts .entry)) t)) place) ⌝ }
+{
+    if counts::count_at(counts, counts::CLIENTS)
+        <= records::record_word(reads, place, records::CLIENT)
+    {
+        return false;
+    }
+    if !keys::mask_within(
+        records::record_word(reads, place, records::NUMBER),
+        counts::count_at(counts, counts::SERVERS),
+    ) {
+        return false;
+    }
+    records::record_word(reads, place, records::TAG) < counts::count_at(counts, counts::ENTRIES)
+}
+
+pub fn reads_sound(counts: &[u32], reads: &[u32]) -> bool
+    requires { ⌜ Counted (now counts) ⌝ }
+    requires { ⌜ RecordsThere (now reads) ⌝ }
+    ensures { λ r. ⌜ ((t : Tables) → let u = withReads (now (reads .entry)) (withCounts (now (counts .entry)) t) in r ≡ allBelow (readSound u) (readsOf u)) ⌝ }
+{
+    let begun = counts::count_at(counts, counts::READS) as usize;
+    let mut place = 0;
+    while place < begun {
+        if !read_sound(counts, reads, place) {
+            return false;
+        }
+        place += 1;
+    }
+    true
+}
+
+// Whether a record is of a client and has no end.
+fn is_open(records: &[u32], client: usize, place: usize) -> bool
+    requires { ⌜ HasRow recordWidth (now records) place ⌝ }
+    ensures { λ r. ⌜ r ≡ isOpen (now (records .entry)) client place ⌝ }
+{
+    if records::record_word(records, place, records::CLIENT) as usize != client {
+        return false;
+    }
+    records::record_word(records, place, records::END) == 0
+}
+
+// One record more: where it has no end, it counts for its client.
+fn count_open(records: &[u32], place: usize, found: &mut [u32; 16])
+    requires { ⌜ (place < recordPlaces) × HasRow recordWidth (now records) place ⌝ }
+    requires { ⌜ OpenCounts (now records) place (now found) ⌝ }
+    ensures { λ _. ⌜ OpenCounts (now (records .entry)) (place + 1) (now (found .exit)) ⌝ }
+{
+    let end = records::record_word(records, place, records::END);
+    if end != 0 {
+        return;
+    }
+    let client = records::record_word(records, place, records::CLIENT) as usize;
+    if 16 <= client {
+        return;
+    }
+    found[client] += 1;
+}
+
+// How many records without an end each of sixteen clients has, in one pass.
+fn open_counts(records: &[u32], begun: usize) -> [u32; 16]
+    requires { ⌜ (begun ≤ recordPlaces) × RecordsThere (now records) ⌝ }
+    ensures { λ r. ⌜ OpenCounts (now (records .entry)) begun r ⌝ }
+{
+    let mut found = [0u32; 16];
+    let mut place = 0;
+    while place < begun {
+        count_open(records, place, &mut found);
+        place += 1;
+    }
+    found
+}
+
+// Exactly one record without an end, at the place that the client's row has, where the client does such a transaction; else none.
+fn open_sound(
+    doing: bool,
+    records: &[u32],
+    begun: usize,
+    client: usize,
+    place: usize,
+    found: u32,
+) -> bool
+    requires { ⌜ (begun ≤ recordPlaces) × RecordsThere (now records) ⌝ }
+    requires { ⌜ found ≡ countBelow (isOpen (now records) client) begun ⌝ }
+    ensures { λ r. ⌜ r ≡ openSound doing (now (records .entry)) begun client place ⌝ }
+{
+    if !doing {
+        return found == 0;
+    }
+    if found != 1 {
+        return false;
+    }
+    if begun <= place {
+        return false;
+    }
+    is_open(records, client, place)
+}
+
+fn write_open_sound(
+    counts: &[u32],
+    clients: &[u32],
+    writes: &[u32],
+    client: usize,
+    found: u32,
+) -> bool
+    requires { ⌜ Counted (now counts) ⌝ }
+    requires { ⌜ HasRow clientWidth (now clients) client ⌝ }
+    requires { ⌜ RecordsThere (now writes) ⌝ }
+    requires { ⌜ found ≡ countBelow (isOpen (now writes) client) (countAt (now counts) writesField) ⌝ }
+    ensures { λ r. ⌜ ((t : Tables) → r ≡ writeOpenSound (withWrites (now (writes .entry)) (withClients (now (clients .entry)) (withCounts (now (counts .entry)) t))) client) ⌝ }
+{
+    let doing = states::is_writing(clients::client_word(clients, client, clients::STATE));
+    let place = clients::client_word(clients, client, clients::RECORD) as usize;
+    let begun = counts::count_at(counts, counts::WRITES) as usize;
+    open_sound(doing, writes, begun, client, place, found)
+}
+
+fn read_open_sound(
+    counts: &[u32],
+    clients: &[u32],
+    reads: &[u32],
+    client: usize,
+    found: u32,
+) -> bool
+    requires { ⌜ Counted (now counts) ⌝ }
+    requires { ⌜ HasRow clientWidth (now clients) client ⌝ }
+    requires { ⌜ RecordsThere (now reads) ⌝ }
+    requires { ⌜ found ≡ countBelow (isOpen (now reads) client) (countAt (now counts) readsField) ⌝ }
+    ensures { λ r. ⌜ ((t : Tables) → r ≡ readOpenSound (withReads (now (reads .entry)) (withClients (now (clients .entry)) (withCounts (now (counts .entry)) t))) client) ⌝ }
+{
+    let doing = states::is_reading(clients::client_word(clients, client, clients::STATE));
+    let place = clients::client_word(clients, client, clients::RECORD) as usize;
+    let begun = counts::count_at(counts, counts::READS) as usize;
+    open_sound(doing, reads, begun, client, place, found)
+}
+
+fn writes_open_sound(counts: &[u32], clients: &[u32], writes: &[u32], found: &[u32; 16]) -> bool
+    requires { ⌜ Counted (now counts) ⌝ }
+    requires { ⌜ RowsThere (now counts) (now clients) ⌝ }
+    requires { ⌜ RecordsThere (now writes) ⌝ }
+    requires { ⌜ OpenCounts (now writes) (countAt (now counts) writesField) (now found) ⌝ }
+    ensures { λ r. ⌜ ((t : Tables) → let u = withWrites (now (writes .entry)) (withClients (now (clients .entry)) (withCounts (now (counts .entry)) t)) in r ≡ allBelow (writeOpenSound u) (clientsOf u)) ⌝ }
+{
+    let rows = counts::count_at(counts, counts::CLIENTS) as usize;
+    let mut client = 0;
+    while client < rows {
+        if !write_open_sound(counts, clients, writes, client, found[client]) {
+            return false;
+        }
+        client += 1;
+    }
+    true
+}
+
+fn reads_open_sound(counts: &[u32], clients: &[u32], reads: &[u32], found: &[u32; 16]) -> bool
+    requires { ⌜ Counted (now counts) ⌝ }
+    requires { ⌜ RowsThere (now counts) (now clients) ⌝ }
+    requires { ⌜ RecordsThere (now reads) ⌝ }
+    requires { ⌜ OpenCounts (now reads) (countAt (now counts) readsField) (now found) ⌝ }
+    ensures { λ r. ⌜ ((t : Tables) → let u = withReads (now (reads .entry)) (withClients (now (clients .entry)) (withCounts (now (counts .entry)) t)) in r ≡ allBelow (readOpenSound u) (clientsOf u)) ⌝ }
+{
+    let rows = counts::count_at(counts, counts::CLIENTS) as usize;
+    let mut client = 0;
+    while client < rows {
+        if !read_open_sound(counts, clients, reads, client, found[client]) {
+            return false;
+        }
+        client += 1;
+    }
+    true
+}
+
+fn all_records_sound(counts: &[u32], clients: &[u32], writes: &[u32], reads: &[u32]) -> bool
+    requires { ⌜ Counted (now counts) ⌝ }
+    requires { ⌜ RowsThere (now counts) (now clients) ⌝ }
+    requires { ⌜ RecordsThere (now writes) × RecordsThere (now reads) ⌝ }
+    ensures { λ r. ⌜ ((t : Tables) → let u = withReads (now (reads .entry)) (withWrites (now (writes .entry)) (withClients (now (clients .entry)) (withCounts (now (counts .entry)) t))) in r ≡ allBelow (recordsSound u) (clientsOf u)) ⌝ }
+{
+    let writing = open_counts(writes, counts::count_at(counts, counts::WRITES) as usize);
+    if !writes_open_sound(counts, clients, writes, &writing) {
+        return false;
+    }
+    let reading = open_counts(reads, counts::count_at(counts, counts::READS) as usize);
+    reads_open_sound(counts, clients, reads, &reading)
+}
+
+// As many WRITEs begun as all counts together.
+fn counts_sound(counts: &[u32], clients: &[u32]) -> bool
+    requires { ⌜ Counted (now counts) ⌝ }
+    requires { ⌜ RowsThere (now counts) (now clients) ⌝ }
+    ensures { λ r. ⌜ ((t : Tables) → r ≡ countsSound (withClients (now (clients .entry)) (withCounts (now (counts .entry)) t))) ⌝ }
+{
+    let rows = counts::count_at(counts, counts::CLIENTS) as usize;
+    let writes = counts::count_at(counts, counts::WRITES) as u64;
+    counts_together(clients, rows) == writes
+}
+
+pub fn history_sound(counts: &[u32], clients: &[u32], writes: &[u32], reads: &[u32]) -> bool
+    requires { ⌜ Counted (now counts) ⌝ }
+    requires { ⌜ RowsThere (now counts) (now clients) ⌝ }
+    requires { ⌜ RecordsThere (now writes) × RecordsThere (now reads) ⌝ }
+    ensures { λ r. ⌜ ((t : Tables) → r ≡ historySound (withReads (now (reads .entry)) (withWrites (now (writes .entry)) (withClients (now (clients .entry)) (withCounts (now (counts .entry)) t))))) ⌝ }
+{
+    if !counts_sound(counts, clients) {
+        return false;
+    }
+    if !writes_sound(counts, writes) {
+        return false;
+    }
+    if !reads_sound(counts, reads) {
+        return false;
+    }
+    all_records_sound(counts, clients, writes, reads)
+}

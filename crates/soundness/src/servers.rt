@@ -1,0 +1,64 @@
+// The versions of each server: the first bears the opening's key, and every key is in its range.
+ghost use mathlib.Core.Path.{_≡_};
+ghost use Prim.Native.Nat.{_≤_, _<_};
+ghost use Rattle.ranges.specs.All.{allBelow};
+ghost use Rattle.tables.specs.Rows.{HasRow};
+ghost use Rattle.tables.specs.Layout.{serverPlaces, versionWord};
+ghost use Rattle.tables.specs.Tables.{Tables, withCounts, serversOf};
+ghost use Rattle.soundness.specs.Sound.{keyInRange, serverSound};
+ghost use Rattle.soundness.specs.Parts.{withKeys};
+ghost use Rattle.soundness.specs.Asked.{Counted, VersionsThere};
+use super::scalars;
+use tables::counts;
+use tables::versions;
+
+// The keys of the first versions of a server.
+fn keys_in_range(keys: &[u32], server: usize, held: usize, clients: u32) -> bool
+    requires { ⌜ (held ≤ serverPlaces) × HasRow serverPlaces (now keys) server ⌝ }
+    ensures { λ r. ⌜ r ≡ allBelow (λ place. keyInRange clients (versionWord (now (keys .entry)) server place)) held ⌝ }
+{
+    let mut place = 0;
+    while place < held {
+        if !scalars::key_in_range(clients, versions::key_word(keys, server, place)) {
+            return false;
+        }
+        place += 1;
+    }
+    true
+}
+
+fn server_sound(counts: &[u32], keys: &[u32], server: usize) -> bool
+    requires { ⌜ (server < 16) × HasRow serverPlaces (now keys) server ⌝ }
+    requires { ⌜ Counted (now counts) ⌝ }
+    ensures { λ r. ⌜ ((t : Tables) → r ≡ serverSound (withKeys (now (keys .entry)) (withCounts (now (counts .entry)) t)) server) ⌝ }
+{
+    let held = counts::count_at(counts, counts::HELD + server);
+    if !scalars::between(1, held, 256) {
+        return false;
+    }
+    if versions::key_word(keys, server, 0) != 0 {
+        return false;
+    }
+    keys_in_range(
+        keys,
+        server,
+        held as usize,
+        counts::count_at(counts, counts::CLIENTS),
+    )
+}
+
+pub fn servers_sound(counts: &[u32], keys: &[u32]) -> bool
+    requires { ⌜ Counted (now counts) ⌝ }
+    requires { ⌜ VersionsThere (now counts) (now keys) ⌝ }
+    ensures { λ r. ⌜ ((t : Tables) → let u = withKeys (now (keys .entry)) (withCounts (now (counts .entry)) t) in r ≡ allBelow (serverSound u) (serversOf u)) ⌝ }
+{
+    let servers = counts::count_at(counts, counts::SERVERS) as usize;
+    let mut server = 0;
+    while server < servers {
+        if !server_sound(counts, keys, server) {
+            return false;
+        }
+        server += 1;
+    }
+    true
+}
