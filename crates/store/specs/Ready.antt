@@ -65,16 +65,25 @@ module _ (t : Tables) (s : Sound t) where
       let h = w .begin .client in
       record {
         begin = record { counted = s .long .counts; kinded = omega arith; stepped = w .begin .early; placed = omega (arith, w .few, s .long .writes); begun = omega (arith, w .few) };
-        client = omega (arith, few-clients, h); row = client-row q h; linked = client-links q h;
+        client = omega (arith, few-clients, h);
+        row = client-row q h;
+        linked = client-links q h;
         count = omega (arith, sum-part (countOf t) (clientsOf t) q h, s .counts, w .few);
-        servers = few-servers; given = w .values }
+        servers = few-servers;
+        given = w .values;
+      }
 
   pub read-ready : (q mask : ℕ) → Readable q mask t → AskReady (t .counts) (t .clients) (t .links) (t .log) q
   read-ready q mask r =
       let h = r .begin .client in
       record {
-        counted = s .long .counts; servers = few-servers; row = client-row q h; linked = client-links q h;
-        entered = s .scalars .entries .least; logged = omega (arith, s .scalars .entries .most, s .long .log) }
+        counted = s .long .counts;
+        servers = few-servers;
+        row = client-row q h;
+        linked = client-links q h;
+        entered = s .scalars .entries .least;
+        logged = omega (arith, s .scalars .entries .most, s .long .log);
+      }
 
   pub read-begins : (q mask : ℕ) → Readable q mask t → BeginReady (t .counts) (t .reads) readsField
   read-begins q mask r = record { counted = s .long .counts; kinded = omega arith; stepped = r .begin .early; placed = omega (arith, r .few, s .long .reads); begun = omega (arith, r .few) }
@@ -111,7 +120,8 @@ module _ (t : Tables) (s : Sound t) where
     at-server l =
         record {
           room = record { server = omega (arith, few-servers); counted = s .long .counts; keyed = omega (arith, s .long .keys); valued = omega (arith, s .long .values) };
-          held = s .server i l .held .most }
+          held = s .server i l .held .most;
+        }
 
     asks : (w : Contents) → contentAt t q i ≡ Request w → Asks (t .counts) (t .clients) (t .keys) (t .values) (t .log) (t .writes) q i
     asks w e =
@@ -121,8 +131,10 @@ module _ (t : Tables) (s : Sound t) where
           enter = λ z. record {
             room = record { counted = s .long .counts; logged = s .long .log };
             row = client-row q (d .client);
-            recorded = write-record q (d .client) (rw z) };
-          get = λ z. at-server (masked-server (sym (uses-setpoints (maskOf t q) i) ∙ (rw z at u))) }
+            recorded = write-record q (d .client) (rw z);
+          };
+          get = λ z. at-server (masked-server (sym (uses-setpoints (maskOf t q) i) ∙ (rw z at u)));
+        }
 
     pub request-ready : RequestReady (t .counts) (t .clients) (t .links) (t .keys) (t .values) (t .log) (t .writes) q i
     request-ready = record { answerable = answerable; row = client-row q (d .client); target = target-below; asks = asks }

@@ -1,1 +1,156 @@
--- x
+-- Sound tables are ready for the delivery of a reply.
+use Prim.Native.Nat.{ℕ, _+_, _*_, _≤_, _<_}
+use mathlib.Core.Path.{_≡_, refl, sym, _∙_, ap}
+use mathlib.Core.Bool.{Bool, true, false, cond, not, _&&_, _||_, or-true}
+use mathlib.Core.List.{List}
+use native.Mathlib.Omega.{arith}
+use lib.ListN.{length, length-set}
+use lib.Dec.{eqb, ltb, leb}
+use borrow.Author.Tests.{ltb-true, lt-ltb, leb-true, eqb-true, eq-eqb, ne-eqb}
+use Rattle.ranges.specs.Tests.{by-test, by-equal, not-both, both, both-left, both-right}
+use Rattle.ranges.specs.All.{anyBelow, any-at, all-of}
+use Rattle.ranges.specs.First.{firstBelow, first-found}
+use Rattle.keys.specs.Masks.{hasServer}
+use Rattle.tables.specs.Rows.{HasRow, word-same, word-other}
+use Rattle.tables.specs.Layout.{clientWidth, clientWord, receivedField, serverPlaces}
+use Rattle.tables.specs.Links.{targets, isEmpty, linkAt, putLink, link-other}
+use Rattle.tables.specs.Tables.{Tables, serversOf, clientsOf, entriesOf, heldOf, stateOf, maskOf, recordOf, receivedOf, contentAt}
+use Rattle.tables.specs.declared.links.Link.{Link}
+use Rattle.tables.specs.declared.links.Contents.{Contents}
+use Rattle.tables.specs.declared.links.Content.the-variants.{Nothing, Request, Reply}
+use Rattle.coordinator.specs.Latest.{latestTag, latestKey}
+use Rattle.coordinator.specs.LatestLaws.{latest-within}
+use Rattle.server.specs.Held.{firstBearing, bears}
+use Rattle.rules.specs.Common.{writing, entering, askingKeys, askingSetpoints, askingAll, coordinator, pending}
+use Rattle.rules.specs.Choice.{hasVersion, qualifies}
+use Rattle.rules.specs.Reply.{receivedIn}
+use Rattle.soundness.specs.Sound.{uses, holding, between}
+use Rattle.soundness.specs.Facts.{Sound, Between, between-facts}
+use Rattle.choice.specs.Ready.{Received, ChoiceReady}
+use Rattle.choice.specs.Cases.{serves}
+use Rattle.replies.specs.Ready.{CountFits, KeysReady, GotReady, Concludable, toldRow, AllReady, Brings, ReplyReady}
+use Rattle.keeping.specs.Accepted.{Deliverable}
+use Rattle.keeping.specs.States.{uses-keys, uses-setpoints, uses-all, by-state, arrived, received-none, received-some, reply-entering, reply-keys, reply-all}
+use Rattle.store.specs.Ready.{few-servers, few-clients, client-row, client-links, write-record, read-record, target-below, answerable, reply-used, reply-sound, masked-server}
+
+-- the first number that passes is below n where 0 passes
+first-below : (p : ℕ → Bool) (n : ℕ) → p 0 ≡ true → 0 < n → firstBelow p n < n
+first-below p n e h =
+    let f = first-found p n in
+    by-equal (firstBelow p n) 0 (λ z. rw z h) (λ z. absurd (not-both e (f .before 0 (omega arith))))
+
+module _ (t : Tables) (s : Sound t) where
+  -- the opening's version is the first of each server, and its key is the server's at tag 0
+  opening-key : (i : ℕ) → i < serversOf t → bears (t .keys) i (latestKey (t .log) i 0) 0 ≡ true
+  opening-key i l =
+      let z : latestTag (t .log) i 0 ≡ 0 = omega (arith, latest-within (t .log) i 0) in
+      rw (z, s .log .firstkey, s .server i l .first)
+
+  module _ (q i : ℕ) (d : Deliverable q i t) (w : Contents) (e : contentAt t q i ≡ Reply w) where
+    -- no more was received than is held
+    received-most : (j : ℕ) → j < targets → receivedOf t q j ≤ holding t j
+    received-most j l =
+        let r = s .client q (d .client) .received j l in
+        by-test (arrived t q j) (λ b. received-some t q j b r .most) (λ b. omega (arith, received-none t q j b r))
+
+    -- states 2 and 3: the number is that of entries
+    keys-told : stateOf t q ≡ askingKeys → KeysReady (t .counts) (t .clients) (t .log) q (w .number)
+    keys-told z =
+        let h : eqb i coordinator ≡ true = sym (uses-keys (maskOf t q) i) ∙ (rw z at (reply-used t s q i d w e)) in
+        let b = between-facts 1 (w .number) (holding t i) (sym (reply-keys t i (w .number)) ∙ (rw z at (reply-sound t s q i d w e))) in
+        let m : w .number ≤ entriesOf t = rw h at (b .most) in
+        record { row = client-row t s q (d .client); servers = few-servers t s; some = b .least; logged = omega (arith, m, s .scalars .entries .most, s .long .log) }
+
+    -- state 4: a masked server answered
+    got-from : stateOf t q ≡ askingSetpoints → i < 16
+    got-from z = omega (arith, masked-server t s q i d (sym (uses-setpoints (maskOf t q) i) ∙ (rw z at (reply-used t s q i d w e))), few-servers t s)
+
+    -- state 5
+    module _ (z : stateOf t q ≡ askingAll) where
+      abbrev told : List ℕ
+      told = toldRow (t .clients) q i (w .number)
+
+      number-between : Between 1 (w .number) (holding t i)
+      number-between = between-facts 1 (w .number) (holding t i) (sym (reply-all t i (w .number)) ∙ (rw z at (reply-sound t s q i d w e)))
+
+      told-here : receivedIn told q i ≡ w .number
+      told-here = word-same clientWidth (t .clients) q (receivedField + i) (w .number) (client-row t s q (d .client)) (omega (arith, target-below t s q i d))
+
+      told-other : (j : ℕ) → j < targets → (j ≡ i → ⊥) → receivedIn told q j ≡ receivedOf t q j
+      told-other j l n = word-other clientWidth (t .clients) q (receivedField + i) (w .number) q (receivedField + j) (omega (arith, target-below t s q i d)) (omega arith) (λ y. n (omega (arith, y .1)))
+
+      told-most : (j : ℕ) → j < targets → receivedIn told q j ≤ holding t j
+      told-most j l = by-equal j i (λ y. rw (y, told-here) (number-between .most)) (λ y. rw (told-other j l y) (received-most j l))
+
+      -- where no link holds anything any more, each target in use has answered
+      told-some : pending (putLink (t .links) q i Nothing) q ≡ false → (j : ℕ) → j < targets → uses (stateOf t q) (maskOf t q) j ≡ true → 0 < receivedIn told q j
+      told-some none j l u =
+          by-equal j i (λ y. rw (y, told-here) (number-between .least))
+          (λ y.
+          let same : linkAt (putLink (t .links) q i Nothing) q j ≡ linkAt (t .links) q j = link-other (t .links) q i Nothing q j (target-below t s q i d) l (λ x. y (x .1)) in
+          let free : isEmpty (contentAt t q j) ≡ true =
+          by-test (isEmpty (contentAt t q j)) (λ b. b)
+          (λ b. absurd (not-both (any-at (λ k. not (isEmpty (linkAt (putLink (t .links) q i Nothing) q k .content))) targets j l (rw (same, b))) none)) in
+          let in′ = received-some t q j (both (eqb (stateOf t q) askingAll) (uses (stateOf t q) (maskOf t q) j && isEmpty (contentAt t q j)) (eq-eqb _ _ z) (both (uses (stateOf t q) (maskOf t q) j) (isEmpty (contentAt t q j)) u free)) (s .client q (d .client) .received j l) in
+          rw (told-other j l y) (in′ .least))
+
+      told-length : length told ≡ length (t .clients)
+      told-length = length-set (t .clients) (clientWidth * q + (receivedField + i)) (w .number)
+
+      told-row : HasRow clientWidth told q
+      told-row = rw told-length (client-row t s q (d .client))
+
+      server-most : (j : ℕ) → j < serversOf t → receivedIn told q j ≤ serverPlaces
+      server-most j l =
+          let n : eqb j coordinator ≡ false = ne-eqb j coordinator (λ y. omega (arith, few-servers t s)) in
+          let m : receivedIn told q j ≤ heldOf t j = rw n at (told-most j (omega (arith, few-servers t s))) in
+          omega (arith, m, s .server j l .held .most)
+
+      choice-ready : ChoiceReady told (t .keys) (t .values) q (serversOf t)
+      choice-ready =
+          record {
+            servers = few-servers t s;
+            received = λ j l. record { server = omega (arith, few-servers t s); row = told-row; held = omega (arith, server-most j l, s .long .keys); count = server-most j l };
+            valued = s .long .values;
+          }
+
+      -- tag 0 qualifies: each masked server has sent its first version at least
+      opening-qualifies : pending (putLink (t .links) q i Nothing) q ≡ false → qualifies (t .keys) (t .log) (maskOf t q) (receivedIn told q) (serversOf t) 0 ≡ true
+      opening-qualifies none =
+          all-of (serves (t .keys) (t .log) (maskOf t q) (receivedIn told q) 0) (serversOf t)
+          (λ j l. by-test (hasServer (maskOf t q) j)
+          (λ b.
+          let u : uses (stateOf t q) (maskOf t q) j ≡ true = rw (z, uses-all (maskOf t q) j, b) in
+          rw b (lt-ltb (firstBearing (t .keys) j (latestKey (t .log) j 0) (receivedIn told q j)) (receivedIn told q j)
+          (first-below (bears (t .keys) j (latestKey (t .log) j 0)) (receivedIn told q j) (opening-key j l) (told-some none j (omega (arith, few-servers t s)) u))))
+          (λ b. rw b))
+
+      concludable : pending (putLink (t .links) q i Nothing) q ≡ false →
+          Concludable told (t .keys) (t .log) (t .reads) q (maskOf t q) (serversOf t) (recordOf t q)
+      concludable none =
+          let u : uses (stateOf t q) (maskOf t q) coordinator ≡ true = rw (z, uses-all (maskOf t q) coordinator) (or-true (hasServer (maskOf t q) coordinator)) in
+          let m : receivedIn told q coordinator ≤ entriesOf t = told-most coordinator (omega arith) in
+          record {
+            row = told-row;
+            recorded = read-record t s q (d .client) (rw z);
+            some = told-some none coordinator (omega arith) u;
+            entries = omega (arith, m, s .scalars .entries .most);
+            logged = omega (arith, m, s .scalars .entries .most, s .long .log);
+            opening = opening-qualifies none;
+          }
+
+      all-ready : AllReady (t .counts) (t .clients) (t .links) (t .keys) (t .values) (t .log) (t .reads) q i (w .number)
+      all-ready = record { row = client-row t s q (d .client); target = target-below t s q i d; linked = client-links t s q (d .client); last = λ none. (choice-ready, concludable none) }
+
+    brings : Brings (t .counts) (t .clients) (t .links) (t .keys) (t .values) (t .log) (t .writes) (t .reads) q i (w .number)
+    brings =
+        record {
+          done = λ z. record { client = omega (arith, few-clients t s, d .client); row = client-row t s q (d .client); count = omega (arith, s .client q (d .client) .count .most) };
+          entered = λ z. record { row = client-row t s q (d .client); recorded = write-record t s q (d .client) (rw z) };
+          told = keys-told;
+          got = λ z. (got-from z, record { row = client-row t s q (d .client); recorded = read-record t s q (d .client) (rw z) });
+          all = λ a b c f. all-ready (by-state (maskOf t q) i (stateOf t q) (reply-used t s q i d w e) (λ y. absurd (a y)) (λ y. absurd (b y)) (λ y. absurd (c y)) (λ y. absurd (f y)) (λ y. y));
+        }
+
+  pub reply-ready : (q i : ℕ) → Deliverable q i t → ReplyReady (t .counts) (t .clients) (t .links) (t .keys) (t .values) (t .log) (t .writes) (t .reads) q i
+  reply-ready q i d = record { answerable = answerable t s q i d; row = client-row t s q (d .client); linked = client-links t s q (d .client); brings = λ w e. brings q i d w e }

@@ -1,2 +1,374 @@
-// The public steps.
-fn nothing() {}
+// The public steps: a call is refused by number with all as before, or accepted and changed as the rules say.
+// Each step has two functions. The one judges any tables. The other, whose name ends in `_sound`, asks for sound tables and does not check them:
+// who has opened a store and keeps its tables to himself calls that one.
+ghost use mathlib.Core.Path.{_≡_};
+ghost use mathlib.Core.Bool.{_&&_};
+ghost use lib.Dec.{eqb};
+ghost use Rattle.tables.specs.Tables.{tablesOf};
+ghost use Rattle.rules.specs.Answers.{left, arrived};
+ghost use Rattle.soundness.specs.Sound.{pressFits};
+ghost use Rattle.soundness.specs.Facts.{Sound};
+ghost use Rattle.refusals.specs.Steps.{open′, beginWrite, beginRead, deliverRequest, deliverReply};
+use rules::Answer;
+use rules::Arrival;
+use rules::Delivered;
+use soundness::lengths;
+use soundness::scalars;
+
+// Whether method, servers and clients fit a press, and there is a setpoint for each server.
+fn fits_press(method: u32, servers: u32, panels: u32, given: usize) -> bool
+    ensures { λ r. ⌜ r ≡ (pressFits method servers panels && eqb given servers) ⌝ }
+{
+    if scalars::press_fits(method, servers, panels) {
+        return given == servers as usize;
+    }
+    false
+}
+
+// Opens the store: refused by 1 or 2. Old contents need not be sound. The number of clients is called panels here, since clients are their rows.
+pub fn open(
+    counts: &mut [u32],
+    clients: &mut [u32],
+    links: &mut [u32],
+    keys: &mut [u32],
+    values: &mut [u32],
+    log: &mut [u32],
+    writes: &[u32],
+    reads: &[u32],
+    method: u32,
+    servers: u32,
+    panels: u32,
+    setpoints: &[u32],
+) -> Answer
+    ensures { λ r. ⌜ left r (tablesOf (now (counts .exit)) (now (clients .exit)) (now (links .exit)) (now (keys .exit)) (now (values .exit)) (now (log .exit)) (now (writes .entry)) (now (reads .entry)))
+        ≡ open′ method servers panels (now (setpoints .entry)) (tablesOf (now (counts .entry)) (now (clients .entry)) (now (links .entry)) (now (keys .entry)) (now (values .entry)) (now (log .entry)) (now (writes .entry)) (now (reads .entry))) ⌝ }
+{
+    if !fits_press(method, servers, panels, setpoints.len()) {
+        return Answer::Refused(1);
+    }
+    if !lengths::long_enough(
+        servers,
+        panels,
+        &*counts,
+        &*clients,
+        &*links,
+        &*keys,
+        &*values,
+        &*log,
+        writes,
+        reads,
+    ) {
+        return Answer::Refused(2);
+    }
+    opening::open(
+        counts,
+        clients,
+        links,
+        keys,
+        values,
+        log,
+        method,
+        servers,
+        panels,
+        setpoints,
+    );
+    Answer::Ok
+}
+
+// Begins a WRITE: refused by 2 to 7. On tables known to be sound.
+pub fn begin_write_sound(
+    counts: &mut [u32],
+    clients: &mut [u32],
+    links: &mut [u32],
+    keys: &[u32],
+    values: &[u32],
+    log: &[u32],
+    writes: &mut [u32],
+    reads: &[u32],
+    client: u32,
+    mask: u32,
+    setpoints: &[u32],
+) -> Answer
+    requires { ⌜ Sound (tablesOf (now counts) (now clients) (now links) (now keys) (now values) (now log) (now writes) (now reads)) ⌝ }
+    ensures { λ r. ⌜ left r (tablesOf (now (counts .exit)) (now (clients .exit)) (now (links .exit)) (now (keys .entry)) (now (values .entry)) (now (log .entry)) (now (writes .exit)) (now (reads .entry)))
+        ≡ beginWrite client mask (now (setpoints .entry)) (tablesOf (now (counts .entry)) (now (clients .entry)) (now (links .entry)) (now (keys .entry)) (now (values .entry)) (now (log .entry)) (now (writes .entry)) (now (reads .entry))) ⌝ }
+{
+    let fault = refusals::write_fault(&*counts, &*clients, client, mask, setpoints.len());
+    if fault != 0 {
+        return Answer::Refused(fault);
+    }
+    begins::begin_write(
+        counts,
+        clients,
+        links,
+        writes,
+        client as usize,
+        mask,
+        setpoints,
+    );
+    Answer::Ok
+}
+
+// Begins a WRITE: refused by 2 to 7.
+pub fn begin_write(
+    counts: &mut [u32],
+    clients: &mut [u32],
+    links: &mut [u32],
+    keys: &[u32],
+    values: &[u32],
+    log: &[u32],
+    writes: &mut [u32],
+    reads: &[u32],
+    client: u32,
+    mask: u32,
+    setpoints: &[u32],
+) -> Answer
+    ensures { λ r. ⌜ left r (tablesOf (now (counts .exit)) (now (clients .exit)) (now (links .exit)) (now (keys .entry)) (now (values .entry)) (now (log .entry)) (now (writes .exit)) (now (reads .entry)))
+        ≡ beginWrite client mask (now (setpoints .entry)) (tablesOf (now (counts .entry)) (now (clients .entry)) (now (links .entry)) (now (keys .entry)) (now (values .entry)) (now (log .entry)) (now (writes .entry)) (now (reads .entry))) ⌝ }
+{
+    if !soundness::sound(
+        &*counts,
+        &*clients,
+        &*links,
+        keys,
+        values,
+        log,
+        &*writes,
+        reads,
+    ) {
+        return Answer::Refused(2);
+    }
+    begin_write_sound(
+        counts,
+        clients,
+        links,
+        keys,
+        values,
+        log,
+        writes,
+        reads,
+        client,
+        mask,
+        setpoints,
+    )
+}
+
+// Begins a READ: refused by 2 to 7. On tables known to be sound.
+pub fn begin_read_sound(
+    counts: &mut [u32],
+    clients: &mut [u32],
+    links: &mut [u32],
+    keys: &[u32],
+    values: &[u32],
+    log: &[u32],
+    writes: &[u32],
+    reads: &mut [u32],
+    client: u32,
+    mask: u32,
+) -> Answer
+    requires { ⌜ Sound (tablesOf (now counts) (now clients) (now links) (now keys) (now values) (now log) (now writes) (now reads)) ⌝ }
+    ensures { λ r. ⌜ left r (tablesOf (now (counts .exit)) (now (clients .exit)) (now (links .exit)) (now (keys .entry)) (now (values .entry)) (now (log .entry)) (now (writes .entry)) (now (reads .exit)))
+        ≡ beginRead client mask (tablesOf (now (counts .entry)) (now (clients .entry)) (now (links .entry)) (now (keys .entry)) (now (values .entry)) (now (log .entry)) (now (writes .entry)) (now (reads .entry))) ⌝ }
+{
+    let fault = refusals::read_fault(&*counts, &*clients, client, mask);
+    if fault != 0 {
+        return Answer::Refused(fault);
+    }
+    begins::begin_read(counts, clients, links, log, reads, client as usize, mask);
+    Answer::Ok
+}
+
+// Begins a READ: refused by 2 to 7.
+pub fn begin_read(
+    counts: &mut [u32],
+    clients: &mut [u32],
+    links: &mut [u32],
+    keys: &[u32],
+    values: &[u32],
+    log: &[u32],
+    writes: &[u32],
+    reads: &mut [u32],
+    client: u32,
+    mask: u32,
+) -> Answer
+    ensures { λ r. ⌜ left r (tablesOf (now (counts .exit)) (now (clients .exit)) (now (links .exit)) (now (keys .entry)) (now (values .entry)) (now (log .entry)) (now (writes .entry)) (now (reads .exit)))
+        ≡ beginRead client mask (tablesOf (now (counts .entry)) (now (clients .entry)) (now (links .entry)) (now (keys .entry)) (now (values .entry)) (now (log .entry)) (now (writes .entry)) (now (reads .entry))) ⌝ }
+{
+    if !soundness::sound(
+        &*counts,
+        &*clients,
+        &*links,
+        keys,
+        values,
+        log,
+        writes,
+        &*reads,
+    ) {
+        return Answer::Refused(2);
+    }
+    begin_read_sound(
+        counts,
+        clients,
+        links,
+        keys,
+        values,
+        log,
+        writes,
+        reads,
+        client,
+        mask,
+    )
+}
+
+// Delivers a request: refused by 2, 3, 7, 8 or 9. On tables known to be sound.
+pub fn deliver_request_sound(
+    counts: &mut [u32],
+    clients: &[u32],
+    links: &mut [u32],
+    keys: &mut [u32],
+    values: &mut [u32],
+    log: &mut [u32],
+    writes: &mut [u32],
+    reads: &[u32],
+    client: u32,
+    target: u32,
+) -> Answer
+    requires { ⌜ Sound (tablesOf (now counts) (now clients) (now links) (now keys) (now values) (now log) (now writes) (now reads)) ⌝ }
+    ensures { λ r. ⌜ left r (tablesOf (now (counts .exit)) (now (clients .entry)) (now (links .exit)) (now (keys .exit)) (now (values .exit)) (now (log .exit)) (now (writes .exit)) (now (reads .entry)))
+        ≡ deliverRequest client target (tablesOf (now (counts .entry)) (now (clients .entry)) (now (links .entry)) (now (keys .entry)) (now (values .entry)) (now (log .entry)) (now (writes .entry)) (now (reads .entry))) ⌝ }
+{
+    let fault = refusals::delivery_fault(&*counts, client, target);
+    if fault != 0 {
+        return Answer::Refused(fault);
+    }
+    requests::deliver_request(
+        counts,
+        clients,
+        links,
+        keys,
+        values,
+        log,
+        writes,
+        client as usize,
+        target as usize,
+    )
+}
+
+// Delivers a request: refused by 2, 3, 7, 8 or 9.
+pub fn deliver_request(
+    counts: &mut [u32],
+    clients: &[u32],
+    links: &mut [u32],
+    keys: &mut [u32],
+    values: &mut [u32],
+    log: &mut [u32],
+    writes: &mut [u32],
+    reads: &[u32],
+    client: u32,
+    target: u32,
+) -> Answer
+    ensures { λ r. ⌜ left r (tablesOf (now (counts .exit)) (now (clients .entry)) (now (links .exit)) (now (keys .exit)) (now (values .exit)) (now (log .exit)) (now (writes .exit)) (now (reads .entry)))
+        ≡ deliverRequest client target (tablesOf (now (counts .entry)) (now (clients .entry)) (now (links .entry)) (now (keys .entry)) (now (values .entry)) (now (log .entry)) (now (writes .entry)) (now (reads .entry))) ⌝ }
+{
+    if !soundness::sound(
+        &*counts,
+        clients,
+        &*links,
+        &*keys,
+        &*values,
+        &*log,
+        &*writes,
+        reads,
+    ) {
+        return Answer::Refused(2);
+    }
+    deliver_request_sound(
+        counts,
+        clients,
+        links,
+        keys,
+        values,
+        log,
+        writes,
+        reads,
+        client,
+        target,
+    )
+}
+
+// Delivers a reply: refused by 2, 3, 7 or 9. On tables known to be sound.
+pub fn deliver_reply_sound(
+    counts: &mut [u32],
+    clients: &mut [u32],
+    links: &mut [u32],
+    keys: &[u32],
+    values: &[u32],
+    log: &[u32],
+    writes: &mut [u32],
+    reads: &mut [u32],
+    client: u32,
+    target: u32,
+) -> Delivered
+    requires { ⌜ Sound (tablesOf (now counts) (now clients) (now links) (now keys) (now values) (now log) (now writes) (now reads)) ⌝ }
+    ensures { λ r. ⌜ arrived r (tablesOf (now (counts .exit)) (now (clients .exit)) (now (links .exit)) (now (keys .entry)) (now (values .entry)) (now (log .entry)) (now (writes .exit)) (now (reads .exit)))
+        ≡ deliverReply client target (tablesOf (now (counts .entry)) (now (clients .entry)) (now (links .entry)) (now (keys .entry)) (now (values .entry)) (now (log .entry)) (now (writes .entry)) (now (reads .entry))) ⌝ }
+{
+    let fault = refusals::delivery_fault(&*counts, client, target);
+    if fault != 0 {
+        return rules::showing_nothing(Arrival::Refused(fault));
+    }
+    replies::deliver_reply(
+        counts,
+        clients,
+        links,
+        keys,
+        values,
+        log,
+        writes,
+        reads,
+        client as usize,
+        target as usize,
+    )
+}
+
+// Delivers a reply: refused by 2, 3, 7 or 9.
+pub fn deliver_reply(
+    counts: &mut [u32],
+    clients: &mut [u32],
+    links: &mut [u32],
+    keys: &[u32],
+    values: &[u32],
+    log: &[u32],
+    writes: &mut [u32],
+    reads: &mut [u32],
+    client: u32,
+    target: u32,
+) -> Delivered
+    ensures { λ r. ⌜ arrived r (tablesOf (now (counts .exit)) (now (clients .exit)) (now (links .exit)) (now (keys .entry)) (now (values .entry)) (now (log .entry)) (now (writes .exit)) (now (reads .exit)))
+        ≡ deliverReply client target (tablesOf (now (counts .entry)) (now (clients .entry)) (now (links .entry)) (now (keys .entry)) (now (values .entry)) (now (log .entry)) (now (writes .entry)) (now (reads .entry))) ⌝ }
+{
+    if !soundness::sound(
+        &*counts,
+        &*clients,
+        &*links,
+        keys,
+        values,
+        log,
+        &*writes,
+        &*reads,
+    ) {
+        return rules::showing_nothing(Arrival::Refused(2));
+    }
+    deliver_reply_sound(
+        counts,
+        clients,
+        links,
+        keys,
+        values,
+        log,
+        writes,
+        reads,
+        client,
+        target,
+    )
+}

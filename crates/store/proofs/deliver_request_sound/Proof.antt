@@ -1,0 +1,21 @@
+-- `store::deliver_request_sound` meets its contract: a fault refuses, and where there is none sound tables are ready for the inner step.
+use Rattle.tables.specs.Tables.{tablesOf}
+use Rattle.store.specs.Ready.{request-ready}
+use Rattle.store.specs.Cases.{request-refused, request-accepted, delivery-able}
+use borrow.Author.Needs.{needs}
+use Rattle.store.proofs.deliver_request_sound.Statement.{statement}
+use Rattle.store.proofs.deliver_request_sound.Tie as tie
+
+returns : tie.Need-returns
+returns c = let a = c .before .before .before .before .before .before .before .before .before .before .before .args in request-refused (tablesOf (a .counts .now) (a .clients .now) (a .links .now) (a .keys .now) (a .values .now) (a .log .now) (a .writes .now) (a .reads .now)) (c .before .before .before .before .before .before .before .before .before .before .before .pre) (a .client) (a .target) (c .before .delivery-fault .ensures (a .clients .now) (a .links .now) (a .keys .now) (a .values .now) (a .log .now) (a .writes .now) (a .reads .now)) (c .if1 .taken)
+
+deliver-request-requires : tie.Need-deliver-request-requires
+deliver-request-requires c κs = let a = c .before .before .before .before .before .before .before .before .before .before .before .before .before .before .before .before .before .args in request-ready (tablesOf (a .counts .now) (a .clients .now) (a .links .now) (a .keys .now) (a .values .now) (a .log .now) (a .writes .now) (a .reads .now)) (c .before .before .before .before .before .before .before .before .before .before .before .before .before .before .before .before .before .pre) (a .client) (a .target) (delivery-able (tablesOf (a .counts .now) (a .clients .now) (a .links .now) (a .keys .now) (a .values .now) (a .log .now) (a .writes .now) (a .reads .now)) (c .before .before .before .before .before .before .before .before .before .before .before .before .before .before .before .before .before .pre) (a .client) (a .target) (c .before .before .before .before .before .before .before .delivery-fault .ensures (a .clients .now) (a .links .now) (a .keys .now) (a .values .now) (a .log .now) (a .writes .now) (a .reads .now)) (c .before .before .before .before .before .before .if1 .left))
+
+returns-2 : tie.Need-returns-2
+returns-2 c = let a = c .before .before .before .before .before .before .before .before .before .before .before .before .before .before .before .before .before .before .before .before .before .before .before .before .before .before .before .before .before .before .args in request-accepted (tablesOf (a .counts .now) (a .clients .now) (a .links .now) (a .keys .now) (a .values .now) (a .log .now) (a .writes .now) (a .reads .now)) (c .before .before .before .before .before .before .before .before .before .before .before .before .before .before .before .before .before .before .before .before .before .before .before .before .before .before .before .before .before .before .pre) (a .client) (a .target) (c .before .before .before .before .before .before .before .before .before .before .before .before .before .before .before .before .before .before .before .before .delivery-fault .ensures (a .clients .now) (a .links .now) (a .keys .now) (a .values .now) (a .log .now) (a .writes .now) (a .reads .now)) (c .before .before .before .before .before .before .before .before .before .before .before .before .before .before .before .before .before .before .before .if1 .left) (c .before .before .before .before .before .before .before .before .before .before .before .before .deliver-request .ensures (a .reads .now))
+
+pub deliver-request-sound-spec : {M : Type 1} → statement M
+deliver-request-sound-spec =
+    tie.close
+    (tie.spec (λ c κs. search needs) (λ c. search needs) returns deliver-request-requires (λ c. search needs) (λ c. search needs) (λ c. search needs) (λ c. search needs) (λ c. search needs) (λ c. search needs) returns-2)
