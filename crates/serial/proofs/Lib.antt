@@ -2,3 +2,4 @@ pub mod Places
 pub mod Lists
 pub mod Owed
 pub mod HistoryOk
+pub mod HistoryKept
