@@ -6,3 +6,6 @@ pub mod HistoryKept
 pub mod Versions
 pub mod Press
 pub mod Invariant
+pub mod Links
+pub mod Kept
+pub mod Begins

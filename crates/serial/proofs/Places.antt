@@ -29,3 +29,9 @@ changed-both P f g i a b h k j =
     by-equal j i
     (λ e. subst (λ (x : ℕ). P x (changed f i a x) (changed g i b x)) (sym e) (rw (changed-same f i a, changed-same g i b) h))
     (λ d. rw (changed-other f i a j d, changed-other g i b j d) (k j d))
+
+pub changed-three : {A B C : Type 0} (P : ℕ → A → B → C → Type 0) (f : ℕ → A) (g : ℕ → B) (h : ℕ → C) (i : ℕ) (a : A) (b : B) (c : C) → P i a b c → ((j : ℕ) → (j ≡ i → ⊥) → P j (f j) (g j) (h j)) → (j : ℕ) → P j (changed f i a j) (changed g i b j) (changed h i c j)
+changed-three P f g h i a b c new old j =
+    by-equal j i
+    (λ e. subst (λ (x : ℕ). P x (changed f i a x) (changed g i b x) (changed h i c x)) (sym e) (rw (changed-same f i a, changed-same g i b, changed-same h i c) new))
+    (λ d. rw (changed-other f i a j d, changed-other g i b j d, changed-other h i c j d) (old j d))
