@@ -9,3 +9,4 @@ pub mod Invariant
 pub mod Links
 pub mod Kept
 pub mod Begins
+pub mod Requests

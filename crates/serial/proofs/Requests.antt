@@ -1,0 +1,165 @@
+-- The delivery of a request keeps the tie and pays what it owes.
+use Prim.Native.Nat.{ℕ, zero, suc, _+_, _-_, _*_, _≤_, _<_}
+use mathlib.Core.Path.{_≡_, refl, sym, ap, _∙_}
+use mathlib.Core.Bool.{Bool, true, false, cond}
+use mathlib.Core.Option.{Option, none, some}
+use mathlib.Core.List.{List}
+use native.Mathlib.Omega.{arith}
+use lib.ListN.{getD}
+use lib.Dec.{eqb}
+use borrow.Author.Tests.{eqb-true, eqb-false, eq-eqb, ne-eqb}
+use Rattle.ranges.specs.Tests.{by-equal, by-test, not-both}
+use Rattle.keys.specs.declared.Key.{Key}
+use Rattle.keys.specs.Keys.{keyOf, keyWord, FitsByte}
+use Rattle.keys.specs.Masks.{hasServer, serversIn}
+use Rattle.coordinator.specs.Latest.{latestKey}
+use Rattle.coordinator.specs.LatestLaws.{latest-here, latest-before, latest-key-kept}
+use Rattle.tables.specs.Rows.{HasRow}
+use Rattle.tables.specs.Layout.{serverPlaces, putVersionWord, entryWidth, entryKey, entryMask, putEntry}
+use Rattle.tables.specs.Entries.{entry-key-same, entry-mask-same}
+use Rattle.tables.specs.Links.{targets}
+use Rattle.tables.specs.declared.links.Contents.{Contents}
+use Rattle.tables.specs.declared.links.Content.{Content}
+use Rattle.tables.specs.declared.links.Content.the-variants.{Nothing, Request, Reply}
+use Rattle.rules.specs.Common.{idle, entering, askingKeys, askingSetpoints, askingAll, coordinator, reply}
+use Rattle.rules.specs.Common as rules
+use Rattle.rules.specs.declared.Answer.the-variants.{Ok}
+use Rattle.serial.specs.Steps.{requested}
+use Rattle.serial.specs.History.{changed, Transaction, writeOf, Doing, nothing, writing, tagged, reading, History, passed, turned, delivered, given, entered, after}
+use Rattle.serial.specs.Claim.{enough}
+use Rattle.serial.proofs.Places.{changed-same, changed-other, changed-all, changed-both}
+use Rattle.serial.proofs.Owed.{valueAt, valueIn, More, floorAfter}
+use Rattle.serial.proofs.HistoryKept.{value-before}
+use Rattle.serial.proofs.Versions.{find, find-before, find-more, find-new, find-other}
+use Rattle.serial.proofs.Press.{Shared, Client, clientOf, Press, pressOf, stateIn, countIn, maskIn, tagIn, weight, toCome, World, worldOf, world}
+use Rattle.serial.proofs.Links.{come-changed, come-some}
+use Rattle.serial.proofs.Invariant.{own, WriteLink, Writing, Stored, Entering, AskingKeys, KeysLink, GetLink, Getting, Snapshot, AllLink, AskingAll, at-writing, at-entering, at-keys, at-getting, at-all, ClientOk, Tied, Grown, client-frame}
+use Rattle.serial.proofs.Kept.{Kept, turned-tied, moved-tied}
+
+-- one version more of server i
+abbrev pub versionMore : Shared → ℕ → ℕ → ℕ → Shared
+versionMore s i word v = record {
+  method = s .method;
+  servers = s .servers;
+  entries = s .entries;
+  held = changed (s .held) i (suc (s .held i));
+  keys = putVersionWord (s .keys) i (s .held i) word;
+  values = putVersionWord (s .values) i (s .held i) v;
+  log = s .log;
+}
+
+-- one entry more
+abbrev pub entryMore : Shared → Key → ℕ → Shared
+entryMore s key mask = record {
+  method = s .method;
+  servers = s .servers;
+  entries = suc (s .entries);
+  held = s .held;
+  keys = s .keys;
+  values = s .values;
+  log = putEntry (s .log) (s .entries) key mask;
+}
+
+-- the client with another content on a link
+abbrev pub withLink : Client → ℕ → Content → Client
+withLink c i l = clientOf (c .row) (changed (c .link) i l)
+
+module _ (floor : ℕ → ℕ) (p : Press) (h : History) (tied : Tied floor p h) (few : p .shared .servers ≤ 16) (q : ℕ) (hq : q < 16) where
+  abbrev x : World
+  x = world p h
+
+  abbrev c : Client
+  c = p .client q
+
+  abbrev s : Shared
+  s = p .shared
+
+  okay : ClientOk (h .extra) x (floor q) q c (h .doing q)
+  okay = tied .clients q hq
+
+  -- A set request: the server holds the key now.
+  module _ (i : ℕ) (w : Contents) (lk : c .link i ≡ Request w) (hi : i < targets) (state : stateIn c ≡ rules.writing) (a : Writing (h .extra) x (floor q) q c (h .doing q))
+      (keyed : HasRow serverPlaces (s .keys) i) (valued : HasRow serverPlaces (s .values) i) (room : s .held i < serverPlaces) where
+    abbrev word : ℕ
+    word = keyWord (w .key)
+
+    abbrev s′ : Shared
+    s′ = versionMore s i word (w .number)
+
+    abbrev y : World
+    y = worldOf s′ (h .tags) (valueIn h)
+
+    link : (w .key ≡ keyOf (countIn c) q) × (w .number ≡ getD (a .setpoints) i 0) × (i < s .servers) × (x .lookup i (keyOf (countIn c) q) (x .held i) ≡ none)
+    link = rw lk at (a .links i hi)
+
+    word-is : word ≡ countIn c * 256 + q
+    word-is = ap keyWord (link .0)
+
+    held-more : (j : ℕ) → s .held j ≤ y .held j
+    held-more = changed-all (s .held) i (suc (s .held i)) (λ j n. s .held j ≤ n) (omega arith) (λ j ne. omega arith)
+
+    same-place : (j : ℕ) → j ≡ i → s .held j ≤ s .held i
+    same-place j e = rw e (omega arith)
+
+    -- a key of another word is found where it was
+    other-key : (key : Key) → (word ≡ keyWord key → ⊥) → (j : ℕ) → y .lookup j key (y .held j) ≡ x .lookup j key (x .held j)
+    other-key key d = changed-all (s .held) i (suc (s .held i)) (λ j n. y .lookup j key n ≡ x .lookup j key (x .held j))
+        (find-other (s .keys) (s .values) i (s .held i) word (w .number) keyed valued room key d)
+        (λ j ne. find-before (s .keys) (s .values) i (s .held i) word (w .number) keyed valued room j (s .held j) key (λ e. absurd (ne e)) (tied .room j))
+
+    grown : (r : ℕ) → r < 16 → (r ≡ q → ⊥) → Grown r x y
+    grown r hr ne = record {
+      servers = refl;
+      tags = omega arith;
+      value = λ tag l j. refl;
+      key = λ tag l j. refl;
+      held = held-more;
+      fewer = λ j key n l. find-before (s .keys) (s .values) i (s .held i) word (w .number) keyed valued room j n key (λ e. omega (arith, same-place j e)) (omega (arith, tied .room j));
+      more = λ j key v e. find-more (s .keys) (s .values) i (s .held i) word (w .number) keyed valued room j key (s .held j) (y .held j) v (same-place j) (tied .room j) (held-more j) e;
+      own = λ j n. other-key (keyOf n r) (λ e. ne (omega (arith, word-is))) j;
+    }
+
+    write-link : (j : ℕ) → (j ≡ i → ⊥) → (l : Content) → WriteLink (h .extra) x (floor q) q c (h .doing q) (a .setpoints) j l → WriteLink (h .extra) y (floor q) q c (h .doing q) (a .setpoints) j l
+    write-link j ne l k = go l k
+      where
+        same : y .lookup j (keyOf (countIn c) q) (y .held j) ≡ x .lookup j (keyOf (countIn c) q) (x .held j)
+        same = rw (changed-other (s .held) i (suc (s .held i)) j ne)
+            (find-before (s .keys) (s .values) i (s .held i) word (w .number) keyed valued room j (s .held j) (keyOf (countIn c) q) (λ e. absurd (ne e)) (tied .room j))
+
+        go : (l : Content) → WriteLink (h .extra) x (floor q) q c (h .doing q) (a .setpoints) j l → WriteLink (h .extra) y (floor q) q c (h .doing q) (a .setpoints) j l
+        go Nothing k = λ m. same ∙ k m
+        go (Request w) k = (k .0, k .1, k .2, same ∙ k .3)
+        go (Reply w) k = same ∙ k
+
+    here : y .lookup i (keyOf (countIn c) q) (y .held i) ≡ some (getD (a .setpoints) i 0)
+    here =
+        rw (changed-same (s .held) i (suc (s .held i)), ← link .1)
+        (find-new (s .keys) (s .values) i (s .held i) word (w .number) keyed valued room (keyOf (countIn c) q) word-is (link .3))
+
+    mine : ClientOk (h .extra) y (floor q) q (withLink c i (reply 0)) (h .doing q)
+    mine = record {
+      latest = λ j n v e. by-equal n (countIn c) (λ z. omega arith) (λ z. okay .latest j n v (sym (other-key (keyOf n q) (λ d. z (omega (arith, word-is))) j) ∙ e));
+      activity = at-writing state (record {
+        setpoints = a .setpoints;
+        begin = a .begin;
+        is = a .is;
+        few = a .few;
+        bound = a .bound;
+        links = λ j l. changed-all (c .link) i (reply 0) (λ j l. j < targets → WriteLink (h .extra) y (floor q) q c (h .doing q) (a .setpoints) j l) (λ k. here) (λ j ne k. write-link j ne (c .link j) (a .links j k)) j l;
+      });
+    }
+
+    pub set-kept : Kept floor h (requested q i Ok) (pressOf s′ (changed (p .client) q (withLink c i (reply 0))))
+    set-kept =
+        let quiet : eqb i coordinator ≡ false = ne-eqb i coordinator (λ e. omega (arith, link .2)) in
+        (
+          rw (a .is) tt,
+          rw (quiet, a .is) record {
+            method = tied .method;
+            entries = tied .entries;
+            room = changed-all (s .held) i (suc (s .held i)) (λ j n. n ≤ serverPlaces) room (λ j ne. tied .room j);
+            value = λ tag l j k. find-more (s .keys) (s .values) i (s .held i) word (w .number) keyed valued room j _ (s .held j) (y .held j) _ (same-place j) (tied .room j) (held-more j) (tied .value tag l j k);
+            clients = changed-all (p .client) q (withLink c i (reply 0)) (λ j b. j < 16 → ClientOk (h .extra) y (floor j) j b (h .doing j)) (λ l. mine)
+                (λ j ne l. client-frame (h .extra) (floor j) j x y (grown j l ne) (p .client j) (h .doing j) (tied .clients j l));
+          },
+        )
