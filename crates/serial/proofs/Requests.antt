@@ -163,3 +163,186 @@ module _ (floor : ℕ → ℕ) (p : Press) (h : History) (tied : Tied floor p h)
                 (λ j ne l. client-frame (h .extra) (floor j) j x y (grown j l ne) (p .client j) (h .doing j) (tied .clients j l));
           },
         )
+
+  -- An entry: the WRITE has its tag, and each key at that tag is held with the value behind it.
+  module _ (w : Contents) (state : stateIn c ≡ entering) (a : Entering (h .extra) x (floor q) q c (h .doing q))
+      (key-is : w .key ≡ keyOf (countIn c) q) (mask-is : w .number ≡ maskIn c) (b : Stored (h .extra) x (floor q) q c (h .doing q))
+      (logged : HasRow entryWidth (s .log) (s .entries)) where
+    abbrev s″ : Shared
+    s″ = entryMore s (w .key) (w .number)
+
+    abbrev new : Transaction
+    new = writeOf q (maskIn c) (b .setpoints) (suc (h .tags)) (b .begin) none
+
+    abbrev write′ : ℕ → Transaction
+    write′ = changed (h .write) (suc (h .tags)) new
+
+    abbrev z : World
+    z = worldOf s″ (suc (h .tags)) (valueAt (h .initial) write′)
+
+    fits : FitsByte (w .key)
+    fits = rw key-is (record { count = b .few; client = omega arith })
+
+    -- keys and values at earlier tags stay
+    old-key : (tag : ℕ) → tag ≤ h .tags → (i : ℕ) → z .key tag i ≡ x .key tag i
+    old-key tag l i = latest-key-kept (s .log) (s .entries) (w .key) (w .number) i tag (omega (arith, tied .entries))
+
+    old-value : (tag : ℕ) → tag ≤ h .tags → (i : ℕ) → z .value tag i ≡ x .value tag i
+    old-value tag l i = value-before (h .initial) (h .write) (h .tags) new tag l i
+
+    -- at the new tag: the WRITE's own for its servers, and for the others as behind the tag before
+    mask-new : entryMask (s″ .log) (s .entries) ≡ w .number
+    mask-new = entry-mask-same (s .log) (s .entries) (w .key) (w .number) logged
+
+    key-masked : (i : ℕ) → hasServer (w .number) i ≡ true → z .key (s .entries) i ≡ w .key
+    key-masked i e = sym (latest-here (s″ .log) i (s .entries) (sym mask-new) refl e (sym (entry-key-same (s .log) (s .entries) (w .key) (w .number) logged fits)))
+
+    key-other : (i : ℕ) → hasServer (w .number) i ≡ false → z .key (s .entries) i ≡ z .key (h .tags) i
+    key-other i e =
+        let t : s .entries - 1 ≡ h .tags = omega (arith, tied .entries) in
+        sym (latest-before (s″ .log) i (s .entries) (sym mask-new) refl (λ y. omega (arith, tied .entries)) e (ap (λ (u : ℕ). latestKey (s″ .log) i u) (sym t)))
+
+    value-new : (i : ℕ) → z .value (suc (h .tags)) i ≡ cond (hasServer (maskIn c) i) (getD (b .setpoints) i 0) (z .value (h .tags) i)
+    unfolding valueAt
+    value-new i = rw (changed-same (h .write) (suc (h .tags)) new)
+
+    held-new : (i : ℕ) → i < s .servers → z .lookup i (z .key (s .entries) i) (s .held i) ≡ some (z .value (suc (h .tags)) i)
+    held-new i k =
+        by-test (hasServer (maskIn c) i)
+        (λ e. rw (key-masked i (rw mask-is e), value-new i, e, key-is) (b .all i e))
+        (λ e. rw (key-other i (rw mask-is e), value-new i, e, old-key (h .tags) (omega arith) i, old-value (h .tags) (omega arith) i) (tied .value (h .tags) (omega arith) i k))
+
+    held-all : (tag : ℕ) → tag ≤ suc (h .tags) → (i : ℕ) → i < s .servers → z .lookup i (z .key tag i) (s .held i) ≡ some (z .value tag i)
+    held-all tag l i k =
+        by-equal tag (suc (h .tags))
+        (λ e. rw e (ap (λ (u : ℕ). z .lookup i (z .key u i) (s .held i)) (sym (tied .entries)) ∙ held-new i k))
+        (λ d. rw (old-key tag (omega arith) i, old-value tag (omega arith) i) (tied .value tag (omega arith) i k))
+
+    entry-grown : (r : ℕ) → Grown r x z
+    entry-grown r = record {
+      servers = refl;
+      tags = omega arith;
+      value = old-value;
+      key = old-key;
+      held = λ i. omega arith;
+      fewer = λ i key n l. refl;
+      more = λ i key v e. e;
+      own = λ i n. refl;
+    }
+
+    pub enter-kept : Kept floor h (requested q coordinator Ok) (pressOf s″ (changed (p .client) q (withLink c coordinator (reply (s .entries)))))
+    enter-kept = (
+      rw (b .is) tt,
+      rw (b .is) record {
+        method = tied .method;
+        entries = ap suc (tied .entries);
+        room = tied .room;
+        value = held-all;
+        clients = changed-both (λ j k d. j < 16 → ClientOk (h .extra) z (floor j) j k d) (p .client) (h .doing) q (withLink c coordinator (reply (s .entries))) (tagged (suc (h .tags)))
+            (λ l. record {
+              latest = okay .latest;
+              activity = at-entering state (record {
+                others = λ i k. changed-other (c .link) coordinator (reply (s .entries)) i (λ e. omega arith) ∙ a .others i k;
+                head = rw (changed-same (c .link) coordinator (reply (s .entries))) (rw (tied .entries));
+              });
+            })
+            (λ j ne l. client-frame (h .extra) (floor j) j x z (entry-grown j) (p .client j) (h .doing j) (tied .clients j l));
+      },
+    )
+
+  -- A READ's request: one delivery more, and the reply takes its place.
+  module _ (i : ℕ) (hi : i < targets) (w : Contents) (lk : c .link i ≡ Request w) (n mask begin deliveries : ℕ) (is : h .doing q ≡ reading mask begin deliveries) where
+    replied-come : toCome (withLink c i (reply n) .link) + 1 ≡ toCome (c .link)
+    replied-come = omega (arith, come-changed (c .link) i (reply n) hi, ap weight lk)
+
+    read-kept : suc deliveries < enough (h .extra) mask → ClientOk (h .extra) x (floor q) q (withLink c i (reply n)) (reading mask begin (suc deliveries)) →
+        Kept floor h (requested q i Ok) (pressOf s (changed (p .client) q (withLink c i (reply n))))
+    read-kept more ok =
+        let t = turned-tied floor p h tied q (withLink c i (reply n)) (reading mask begin (suc deliveries)) ok in
+        (
+          rw is more,
+          by-test (eqb i coordinator) (λ e. rw (e, is) t) (λ e. rw (e, is) t),
+        )
+
+  -- B's head answers with the number of its entries.
+  pub which-keys-kept : (w : Contents) → c .link coordinator ≡ Request w → stateIn c ≡ askingKeys → AskingKeys (h .extra) x (floor q) q c (h .doing q) →
+      Kept floor h (requested q coordinator Ok) (pressOf s (changed (p .client) q (withLink c coordinator (reply (s .entries)))))
+  which-keys-kept w lk state a =
+      let none-yet : a .deliveries ≡ 0 = rw lk at (a .head) in
+      read-kept coordinator (omega arith) w lk (s .entries) (maskIn c) (a .begin) (a .deliveries) (a .is) (omega (arith, a .two, a .some)) (record {
+        latest = okay .latest;
+        activity = at-keys state (record {
+          begin = a .begin;
+          deliveries = suc (a .deliveries);
+          is = refl;
+          two = a .two;
+          low = a .low;
+          some = a .some;
+          bound = a .bound;
+          others = λ i k. changed-other (c .link) coordinator (reply (s .entries)) i (λ e. omega arith) ∙ a .others i k;
+          head = rw (changed-same (c .link) coordinator (reply (s .entries))) (omega arith, omega (arith, a .low, tied .entries), omega (arith, tied .entries));
+        });
+      })
+
+  -- A server answers a get with the setpoint of the key: the value behind the client's tag.
+  pub get-kept : (i : ℕ) → i < targets → (w : Contents) → c .link i ≡ Request w → stateIn c ≡ askingSetpoints → Getting (h .extra) x (floor q) q c (h .doing q) →
+      Kept floor h (requested q i Ok) (pressOf s (changed (p .client) q (withLink c i (reply (x .value (tagIn c) i)))))
+  get-kept i hi w lk state a =
+      let v = x .value (tagIn c) i in
+      let come = replied-come i hi w lk v (maskIn c) (a .begin) (a .deliveries) (a .is) in
+      let left = come-some (withLink c i (reply v) .link) i hi (rw (changed-same (c .link) i (reply v)) (omega arith)) in
+      read-kept i hi w lk v (maskIn c) (a .begin) (a .deliveries) (a .is) (omega (arith, a .count, come, left)) (record {
+        latest = okay .latest;
+        activity = at-getting state (record {
+          begin = a .begin;
+          deliveries = suc (a .deliveries);
+          is = refl;
+          low = a .low;
+          high = a .high;
+          bound = a .bound;
+          count = omega (arith, a .count, come);
+          busy = left;
+          links = λ j l. changed-all (c .link) i (reply v) (λ j k. j < targets → GetLink (h .extra) x (floor q) q c (reading (maskIn c) (a .begin) (suc (a .deliveries))) j k) (λ m. refl) (λ j ne m. same j (c .link j) (a .links j m)) j l;
+        });
+      })
+    where
+      same : (j : ℕ) (l : Content) → GetLink (h .extra) x (floor q) q c (h .doing q) j l → GetLink (h .extra) x (floor q) q c (reading (maskIn c) (a .begin) (suc (a .deliveries))) j l
+      same j Nothing k = k
+      same j (Request w) k = k
+      same j (Reply w) k = k
+
+  -- C: how much a server or the head holds at the moment of answering.
+  abbrev pub holding : ℕ → ℕ
+  holding i = cond (eqb i coordinator) (s .entries) (s .held i)
+
+  pub get-all-kept : (i : ℕ) → i < targets → (w : Contents) → c .link i ≡ Request w → stateIn c ≡ askingAll → AskingAll (h .extra) x (floor q) q c (h .doing q) →
+      Kept floor h (requested q i Ok) (pressOf s (changed (p .client) q (withLink c i (reply (holding i)))))
+  get-all-kept i hi w lk state a =
+      let n = holding i in
+      let come = replied-come i hi w lk n (maskIn c) (a .begin) (a .deliveries) (a .is) in
+      let left = come-some (withLink c i (reply n) .link) i hi (rw (changed-same (c .link) i (reply n)) (omega arith)) in
+      read-kept i hi w lk n (maskIn c) (a .begin) (a .deliveries) (a .is) (omega (arith, a .count, come, left)) (record {
+        latest = okay .latest;
+        activity = at-all state (record {
+          begin = a .begin;
+          deliveries = suc (a .deliveries);
+          is = refl;
+          two = a .two;
+          low = a .low;
+          bound = a .bound;
+          count = omega (arith, a .count, come);
+          busy = left;
+          links = λ j l. changed-all (c .link) i (reply n) (λ j k. j < targets → AllLink (h .extra) x (floor q) q c (reading (maskIn c) (a .begin) (suc (a .deliveries))) j k) (λ m. snapshot) (λ j ne m. same j (c .link j) (a .links j m)) j l;
+        });
+      })
+    where
+      same : (j : ℕ) (l : Content) → AllLink (h .extra) x (floor q) q c (h .doing q) j l → AllLink (h .extra) x (floor q) q c (reading (maskIn c) (a .begin) (suc (a .deliveries))) j l
+      same j Nothing k = k
+      same j (Request w) k = k
+      same j (Reply w) k = k
+
+      snapshot : Snapshot (h .extra) x (floor q) q c (reading (maskIn c) (a .begin) (suc (a .deliveries))) i (holding i)
+      snapshot =
+          by-test (eqb i coordinator)
+          (λ e. rw e (λ d. (omega (arith, a .low, tied .entries), omega (arith, tied .entries)), λ m. let z : ⊥ = omega (arith, a .bound i m, eqb-true i coordinator e) in absurd z))
+          (λ e. rw e (λ d. absurd (eqb-false i coordinator e d), λ m. (omega arith, tied .value (floor q) (a .low) i (a .bound i m))))
