@@ -10,3 +10,4 @@ pub mod Links
 pub mod Kept
 pub mod Begins
 pub mod Requests
+pub mod Replies
