@@ -1,0 +1,195 @@
+-- What a step of one client leaves to the others. A client's part of soundness mentions the rest only through numbers that grow
+-- (the log's entries, the versions held), so one law carries every other client over a step.
+use Prim.Native.Nat.{ℕ, _+_, _*_, _^_, _≤_, _<_}
+use mathlib.Core.Path.{_≡_, refl, sym, _∙_, ap}
+use mathlib.Core.Bool.{Bool, true, false, cond, not, _&&_, _||_}
+use mathlib.Core.List.{List, [], _∷_}
+use native.Mathlib.Omega.{arith}
+use lib.ListN.{length}
+use lib.Dec.{eqb, leb, ltb}
+use borrow.Author.Tests.{eq-eqb, ne-eqb, ltb-true, ltb-false, lt-ltb}
+use Rattle.ranges.specs.Tests.{by-test, by-equal, both, both-left, both-right}
+use Rattle.ranges.specs.Sum.{sumBelow}
+use Rattle.keys.specs.Masks.{Within}
+use Rattle.tables.specs.Rows.{wordAt}
+use Rattle.tables.specs.Layout.{clientWidth, clientWord, serverPlaces, logPlaces, recordPlaces, entryWidth, versionWord, entryMask, recordWord, clientOfRecord, numberOfRecord, tagOfRecord}
+use Rattle.tables.specs.Links.{targets, linkWidth, linkAt, isEmpty}
+use Rattle.tables.specs.Tables.{Tables, methodOf, serversOf, clientsOf, stepOf, entriesOf, writesOf, readsOf, heldOf, stateOf, countOf, maskOf, tagOf, recordOf, receivedOf, contentAt}
+use Rattle.rules.specs.Common.{idle, writing, entering, askingKeys, askingSetpoints, askingAll, coordinator, pending}
+use Rattle.soundness.specs.Sound.{between, uses, holding, keyOn, keyInRange, requestSound, replySound, receivedSound, stateAllowed, isWriting}
+use Rattle.soundness.specs.Facts.{Between, between-facts, facts-between, Long, Press, Scalars, ServerFacts, EntryFacts, LogFacts, LinkFacts, ClientFacts, WriteFacts, ReadFacts, RecordsFacts, Sound}
+use Rattle.keeping.specs.Links.{linkWord, kindOn, numberOn, empty-same-words, pending-same, LinkAsks, link-asks, asks-link}
+
+-- The press stays; the log and the servers' versions only grow in number.
+pub record Numbers (t t′ : Tables) : Type 0 where
+  pub method : methodOf t′ ≡ methodOf t
+  pub servers : serversOf t′ ≡ serversOf t
+  pub clients : clientsOf t′ ≡ clientsOf t
+  pub entries : entriesOf t ≤ entriesOf t′
+  pub held : (i : ℕ) → i < 16 → heldOf t i ≤ heldOf t′ i
+
+-- a number within a bound is within a greater one
+reply-more : (b c : Bool) (number n n′ h h′ : ℕ) → n ≤ n′ → h ≤ h′ → cond b (leb 1 number && ltb number n) (cond c (between 1 number h) true) ≡ true → cond b (leb 1 number && ltb number n′) (cond c (between 1 number h′) true) ≡ true
+reply-more true c number n n′ h h′ g l e = both (leb 1 number) (ltb number n′) (both-left _ _ e) (lt-ltb number n′ (omega (arith, ltb-true number n (both-right (leb 1 number) _ e))))
+reply-more false true number n n′ h h′ g l e = let f = between-facts 1 number h e in facts-between 1 number h′ (record { least = f .least; most = omega (arith, f .most) })
+reply-more false false number n n′ h h′ g l e = refl
+
+received-more : (b : Bool) (r h h′ : ℕ) → h ≤ h′ → cond b (between 1 r h) (eqb r 0) ≡ true → cond b (between 1 r h′) (eqb r 0) ≡ true
+received-more true r h h′ l e = let f = between-facts 1 r h e in facts-between 1 r h′ (record { least = f .least; most = omega (arith, f .most) })
+received-more false r h h′ l e = e
+
+module _ (t t′ : Tables) (n : Numbers t t′) where
+  pub holding-more : (i : ℕ) → i < targets → holding t i ≤ holding t′ i
+  holding-more i h = by-equal i coordinator (λ e. rw (eq-eqb i coordinator e) (n .entries)) (λ d. rw (ne-eqb i coordinator d) (n .held i (by-equal i 16 (λ e. absurd (d e)) (λ z. omega arith))))
+
+  pub request-kept : (state q word number : ℕ) → requestSound state q word number t ≡ true → requestSound state q word number t′ ≡ true
+  unfolding requestSound
+  request-kept state q word number e = rw (n .servers, n .clients) e
+
+  pub reply-kept : (state i number : ℕ) → i < targets → replySound state i number t ≡ true → replySound state i number t′ ≡ true
+  unfolding replySound
+  reply-kept state i number h e = reply-more (eqb state entering) (eqb state askingKeys || eqb state askingAll) number (entriesOf t) (entriesOf t′) (holding t i) (holding t′ i) (n .entries) (holding-more i h) e
+
+  -- a link whose words stay, of a client whose state and mask stay
+  module _ (q i : ℕ) (h : i < targets) (state : stateOf t′ q ≡ stateOf t q) (mask : maskOf t′ q ≡ maskOf t q) (words : (f : ℕ) → f < linkWidth → linkWord (t′ .links) q i f ≡ linkWord (t .links) q i f) where
+    pub link-kept : LinkFacts t q i → LinkFacts t′ q i
+    link-kept l =
+        let a = link-asks t q i l in
+        let k = words 0 (omega arith) in
+        asks-link t′ q i (record {
+          kind = rw k (a .kind);
+          used = λ d. rw (state, mask) (a .used (λ e. d (k ∙ e)));
+          request = λ e. rw (state, words 1 (omega arith), words 2 (omega arith)) (request-kept _ _ _ _ (a .request (sym k ∙ e)));
+          reply = λ e. rw (state, words 2 (omega arith)) (reply-kept _ _ _ h (a .reply (sym k ∙ e)));
+        })
+
+    pub received-kept : receivedOf t′ q i ≡ receivedOf t q i → receivedSound t q i ≡ true → receivedSound t′ q i ≡ true
+    unfolding receivedSound
+    received-kept r e =
+        rw (state, mask, r, empty-same-words (t .links) (t′ .links) q i words)
+        (received-more (eqb (stateOf t q) askingAll && (uses (stateOf t q) (maskOf t q) i && isEmpty (contentAt t q i))) (receivedOf t q i) (holding t i) (holding t′ i) (holding-more i h) e)
+
+  -- a client whose row and links stay
+  pub client-kept : (q : ℕ) → ((f : ℕ) → f < clientWidth → clientWord (t′ .clients) q f ≡ clientWord (t .clients) q f) → ((i f : ℕ) → i < targets → f < linkWidth → linkWord (t′ .links) q i f ≡ linkWord (t .links) q i f) → ClientFacts t q → ClientFacts t′ q
+  client-kept q row words c =
+      let state : stateOf t′ q ≡ stateOf t q = row 0 (omega arith) in
+      let mask : maskOf t′ q ≡ maskOf t q = row 2 (omega arith) in
+      let count : countOf t′ q ≡ countOf t q = row 1 (omega arith) in
+      let tag : tagOf t′ q ≡ tagOf t q = row 3 (omega arith) in
+      record {
+        allowed = rw (n .method, state) (c .allowed);
+        count = rw (state, count) (c .count);
+        mask = rw (n .servers, mask) (c .mask);
+        masked = λ d. rw mask (c .masked (λ e. d (state ∙ e)));
+        tag = omega (arith, c .tag, n .entries);
+        link = λ i h. link-kept q i h state mask (λ f g. words i f h g) (c .link i h);
+        received = λ i h. received-kept q i h state mask (λ f g. words i f h g) (row _ (omega arith)) (c .received i h);
+        busy = λ d. rw (pending-same (t .links) (t′ .links) q words) (c .busy (λ e. d (state ∙ e)));
+      }
+
+  -- a record whose client and number stay, and whose tag is within the log
+  pub write-kept : (m : ℕ) → recordWord (t′ .writes) m clientOfRecord ≡ recordWord (t .writes) m clientOfRecord → recordWord (t′ .writes) m numberOfRecord ≡ recordWord (t .writes) m numberOfRecord → recordWord (t′ .writes) m tagOfRecord < entriesOf t′ → WriteFacts t m → WriteFacts t′ m
+  write-kept m c k h w = record { client = rw (c, n .clients) (w .client); count = rw k (w .count); tag = h }
+
+  pub read-kept : (m : ℕ) → recordWord (t′ .reads) m clientOfRecord ≡ recordWord (t .reads) m clientOfRecord → recordWord (t′ .reads) m numberOfRecord ≡ recordWord (t .reads) m numberOfRecord → recordWord (t′ .reads) m tagOfRecord < entriesOf t′ → ReadFacts t m → ReadFacts t′ m
+  read-kept m c k h w = record { client = rw (c, n .clients) (w .client); mask = rw (k, n .servers) (w .mask); tag = h }
+
+-- No table changes its length.
+pub record Lengths (t t′ : Tables) : Type 0 where
+  pub counts : length (t′ .counts) ≡ length (t .counts)
+  pub clients : length (t′ .clients) ≡ length (t .clients)
+  pub links : length (t′ .links) ≡ length (t .links)
+  pub keys : length (t′ .keys) ≡ length (t .keys)
+  pub values : length (t′ .values) ≡ length (t .values)
+  pub log : length (t′ .log) ≡ length (t .log)
+  pub writes : length (t′ .writes) ≡ length (t .writes)
+  pub reads : length (t′ .reads) ≡ length (t .reads)
+
+-- What a step of client q leaves: the press, the rows and links of the other clients, the versions held and the log's entries.
+pub record Grows (q : ℕ) (t t′ : Tables) : Type 0 where
+  pub numbers : Numbers t t′
+  pub lengths : Lengths t t′
+  pub row : (p f : ℕ) → (p ≡ q → ⊥) → f < clientWidth → clientWord (t′ .clients) p f ≡ clientWord (t .clients) p f
+  pub link : (p i f : ℕ) → (p ≡ q → ⊥) → i < targets → f < linkWidth → linkWord (t′ .links) p i f ≡ linkWord (t .links) p i f
+  pub key : (i place : ℕ) → i < serversOf t → place < heldOf t i → versionWord (t′ .keys) i place ≡ versionWord (t .keys) i place
+  pub value : (i place : ℕ) → i < serversOf t → place < heldOf t i → versionWord (t′ .values) i place ≡ versionWord (t .values) i place
+  pub entry : (tag f : ℕ) → tag < entriesOf t → f < entryWidth → wordAt entryWidth (t′ .log) tag f ≡ wordAt entryWidth (t .log) tag f
+
+-- What a step of client q proves anew: the scalars, what was appended, the client itself, the records.
+pub record Renewed (q : ℕ) (t t′ : Tables) : Type 0 where
+  pub step : Between 1 (stepOf t′) 4294967295
+  pub entries : entriesOf t′ ≤ logPlaces
+  pub writes : writesOf t′ ≤ recordPlaces
+  pub reads : readsOf t′ ≤ recordPlaces
+  pub held : (i : ℕ) → i < serversOf t → heldOf t′ i ≤ serverPlaces
+  pub key : (i place : ℕ) → i < serversOf t → heldOf t i ≤ place → place < heldOf t′ i → keyInRange (clientsOf t) (versionWord (t′ .keys) i place) ≡ true
+  pub entry : (tag : ℕ) → entriesOf t ≤ tag → tag < entriesOf t′ → EntryFacts t′ tag
+  pub client : ClientFacts t′ q
+  pub counts : sumBelow (countOf t′) (clientsOf t) ≡ writesOf t′
+  pub write : (n : ℕ) → n < writesOf t′ → WriteFacts t′ n
+  pub read : (n : ℕ) → n < readsOf t′ → ReadFacts t′ n
+  pub records : (p : ℕ) → p < clientsOf t → RecordsFacts t′ p
+
+module _ (q : ℕ) (t t′ : Tables) (s : Sound t) (g : Grows q t t′) where
+  long-kept : Long (serversOf t′) (clientsOf t′) t′
+  long-kept =
+      let l = s .long in
+      let e = g .lengths in
+      rw (g .numbers .servers, g .numbers .clients)
+      (record {
+        counts = rw (e .counts) (l .counts);
+        clients = rw (e .clients) (l .clients);
+        links = rw (e .links) (l .links);
+        keys = rw (e .keys) (l .keys);
+        values = rw (e .values) (l .values);
+        log = rw (e .log) (l .log);
+        writes = rw (e .writes) (l .writes);
+        reads = rw (e .reads) (l .reads);
+      })
+
+  press-kept : Press (methodOf t′) (serversOf t′) (clientsOf t′)
+  press-kept = rw (g .numbers .method, g .numbers .servers, g .numbers .clients) (s .scalars .press)
+
+  -- a server: what it held, and what came
+  server-kept : Renewed q t t′ → (i : ℕ) → i < serversOf t → ServerFacts t′ i
+  server-kept r i h =
+      let f = s .server i h in
+      let few : i < 16 = omega (arith, s .scalars .press .servers .most) in
+      let more = g .numbers .held i few in
+      record {
+        held = record { least = omega (arith, f .held .least); most = r .held i h };
+        first = g .key i 0 h (f .held .least) ∙ f .first;
+        key = λ place l. rw (g .numbers .clients) (by-test (ltb place (heldOf t i))
+            (λ b. rw (g .key i place h (ltb-true _ _ b)) (f .key place (ltb-true _ _ b)))
+            (λ b. r .key i place h (ltb-false _ _ b) l));
+      }
+
+  log-kept : Renewed q t t′ → LogFacts t′
+  log-kept r =
+      let f = s .log in
+      let some = s .scalars .entries .least in
+      record {
+        firstkey = g .entry 0 0 some (omega arith) ∙ f .firstkey;
+        firstmask = rw (g .numbers .servers) (g .entry 0 1 some (omega arith) ∙ f .firstmask);
+        entry = λ tag l. by-test (ltb tag (entriesOf t))
+            (λ b.
+            let h = ltb-true tag (entriesOf t) b in
+            let e = f .entry tag h in
+            record { key = rw (g .numbers .clients, g .entry tag 0 h (omega arith)) (e .key); mask = rw (g .numbers .servers, g .entry tag 1 h (omega arith)) (e .mask) })
+            (λ b. r .entry tag (ltb-false _ _ b) l);
+      }
+
+  -- one law for every step: what it left and what it proves anew make sound tables
+  pub kept : Renewed q t t′ → Sound t′
+  kept r =
+      record {
+        long = long-kept;
+        scalars = record { press = press-kept; step = r .step; entries = record { least = omega (arith, s .scalars .entries .least, g .numbers .entries); most = r .entries }; writes = r .writes; reads = r .reads };
+        server = λ i h. server-kept r i (rw (g .numbers .servers) at h);
+        log = log-kept r;
+        client = λ p h. by-equal p q (λ e. rw e (r .client)) (λ d. client-kept t t′ (g .numbers) p (λ f l. g .row p f d l) (λ i f l m. g .link p i f d l m) (s .client p (rw (g .numbers .clients) at h)));
+        counts = rw (g .numbers .clients) (r .counts);
+        write = r .write;
+        read = r .read;
+        records = λ p h. r .records p (rw (g .numbers .clients) at h);
+      }

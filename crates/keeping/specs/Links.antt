@@ -1,0 +1,169 @@
+-- A link by its three words: what it holds, what soundness asks of it, and what a put leaves.
+use Prim.Native.Nat.{ℕ, _+_, _*_, _≤_, _<_}
+use mathlib.Core.Path.{_≡_, refl, sym, _∙_, ap}
+use mathlib.Core.Bool.{Bool, true, false, cond, not, _&&_, _||_, true≢false}
+use mathlib.Core.List.{List, [], _∷_}
+use native.Mathlib.Omega.{arith}
+use lib.ListN.{getD, length}
+use lib.Dec.{eqb, leb, ltb}
+use borrow.Author.Tests.{eq-eqb, ne-eqb, eqb-true, eqb-false, not-true, not-false}
+use Rattle.ranges.specs.Tests.{by-test, by-equal, both, both-left, both-right, not-both}
+use Rattle.ranges.specs.All.{anyBelow, any-at, any-same}
+use Rattle.keys.specs.Keys.{keyWord}
+use Rattle.tables.specs.Rows.{wordAt, HasRow, place-one, row-same, row-other, row-length}
+use Rattle.tables.specs.Links.{targets, linkWidth, linkRow, linkAt, putLink, isEmpty, contentWords, contentOf, contentsOf}
+use Rattle.tables.specs.Tables.{Tables, stateOf, maskOf, contentAt}
+use Rattle.tables.specs.declared.links.Contents.{Contents}
+use Rattle.tables.specs.declared.links.Content.{Content}
+use Rattle.tables.specs.declared.links.Content.the-variants.{Nothing, Request, Reply}
+use Rattle.tables.specs.declared.links.Link.{Link}
+use Rattle.rules.specs.Common.{pending}
+use Rattle.soundness.specs.Sound.{uses, requestSound, replySound, keyOn, contentSound}
+use Rattle.soundness.specs.Facts.{LinkFacts}
+
+abbrev pub linkWord : List ℕ → ℕ → ℕ → ℕ → ℕ
+linkWord links q i f = wordAt linkWidth links (linkRow q i) f
+
+abbrev pub kindOn : Tables → ℕ → ℕ → ℕ
+kindOn t q i = linkWord (t .links) q i 0
+
+abbrev pub numberOn : Tables → ℕ → ℕ → ℕ
+numberOn t q i = linkWord (t .links) q i 2
+
+-- two links of the same words hold the same
+pub link-same-words : (links links′ : List ℕ) (q i : ℕ) → ((f : ℕ) → f < linkWidth → linkWord links′ q i f ≡ linkWord links q i f) → linkAt links′ q i ≡ linkAt links q i
+unfolding linkAt
+link-same-words links links′ q i h = rw (h 0 (omega arith), h 1 (omega arith), h 2 (omega arith))
+
+pub empty-same-words : (links links′ : List ℕ) (q i : ℕ) → ((f : ℕ) → f < linkWidth → linkWord links′ q i f ≡ linkWord links q i f) → isEmpty (linkAt links′ q i .content) ≡ isEmpty (linkAt links q i .content)
+empty-same-words links links′ q i h = ap (λ (x : Link). isEmpty (x .content)) (link-same-words links links′ q i h)
+
+-- what a link holds goes by its kind
+abbrev isRequest : Content → Bool
+isRequest Nothing = false
+isRequest (Request w) = true
+isRequest (Reply w) = false
+
+abbrev isReply : Content → Bool
+isReply Nothing = false
+isReply (Request w) = false
+isReply (Reply w) = true
+
+abbrev carried : Contents → Content → Contents
+carried d Nothing = d
+carried d (Request w) = w
+carried d (Reply w) = w
+
+module _ (links : List ℕ) (q i : ℕ) where
+  abbrev words : Contents
+  words = contentsOf (linkWord links q i 1) (linkWord links q i 2)
+
+  pub at-nothing : linkWord links q i 0 ≡ 0 → linkAt links q i .content ≡ Nothing
+  unfolding linkAt
+  at-nothing e = rw e
+
+  pub at-request : linkWord links q i 0 ≡ 1 → linkAt links q i .content ≡ Request words
+  unfolding linkAt
+  at-request e = rw e
+
+  pub at-reply : linkWord links q i 0 ≡ 2 → linkAt links q i .content ≡ Reply words
+  unfolding linkAt
+  at-reply e = rw e
+
+  -- the kind of what is held
+  kind-by : {C : Type 0} → linkWord links q i 0 ≤ 2 → (linkWord links q i 0 ≡ 0 → C) → (linkWord links q i 0 ≡ 1 → C) → (linkWord links q i 0 ≡ 2 → C) → C
+  kind-by h a b c = by-equal (linkWord links q i 0) 0 a (λ d. by-equal (linkWord links q i 0) 1 b (λ e. c (omega arith)))
+
+  pub request-kind : (w : Contents) → linkWord links q i 0 ≤ 2 → linkAt links q i .content ≡ Request w → linkWord links q i 0 ≡ 1
+  request-kind w h e =
+      kind-by h
+      (λ k. absurd (not-both (ap isRequest e) (ap isRequest (at-nothing k))))
+      (λ k. k)
+      (λ k. absurd (not-both (ap isRequest e) (ap isRequest (at-reply k))))
+
+  pub request-words : (w : Contents) → linkWord links q i 0 ≤ 2 → linkAt links q i .content ≡ Request w → words ≡ w
+  request-words w h e = sym (ap (carried w) (at-request (request-kind w h e))) ∙ ap (carried w) e
+
+  pub reply-kind : (w : Contents) → linkWord links q i 0 ≤ 2 → linkAt links q i .content ≡ Reply w → linkWord links q i 0 ≡ 2
+  reply-kind w h e =
+      kind-by h
+      (λ k. absurd (not-both (ap isReply e) (ap isReply (at-nothing k))))
+      (λ k. absurd (not-both (ap isReply e) (ap isReply (at-request k))))
+      (λ k. k)
+
+  pub reply-words : (w : Contents) → linkWord links q i 0 ≤ 2 → linkAt links q i .content ≡ Reply w → words ≡ w
+  reply-words w h e = sym (ap (carried w) (at-reply (reply-kind w h e))) ∙ ap (carried w) e
+
+  -- empty is kind 0
+  pub kind-empty : linkWord links q i 0 ≡ 0 → isEmpty (linkAt links q i .content) ≡ true
+  kind-empty k = ap isEmpty (at-nothing k)
+
+  pub kind-full : linkWord links q i 0 ≤ 2 → (linkWord links q i 0 ≡ 0 → ⊥) → isEmpty (linkAt links q i .content) ≡ false
+  kind-full h d = kind-by h (λ k. absurd (d k)) (λ k. ap isEmpty (at-request k)) (λ k. ap isEmpty (at-reply k))
+
+  pub empty-kind : linkWord links q i 0 ≤ 2 → isEmpty (linkAt links q i .content) ≡ true → linkWord links q i 0 ≡ 0
+  empty-kind h e = by-equal (linkWord links q i 0) 0 (λ k. k) (λ d. absurd (not-both e (kind-full h d)))
+
+-- some link of the client is full, or none is
+abbrev full : List ℕ → ℕ → ℕ → Bool
+full links q i = not (isEmpty (linkAt links q i .content))
+
+pub pending-at : (links : List ℕ) (q i : ℕ) → i < targets → linkWord links q i 0 ≤ 2 → (linkWord links q i 0 ≡ 0 → ⊥) → pending links q ≡ true
+pending-at links q i h k d = any-at (full links q) targets i h (ap not (kind-full links q i k d))
+
+pub none-pending : (links : List ℕ) (q i : ℕ) → i < targets → linkWord links q i 0 ≤ 2 → pending links q ≡ false → linkWord links q i 0 ≡ 0
+none-pending links q i h k e = by-equal (linkWord links q i 0) 0 (λ z. z) (λ d. absurd (not-both (pending-at links q i h k d) e))
+
+pub pending-same : (links links′ : List ℕ) (q : ℕ) → ((i f : ℕ) → i < targets → f < linkWidth → linkWord links′ q i f ≡ linkWord links q i f) → pending links′ q ≡ pending links q
+pending-same links links′ q h = any-same (full links′ q) (full links q) targets (λ i l. rw (link-same-words links links′ q i (λ f g. h i f l g)))
+
+-- What soundness asks of a link, by its kind.
+pub record LinkAsks (t : Tables) (q i : ℕ) : Type 0 where
+  pub kind : kindOn t q i ≤ 2
+  pub used : (kindOn t q i ≡ 0 → ⊥) → uses (stateOf t q) (maskOf t q) i ≡ true
+  pub request : kindOn t q i ≡ 1 → requestSound (stateOf t q) q (keyOn t q i) (numberOn t q i) t ≡ true
+  pub reply : kindOn t q i ≡ 2 → replySound (stateOf t q) i (numberOn t q i) t ≡ true
+
+module _ (t : Tables) (q i : ℕ) where
+  on-request : {c : Content} → contentAt t q i ≡ c → contentSound (contentAt t q i) (stateOf t q) q i t ≡ true → contentSound c (stateOf t q) q i t ≡ true
+  on-request e f = rw e at f
+
+  pub link-asks : LinkFacts t q i → LinkAsks t q i
+  unfolding contentSound
+  link-asks f =
+      let sent : kindOn t q i ≡ 1 → (uses (stateOf t q) (maskOf t q) i && requestSound (stateOf t q) q (keyOn t q i) (numberOn t q i) t) ≡ true =
+      λ k. on-request (at-request (t .links) q i k) (f .content) in
+      let got : kindOn t q i ≡ 2 → (uses (stateOf t q) (maskOf t q) i && replySound (stateOf t q) i (numberOn t q i) t) ≡ true =
+      λ k. on-request (at-reply (t .links) q i k) (f .content) in
+      record {
+        kind = f .kind;
+        used = λ d. kind-by (t .links) q i (f .kind) (λ k. absurd (d k)) (λ k. both-left _ _ (sent k)) (λ k. both-left _ _ (got k));
+        request = λ k. both-right (uses (stateOf t q) (maskOf t q) i) _ (sent k);
+        reply = λ k. both-right (uses (stateOf t q) (maskOf t q) i) _ (got k);
+      }
+
+  pub asks-link : LinkAsks t q i → LinkFacts t q i
+  unfolding contentSound
+  asks-link a =
+      record {
+        kind = a .kind;
+        content = kind-by (t .links) q i (a .kind)
+            (λ k. rw (at-nothing (t .links) q i k))
+            (λ k. rw (at-request (t .links) q i k) (both _ _ (a .used (λ z. omega arith)) (a .request k)))
+            (λ k. rw (at-reply (t .links) q i k) (both _ _ (a .used (λ z. omega arith)) (a .reply k)));
+      }
+
+-- What a put leaves: the words of what was put, and every other link's words.
+words-three : (c : Content) → length (contentWords c) ≡ 3
+words-three Nothing = refl
+words-three (Request w) = refl
+words-three (Reply w) = refl
+
+module _ (links : List ℕ) (q i : ℕ) (c : Content) where
+  pub put-same : (f : ℕ) → HasRow linkWidth links (linkRow q i) → f < linkWidth → linkWord (putLink links q i c) q i f ≡ getD (contentWords c) f 0
+  unfolding putLink
+  put-same f h g = row-same linkWidth links (linkRow q i) (contentWords c) f h (rw (words-three c) (omega arith)) (rw (words-three c) g)
+
+  pub put-other : (p j f : ℕ) → i < targets → j < targets → ((p ≡ q) × (j ≡ i) → ⊥) → f < linkWidth → linkWord (putLink links q i c) p j f ≡ linkWord links p j f
+  unfolding putLink
+  put-other p j f h g d l = row-other linkWidth links (linkRow q i) (contentWords c) (linkRow p j) f (rw (words-three c) (omega arith)) l (λ e. d (place-one targets p j q i g h e))

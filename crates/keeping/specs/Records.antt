@@ -1,0 +1,167 @@
+-- The records: a client's record in progress, over a record begun, tagged or ended.
+use Prim.Native.Nat.{ℕ, zero, suc, _+_, _*_, _≤_, _<_}
+use mathlib.Core.Path.{_≡_, refl, sym, _∙_, ap}
+use mathlib.Core.Bool.{Bool, true, false, cond, _&&_, and-false}
+use mathlib.Core.List.{List, [], _∷_}
+use native.Mathlib.Omega.{arith}
+use lib.ListN.{getD, length}
+use lib.Dec.{eqb, ltb}
+use borrow.Author.Tests.{eq-eqb, ne-eqb, eqb-true, ltb-true, lt-ltb}
+use Rattle.ranges.specs.Tests.{by-test, by-equal, both, both-left, both-right, not-both}
+use Rattle.ranges.specs.Sum.{sumBelow, countBelow, one, sum-same, sum-set, sum-more, one-true, one-false}
+use Rattle.tables.specs.Rows.{HasRow, row-same, row-other, word-same, word-other}
+use Rattle.tables.specs.Layout.{recordWidth, recordWord, putRecordWord, putBegun, clientOfRecord, numberOfRecord, tagOfRecord, beginOfRecord, endOfRecord}
+use Rattle.rules.specs.Common.{endedRecord, taggedRecord}
+use Rattle.soundness.specs.Sound.{isOpen, openSound}
+
+-- A client that does something of a kind has one record of it in progress, at its place; else it has none.
+pub record Doing (records : List ℕ) (begun q place : ℕ) : Type 0 where
+  pub once : countBelow (isOpen records q) begun ≡ 1
+  pub within : place < begun
+  pub here : isOpen records q place ≡ true
+
+module _ (records : List ℕ) (begun q place : ℕ) where
+  pub doing-facts : openSound true records begun q place ≡ true → Doing records begun q place
+  unfolding openSound
+  doing-facts e =
+      let l = both-left (eqb (countBelow (isOpen records q) begun) 1) (ltb place begun && isOpen records q place) e in
+      let r = both-right (eqb (countBelow (isOpen records q) begun) 1) (ltb place begun && isOpen records q place) e in
+      record { once = eqb-true _ _ l; within = ltb-true _ _ (both-left (ltb place begun) (isOpen records q place) r); here = both-right (ltb place begun) (isOpen records q place) r }
+
+  pub facts-doing : Doing records begun q place → openSound true records begun q place ≡ true
+  unfolding openSound
+  facts-doing d =
+      both (eqb (countBelow (isOpen records q) begun) 1) (ltb place begun && isOpen records q place)
+      (eq-eqb _ _ (d .once))
+      (both (ltb place begun) (isOpen records q place) (lt-ltb _ _ (d .within)) (d .here))
+
+  pub none-facts : openSound false records begun q place ≡ true → countBelow (isOpen records q) begun ≡ 0
+  unfolding openSound
+  none-facts e = eqb-true _ _ e
+
+  pub facts-none : countBelow (isOpen records q) begun ≡ 0 → openSound false records begun q place ≡ true
+  unfolding openSound
+  facts-none e = eq-eqb _ _ e
+
+-- The record list changed, but for this client no record in progress came or went.
+module _ (records records′ : List ℕ) (begun q place : ℕ) (same : (n : ℕ) → n < begun → isOpen records′ q n ≡ isOpen records q n) where
+  pub count-kept : countBelow (isOpen records′ q) begun ≡ countBelow (isOpen records q) begun
+  count-kept = sum-same (λ n. one (isOpen records′ q n)) (λ n. one (isOpen records q n)) begun (λ n h. ap one (same n h))
+
+  pub open-kept : (doing : Bool) → openSound doing records begun q place ≡ true → openSound doing records′ begun q place ≡ true
+  open-kept true e =
+      let d = doing-facts records begun q place e in
+      facts-doing records′ begun q place (record { once = count-kept ∙ d .once; within = d .within; here = same place (d .within) ∙ d .here })
+  open-kept false e = facts-none records′ begun q place (count-kept ∙ none-facts records begun q place e)
+
+  -- one record more, of another client
+  pub open-other : isOpen records′ q begun ≡ false → (doing : Bool) → openSound doing records begun q place ≡ true → openSound doing records′ (begun + 1) q place ≡ true
+  open-other f true e =
+      let d = doing-facts records begun q place e in
+      facts-doing records′ (begun + 1) q place (record {
+        once = omega (arith, sum-more (λ n. one (isOpen records′ q n)) begun, one-false f, count-kept, d .once);
+        within = omega (arith, d .within);
+        here = same place (d .within) ∙ d .here;
+      })
+  open-other f false e = facts-none records′ (begun + 1) q place (omega (arith, sum-more (λ n. one (isOpen records′ q n)) begun, one-false f, count-kept, none-facts records begun q place e))
+
+  -- one record more, its own: from none to one
+  pub open-own : isOpen records′ q begun ≡ true → openSound false records begun q place ≡ true → openSound true records′ (begun + 1) q begun ≡ true
+  open-own f e =
+      facts-doing records′ (begun + 1) q begun (record {
+        once = omega (arith, sum-more (λ n. one (isOpen records′ q n)) begun, one-true f, count-kept, none-facts records begun q place e);
+        within = omega arith;
+        here = f;
+      })
+
+-- its record in progress ends: from one to none
+pub open-ended : (records records′ : List ℕ) (begun q place place′ : ℕ) → ((n : ℕ) → n < begun → (n ≡ place → ⊥) → isOpen records′ q n ≡ isOpen records q n) → isOpen records′ q place ≡ false →
+    openSound true records begun q place ≡ true → openSound false records′ begun q place′ ≡ true
+open-ended records records′ begun q place place′ same f e =
+    let d = doing-facts records begun q place e in
+    facts-none records′ begun q place′
+    (omega (
+      arith,
+      sum-set (λ n. one (isOpen records′ q n)) (λ n. one (isOpen records q n)) begun place (d .within) (λ n h z. ap one (same n h z)),
+      one-true (d .here),
+      one-false f,
+      d .once,
+    ))
+
+-- none is none, whatever the place
+pub open-idle : (records : List ℕ) (begun q place place′ : ℕ) → openSound false records begun q place ≡ true → openSound false records begun q place′ ≡ true
+open-idle records begun q place place′ e = facts-none records begun q place′ (none-facts records begun q place e)
+
+-- a record that is one client's is no other's
+pub not-open : (records : List ℕ) (p q n : ℕ) → (p ≡ q → ⊥) → recordWord records n clientOfRecord ≡ q → isOpen records p n ≡ false
+not-open records p q n d e = rw (ne-eqb (recordWord records n clientOfRecord) p (λ z. d (sym z ∙ e)))
+
+pub open-client : (records : List ℕ) (q n : ℕ) → isOpen records q n ≡ true → recordWord records n clientOfRecord ≡ q
+open-client records q n e = eqb-true _ _ (both-left (eqb (recordWord records n clientOfRecord) q) (eqb (recordWord records n endOfRecord) 0) e)
+
+-- whether a record is open goes by two of its words
+pub open-words : (records records′ : List ℕ) (q n : ℕ) → recordWord records′ n clientOfRecord ≡ recordWord records n clientOfRecord → recordWord records′ n endOfRecord ≡ recordWord records n endOfRecord → isOpen records′ q n ≡ isOpen records q n
+open-words records records′ q n c e = rw (c, e)
+
+-- A tag put into a record: no record in progress comes or goes.
+module _ (records : List ℕ) (place tag : ℕ) where
+  pub tagged-word : (n f : ℕ) → f < recordWidth → (f ≡ tagOfRecord → ⊥) → recordWord (taggedRecord place tag records) n f ≡ recordWord records n f
+  tagged-word n f h d = word-other recordWidth records place tagOfRecord tag n f (omega arith) h (λ e. d (e .1))
+
+  pub tagged-other : (n f : ℕ) → f < recordWidth → (n ≡ place → ⊥) → recordWord (taggedRecord place tag records) n f ≡ recordWord records n f
+  tagged-other n f h d = word-other recordWidth records place tagOfRecord tag n f (omega arith) h (λ e. d (e .0))
+
+  pub tagged-here : HasRow recordWidth records place → recordWord (taggedRecord place tag records) place tagOfRecord ≡ tag
+  tagged-here h = word-same recordWidth records place tagOfRecord tag h (omega arith)
+
+  pub tagged-open : (q n : ℕ) → isOpen (taggedRecord place tag records) q n ≡ isOpen records q n
+  tagged-open q n = open-words records (taggedRecord place tag records) q n (tagged-word n clientOfRecord (omega arith) (λ e. omega arith)) (tagged-word n endOfRecord (omega arith) (λ e. omega arith))
+
+-- An end put into a record.
+module _ (records : List ℕ) (place step : ℕ) where
+  pub ended-word : (n f : ℕ) → f < recordWidth → (f ≡ endOfRecord → ⊥) → recordWord (endedRecord place step records) n f ≡ recordWord records n f
+  ended-word n f h d = word-other recordWidth records place endOfRecord step n f (omega arith) h (λ e. d (e .1))
+
+  ended-other : (q n : ℕ) → (n ≡ place → ⊥) → isOpen (endedRecord place step records) q n ≡ isOpen records q n
+  ended-other q n d = open-words records (endedRecord place step records) q n (ended-word n clientOfRecord (omega arith) (λ e. omega arith)) (word-other recordWidth records place endOfRecord step n endOfRecord (omega arith) (omega arith) (λ e. d (e .0)))
+
+  module _ (begun q : ℕ) (d : Doing records begun q place) where
+    -- for the other clients nothing comes or goes
+    pub ended-others : (p n : ℕ) → (p ≡ q → ⊥) → isOpen (endedRecord place step records) p n ≡ isOpen records p n
+    ended-others p n e =
+        by-equal n place
+        (λ z. rw z (not-open (endedRecord place step records) p q place e (ended-word place clientOfRecord (omega arith) (λ y. omega arith) ∙ open-client records q place (d .here))
+        ∙ sym (not-open records p q place e (open-client records q place (d .here)))))
+        (λ z. ended-other p n z)
+
+    -- the client itself has none in progress any more
+    pub ended-own : (place′ : ℕ) → HasRow recordWidth records place → 0 < step → openSound false (endedRecord place step records) begun q place′ ≡ true
+    ended-own place′ h s =
+        open-ended records (endedRecord place step records) begun q place place′ (λ n l z. ended-other q n z)
+        (rw (word-same recordWidth records place endOfRecord step h (omega arith), ne-eqb step 0 (λ e. omega arith)) (and-false (eqb (recordWord (endedRecord place step records) place clientOfRecord) q)))
+        (facts-doing records begun q place d)
+
+-- A record begun in the next place.
+module _ (records : List ℕ) (begun q number step : ℕ) where
+  abbrev row : List ℕ
+  row = q ∷ number ∷ 0 ∷ step ∷ 0 ∷ []
+
+  pub begun-word : (n f : ℕ) → f < recordWidth → (n ≡ begun → ⊥) → recordWord (putBegun records begun q number step) n f ≡ recordWord records n f
+  begun-word n f h d = row-other recordWidth records begun row n f (omega arith) h d
+
+  pub begun-here : (f : ℕ) → f < recordWidth → HasRow recordWidth records begun → recordWord (putBegun records begun q number step) begun f ≡ getD row f 0
+  begun-here f h r = row-same recordWidth records begun row f r (omega arith) h
+
+  pub begun-open : (p n : ℕ) → n < begun → isOpen (putBegun records begun q number step) p n ≡ isOpen records p n
+  begun-open p n h = open-words records (putBegun records begun q number step) p n (begun-word n clientOfRecord (omega arith) (λ e. omega arith)) (begun-word n endOfRecord (omega arith) (λ e. omega arith))
+
+  module _ (r : HasRow recordWidth records begun) where
+    pub begun-others : (p place : ℕ) → (p ≡ q → ⊥) → (doing : Bool) → openSound doing records begun p place ≡ true → openSound doing (putBegun records begun q number step) (begun + 1) p place ≡ true
+    begun-others p place d =
+        open-other records (putBegun records begun q number step) begun p place (begun-open p)
+        (not-open (putBegun records begun q number step) p q begun d (begun-here clientOfRecord (omega arith) r))
+
+    pub begun-own : (place : ℕ) → openSound false records begun q place ≡ true → openSound true (putBegun records begun q number step) (begun + 1) q begun ≡ true
+    begun-own place e =
+        open-own records (putBegun records begun q number step) begun q place (begun-open q)
+        (rw (begun-here clientOfRecord (omega arith) r, begun-here endOfRecord (omega arith) r, eq-eqb q q refl)) e
