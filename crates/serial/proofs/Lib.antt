@@ -11,3 +11,4 @@ pub mod Kept
 pub mod Begins
 pub mod Requests
 pub mod Replies
+pub mod View
