@@ -12,3 +12,5 @@ pub mod Begins
 pub mod Requests
 pub mod Replies
 pub mod View
+pub mod Ready
+pub mod RequestSteps

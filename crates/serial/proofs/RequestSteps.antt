@@ -1,0 +1,177 @@
+-- The delivery of a request, on the tables.
+use Prim.Native.Nat.{ℕ, zero, suc, _+_, _-_, _*_, _≤_, _<_}
+use mathlib.Core.Path.{_≡_, refl, sym, ap, _∙_, subst}
+use mathlib.Core.Bool.{Bool, true, false, cond}
+use mathlib.Core.List.{List}
+use native.Mathlib.Omega.{arith}
+use native.Mathlib.Numerals.{add-one}
+use lib.ListN.{getD, set, length, length-set}
+use lib.Dec.{eqb, ltb}
+use borrow.Author.Tests.{lt-ltb, le-ltb, ltb-true, ltb-false}
+use Rattle.ranges.specs.Tests.{by-equal, by-test}
+use Rattle.keys.specs.declared.Key.{Key}
+use Rattle.keys.specs.Keys.{keyWord, opening}
+use Rattle.tables.specs.Rows.{HasRow}
+use Rattle.tables.specs.Layout.{countAt, heldField, stepField, entriesField, serverPlaces, logPlaces, entryWidth, versionWord, putVersionWord, putEntry, stateField}
+use Rattle.tables.specs.Links.{targets, linkWidth, linkRow, putLink, link-same}
+use Rattle.tables.specs.Tables.{Tables, tablesOf, entriesOf, heldOf, stateOf, recordOf, contentAt, serversOf}
+use Rattle.tables.specs.declared.links.Contents.{Contents}
+use Rattle.tables.specs.declared.links.Content.{Content}
+use Rattle.tables.specs.declared.links.Content.the-variants.{Nothing, Request, Reply}
+use Rattle.server.specs.Held.{appended, firstBearing}
+use Rattle.coordinator.specs.Log as log
+use Rattle.rules.specs.Answers.{Left, left}
+use Rattle.rules.specs.Common.{idle, entering, askingKeys, askingSetpoints, askingAll, coordinator, reply, counted, taggedRecord}
+use Rattle.rules.specs.Common as rules
+use Rattle.rules.specs.Request.{refused, answered, onSet, onEnter, onWhichKeys, onGet, onGetAll, onRequestIn, onRequest, requestDelivered}
+use Rattle.rules.specs.declared.Answer.the-variants.{Ok, Refused}
+use Rattle.soundness.specs.Facts.{Sound}
+use Rattle.serial.specs.Steps.{requested}
+use Rattle.serial.specs.History.{changed, History}
+use Rattle.serial.specs.Claim.{IsReply, LeavesReply}
+use Rattle.serial.proofs.Press.{Shared, Client, clientOf, Press, pressOf, stateIn, maskIn, sharedOf, view, weight, World, world}
+use Rattle.serial.proofs.View.{within-at, link-put, link-put-other, view-is, sharedIn, shared-other, shared-held, shared-entries}
+use Rattle.serial.proofs.Versions.{found-place}
+use Rattle.serial.proofs.Ready.{Ready, few, in-range, has-link, has-keys, has-values, row-at, link-at, not-empty}
+use Rattle.serial.proofs.Invariant.{Writing, Stored, Entering, AskingKeys, Getting, AskingAll, Idle, Activity, at-rest, at-writing, at-entering, at-keys, at-getting, at-all, ClientOk, Tied}
+use Rattle.serial.proofs.Kept.{Kept, passed-tied}
+use Rattle.serial.proofs.Requests.{versionMore, entryMore, withLink, set-kept, enter-kept, which-keys-kept, get-kept, get-all-kept}
+
+-- the step keeps the tie, pays what it owes, and leaves the reply on the link
+abbrev pub FairRequest : (ℕ → ℕ) → History → ℕ → ℕ → Left → Type 0
+FairRequest floor h q i x = Kept floor h (requested q i (x .answer)) (view (x .tables)) × LeavesReply (x .answer) (contentAt (x .tables) q i)
+
+module _ (floor : ℕ → ℕ) (t : Tables) (h : History) (tied : Tied floor (view t) h) (q : ℕ) (ready : Ready t q) (i : ℕ) (hi : i < targets) where
+  pub refused-fair : (n : ℕ) → FairRequest floor h q i (refused n t)
+  refused-fair n = ((tt, passed-tied floor (view t) h tied), tt)
+
+  -- the tables when a reply has taken the request's place
+  abbrev replied : List ℕ → List ℕ → List ℕ → List ℕ → List ℕ → ℕ → Tables
+  replied counts keys values log writes n = tablesOf (counted counts) (t .clients) (putLink (t .links) q i (reply n)) keys values log writes (t .reads)
+
+  module _ (counts keys values log writes : List ℕ) (n : ℕ) where
+    replied-view : (s : Shared) → sharedIn counts keys values log ≡ s → view (replied counts keys values log writes n) ≡ pressOf s (changed (view t .client) q (withLink (view t .client q) i (reply n)))
+    replied-view s e =
+        view-is t (replied counts keys values log writes n) q
+        (shared-other counts stepField _ keys values log (λ d. omega arith) (λ d. omega arith) (λ d. omega arith) (omega arith) ∙ e)
+        refl (link-put (t .links) q i (reply n) hi (has-link t q ready i hi) (record { count = omega arith; client = omega arith }))
+        (λ r d. refl) (λ r d. link-put-other (t .links) q i (reply n) hi r d)
+
+    replied-reply : contentAt (replied counts keys values log writes n) q i ≡ reply n
+    replied-reply = link-same (t .links) q i (reply n) (has-link t q ready i hi) (record { count = omega arith; client = omega arith })
+
+    replied-fair : (s : Shared) → sharedIn counts keys values log ≡ s → Kept floor h (requested q i Ok) (pressOf s (changed (view t .client) q (withLink (view t .client q) i (reply n)))) →
+        FairRequest floor h q i (left Ok (replied counts keys values log writes n))
+    replied-fair s e k = (
+      subst (λ (v : Press). Kept floor h (requested q i Ok) v) (sym (replied-view s e)) k,
+      subst IsReply (sym replied-reply) tt,
+    )
+
+  module _ (w : Contents) (lk : contentAt t q i ≡ Request w) where
+    link : view t .client q .link i ≡ Request w
+    link = link-at t q i hi ∙ lk
+
+    -- what a delivery is, by the client's state
+    delivered-is : requestDelivered q i t ≡ onRequestIn (stateOf t q) w q i t
+    unfolding requestDelivered
+    delivered-is = rw lk
+
+    in-state : (state : ℕ) → stateIn (view t .client q) ≡ state → requestDelivered q i t ≡ onRequestIn state w q i t
+    in-state state e = delivered-is ∙ ap (λ (x : ℕ). onRequestIn x w q i t) (sym (row-at t q stateField (omega arith)) ∙ e)
+
+    is-set : onRequestIn rules.writing w q i t ≡ onSet w q i t
+    unfolding onRequestIn
+    is-set = refl
+
+    is-enter : onRequestIn entering w q i t ≡ onEnter w q i t
+    unfolding onRequestIn
+    is-enter = refl
+
+    is-which : onRequestIn askingKeys w q i t ≡ onWhichKeys q i t
+    unfolding onRequestIn
+    is-which = refl
+
+    is-get : onRequestIn askingSetpoints w q i t ≡ onGet w q i t
+    unfolding onRequestIn
+    is-get = refl
+
+    is-get-all : onRequestIn askingAll w q i t ≡ onGetAll q i t
+    unfolding onRequestIn
+    is-get-all = refl
+
+    -- a set request finds room or 256 versions
+    set-fair : stateIn (view t .client q) ≡ rules.writing → Writing (h .extra) (world (view t) h) (floor q) q (view t .client q) (h .doing q) → FairRequest floor h q i (onSet w q i t)
+    unfolding onSet appended
+    set-fair state a =
+        by-test (ltb (heldOf t i) serverPlaces)
+        (λ b. rw b (
+          let room = ltb-true _ _ b in
+          let l : i < serversOf t = rw link at (a .links i hi) .2 in
+          replied-fair (set (t .counts) (heldField + i) (heldOf t i + 1)) (putVersionWord (t .keys) i (heldOf t i) (keyWord (w .key))) (putVersionWord (t .values) i (heldOf t i) (w .number)) (t .log) (t .writes) 0
+          (versionMore (sharedOf t) i (keyWord (w .key)) (w .number))
+          (shared-held (t .counts) i (heldOf t i + 1) _ _ _ (omega (arith, few t q ready, ready .sound .long .counts)) ∙ rw (add-one (heldOf t i)))
+          (set-kept floor (view t) h tied (few t q ready) q (in-range t q ready) i w link hi state a (has-keys t q ready i l) (has-values t q ready i l) room)
+        ))
+        (λ b. rw b (refused-fair 8))
+
+    -- an entry finds room or 256 entries
+    enter-fair : i ≡ coordinator → stateIn (view t .client q) ≡ entering → (a : Entering (h .extra) (world (view t) h) (floor q) q (view t .client q) (h .doing q)) → FairRequest floor h q i (onEnter w q i t)
+    unfolding onEnter log.entered
+    enter-fair at state a =
+        by-test (ltb (entriesOf t) logPlaces)
+        (λ b. rw b (
+          let room = ltb-true (entriesOf t) logPlaces b in
+          let there : view t .client q .link coordinator ≡ Request w = ap (view t .client q .link) (sym at) ∙ link in
+          let head = rw there at (a .head) in
+          replied-fair (set (t .counts) entriesField (entriesOf t + 1)) (t .keys) (t .values) (putEntry (t .log) (entriesOf t) (w .key) (w .number)) (taggedRecord (recordOf t q) (entriesOf t) (t .writes)) (entriesOf t)
+          (entryMore (sharedOf t) (w .key) (w .number))
+          (shared-entries (t .counts) (entriesOf t + 1) _ _ _ (omega (arith, ready .sound .long .counts)) ∙ rw (add-one (entriesOf t)))
+          (rw at (enter-kept floor (view t) h tied (few t q ready) q (in-range t q ready) w state a (head .0) (head .1) (head .2) (omega (arith, ready .sound .long .log))))
+        ))
+        (λ b. rw b (refused-fair 8))
+
+    -- the head or a server tells how much it holds
+    which-fair : i ≡ coordinator → stateIn (view t .client q) ≡ askingKeys → AskingKeys (h .extra) (world (view t) h) (floor q) q (view t .client q) (h .doing q) → FairRequest floor h q i (onWhichKeys q i t)
+    unfolding onWhichKeys
+    which-fair at state a =
+        let there : view t .client q .link coordinator ≡ Request w = ap (view t .client q .link) (sym at) ∙ link in
+        replied-fair (t .counts) (t .keys) (t .values) (t .log) (t .writes) (entriesOf t) (sharedOf t) refl
+        (rw at (which-keys-kept floor (view t) h tied (few t q ready) q (in-range t q ready) w there state a))
+
+    all-fair : stateIn (view t .client q) ≡ askingAll → AskingAll (h .extra) (world (view t) h) (floor q) q (view t .client q) (h .doing q) → FairRequest floor h q i (onGetAll q i t)
+    unfolding onGetAll
+    all-fair state a =
+        replied-fair (t .counts) (t .keys) (t .values) (t .log) (t .writes) (cond (eqb i coordinator) (entriesOf t) (heldOf t i)) (sharedOf t) refl
+        (get-all-kept floor (view t) h tied (few t q ready) q (in-range t q ready) i hi w link state a)
+
+    -- a get request finds its key
+    get-fair : stateIn (view t .client q) ≡ askingSetpoints → Getting (h .extra) (world (view t) h) (floor q) q (view t .client q) (h .doing q) → FairRequest floor h q i (onGet w q i t)
+    unfolding onGet
+    get-fair state a =
+        let v = world (view t) h .value (view t .client q .row 3) i in
+        let f = found-place (t .keys) (t .values) i (w .key) (heldOf t i) v (rw link at (a .links i hi)) in
+        rw (lt-ltb (firstBearing (t .keys) i (w .key) (heldOf t i)) (heldOf t i) (f .0), f .1)
+        (replied-fair (t .counts) (t .keys) (t .values) (t .log) (t .writes) v (sharedOf t) refl
+        (get-kept floor (view t) h tied (few t q ready) q (in-range t q ready) i hi w link state a))
+
+    -- only the head's link holds anything in states 2 and 3
+    at-head : ((j : ℕ) → j < coordinator → view t .client q .link j ≡ Nothing) → i ≡ coordinator
+    at-head others = by-equal i coordinator (λ e. e) (λ d. not-empty (Request w) (omega arith) (sym link ∙ others i (omega arith)))
+
+    in-activity : Activity (h .extra) (world (view t) h) (floor q) q (view t .client q) (h .doing q) → FairRequest floor h q i (requestDelivered q i t)
+    in-activity (at-rest e a) = not-empty (Request w) (omega arith) (sym link ∙ a .links i hi)
+    in-activity (at-writing e a) = subst (FairRequest floor h q i) (sym (in-state rules.writing e ∙ is-set)) (set-fair e a)
+    in-activity (at-entering e a) = subst (FairRequest floor h q i) (sym (in-state entering e ∙ is-enter)) (enter-fair (at-head (a .others)) e a)
+    in-activity (at-keys e a) = subst (FairRequest floor h q i) (sym (in-state askingKeys e ∙ is-which)) (which-fair (at-head (a .others)) e a)
+    in-activity (at-getting e a) = subst (FairRequest floor h q i) (sym (in-state askingSetpoints e ∙ is-get)) (get-fair e a)
+    in-activity (at-all e a) = subst (FairRequest floor h q i) (sym (in-state askingAll e ∙ is-get-all)) (all-fair e a)
+
+  by-content : (c : Content) → contentAt t q i ≡ c → FairRequest floor h q i (onRequest c q i t)
+  unfolding requestDelivered
+  by-content Nothing e = refused-fair 9
+  by-content (Request w) e = rw e at (in-activity w e (tied .clients q (in-range t q ready) .activity))
+  by-content (Reply w) e = refused-fair 9
+
+  pub request-fair : FairRequest floor h q i (requestDelivered q i t)
+  unfolding requestDelivered
+  request-fair = by-content (contentAt t q i) refl
