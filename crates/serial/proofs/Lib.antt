@@ -12,5 +12,6 @@ pub mod Begins
 pub mod Requests
 pub mod Replies
 pub mod View
+pub mod Loops
 pub mod Ready
 pub mod RequestSteps
