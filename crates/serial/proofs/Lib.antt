@@ -15,3 +15,4 @@ pub mod View
 pub mod Loops
 pub mod Ready
 pub mod RequestSteps
+pub mod ReplySteps
