@@ -16,3 +16,4 @@ pub mod Loops
 pub mod Ready
 pub mod RequestSteps
 pub mod ReplySteps
+pub mod BeginSteps

@@ -1,0 +1,265 @@
+-- Begins, on the tables.
+use Prim.Native.Nat.{ℕ, zero, suc, _+_, _-_, _*_, _≤_, _<_}
+use mathlib.Core.Path.{_≡_, refl, sym, ap, _∙_, subst}
+use mathlib.Core.Bool.{Bool, true, false, cond}
+use mathlib.Core.List.{List}
+use native.Mathlib.Omega.{arith}
+use native.Mathlib.Numerals.{add-one}
+use lib.ListN.{getD, set, length}
+use lib.Dec.{eqb, ltb}
+use borrow.Author.Tests.{ltb-true, ltb-false}
+use Rattle.ranges.specs.Tests.{by-equal, by-test, not-both}
+use Rattle.ranges.specs.Sum.{one, sum-part, one-true}
+use Rattle.keys.specs.Keys.{keyOf, opening, FitsByte, at-word-fits}
+use Rattle.keys.specs.Masks.{hasServer, serversIn, Within, no-server, some-server}
+use Rattle.coordinator.specs.Latest.{latestKey}
+use Rattle.tables.specs.Rows.{HasRow, word-same, word-other, word-length}
+use Rattle.tables.specs.Layout.{clientWidth, clientWord, putClientWord, stateField, countField, maskField, tagField, recordField, setpointsField, stepField, writesField, readsField, recordPlaces, countAt}
+use Rattle.tables.specs.Links.{targets, linkWidth, linkRow, linkAt, putLink, link-length}
+use Rattle.tables.specs.Tables.{Tables, tablesOf, methodOf, serversOf, clientsOf, entriesOf, writesOf, readsOf, stateOf, countOf, contentAt}
+use Rattle.tables.specs.declared.links.Content.{Content}
+use Rattle.tables.specs.declared.links.Content.the-variants.{Nothing, Request, Reply}
+use Rattle.rules.specs.Answers.{Left, left}
+use Rattle.rules.specs.Common.{idle, askingKeys, askingSetpoints, askingAll, coordinator, request, begunCounts, begunRecords, startedClient}
+use Rattle.rules.specs.Common as rules
+use Rattle.rules.specs.Begin.{storedSetpoints, sentSets, nextCount, begunWrite, sentGets, sendAsk, sentAsks, Asking, asking, lastTag, askingByA, askingByB, askingByC, askingBy, begunReadWith, begunRead}
+use Rattle.rules.specs.declared.Answer.the-variants.{Ok, Refused}
+use Rattle.soundness.specs.Facts.{Sound}
+use Rattle.serial.specs.Steps.{Event, begun-write, begun-read}
+use Rattle.serial.specs.History.{changed, History, extraOf}
+use Rattle.serial.proofs.Places.{changed-same, changed-other}
+use Rattle.serial.proofs.Press.{Shared, Client, clientOf, Press, pressOf, stateIn, countIn, rowOf, linksOf, sharedOf, view, sends, World, world}
+use Rattle.serial.proofs.View.{within-at, row-put-other, link-put, link-put-other, view-is, sharedIn, shared-other}
+use Rattle.serial.proofs.Loops.{HasLinks, sent-links, sent-others, sent-length, stored-others, stored-word}
+use Rattle.serial.proofs.Ready.{Ready, few, in-range, has-row, has-link, row-at, link-at}
+use Rattle.serial.proofs.Invariant.{Idle, ClientOk, Tied}
+use Rattle.serial.proofs.Kept.{Kept, resting}
+use Rattle.serial.proofs.Begins.{write-kept, read-a-kept, read-b-kept, read-c-kept}
+
+-- a begin's state, mask and place of its record
+module _ (state mask place q : ℕ) (clients : List ℕ) (has : HasRow clientWidth clients q) where
+  abbrev first : List ℕ
+  first = putClientWord clients q stateField state
+
+  abbrev second : List ℕ
+  second = putClientWord first q maskField mask
+
+  abbrev started : List ℕ
+  started = startedClient state mask place q clients
+
+  first-has : HasRow clientWidth first q
+  first-has = rw (word-length clientWidth clients q stateField state) has
+
+  second-has : HasRow clientWidth second q
+  second-has = rw (word-length clientWidth first q maskField mask) first-has
+
+  started-has : HasRow clientWidth started q
+  started-has = rw (word-length clientWidth second q recordField place) second-has
+
+  started-others : (r : ℕ) → (r ≡ q → ⊥) → rowOf started r ≡ rowOf clients r
+  started-others r d =
+      row-put-other second q recordField place (omega arith) r d
+      ∙ row-put-other first q maskField mask (omega arith) r d
+      ∙ row-put-other clients q stateField state (omega arith) r d
+
+  started-state : clientWord started q stateField ≡ state
+  started-state =
+      word-other clientWidth second q recordField place q stateField (omega arith) (omega arith) (λ e. omega (arith, e .1))
+      ∙ word-other clientWidth first q maskField mask q stateField (omega arith) (omega arith) (λ e. omega (arith, e .1))
+      ∙ word-same clientWidth clients q stateField state has (omega arith)
+
+  started-mask : clientWord started q maskField ≡ mask
+  started-mask =
+      word-other clientWidth second q recordField place q maskField (omega arith) (omega arith) (λ e. omega (arith, e .1))
+      ∙ word-same clientWidth first q maskField mask first-has (omega arith)
+
+  started-count : clientWord started q countField ≡ clientWord clients q countField
+  started-count =
+      word-other clientWidth second q recordField place q countField (omega arith) (omega arith) (λ e. omega (arith, e .1))
+      ∙ word-other clientWidth first q maskField mask q countField (omega arith) (omega arith) (λ e. omega (arith, e .1))
+      ∙ word-other clientWidth clients q stateField state q countField (omega arith) (omega arith) (λ e. omega (arith, e .1))
+
+-- a mask that is accepted has servers, all of them below k
+pub mask-bound : (mask k : ℕ) → Within mask k → (i : ℕ) → hasServer mask i ≡ true → i < k
+mask-bound mask k w i e = by-test (ltb i k) (λ b. ltb-true i k b) (λ b. absurd (not-both e (no-server mask k i (w .below) (ltb-false i k b))))
+
+pub mask-some : (mask k : ℕ) → k ≤ 16 → Within mask k → 0 < serversIn mask
+mask-some mask k l w =
+    let s = some-server mask k w in
+    omega (arith, sum-part (λ i. one (hasServer mask i)) 16 (s .0) (omega (arith, s .1)), one-true (s .2))
+
+module _ (floor : ℕ → ℕ) (t : Tables) (h : History) (tied : Tied floor (view t) h) (q : ℕ) (ready : Ready t q) (rest : stateOf t q ≡ idle) (mask : ℕ) (w : Within mask (serversOf t)) where
+  abbrev c : Client
+  c = view t .client q
+
+  resting-state : stateIn c ≡ idle
+  resting-state = row-at t q stateField (omega arith) ∙ rest
+
+  idling : Idle (h .extra) (world (view t) h) (floor q) q c (h .doing q)
+  idling = resting (h .extra) (world (view t) h) (floor q) q c (h .doing q) resting-state (tied .clients q (in-range t q ready) .activity)
+
+  empty : (i : ℕ) → i < targets → linkAt (t .links) q i .content ≡ Nothing
+  empty i l = sym (link-at t q i l) ∙ idling .links i l
+
+  long : HasLinks (t .links) q
+  long = omega (arith, ready .client, ready .sound .long .links)
+
+  bound : (i : ℕ) → hasServer mask i ≡ true → i < serversOf t
+  bound = mask-bound mask (serversOf t) w
+
+  small : serversOf t ≤ targets
+  small = omega (arith, few t q ready)
+
+  -- the counts that a begin changes are none of those shared
+  begun-shared : (field : ℕ) → (field ≡ 0 → ⊥) → (field ≡ 1 → ⊥) → (field ≡ 4 → ⊥) → field < 7 → sharedIn (begunCounts field (t .counts)) (t .keys) (t .values) (t .log) ≡ sharedOf t
+  begun-shared field a b d e =
+      shared-other (set (t .counts) field (countAt (t .counts) field + 1)) stepField _ (t .keys) (t .values) (t .log) (λ z. omega arith) (λ z. omega arith) (λ z. omega arith) (omega arith)
+      ∙ shared-other (t .counts) field _ (t .keys) (t .values) (t .log) a b d e
+
+  module _ (setpoints : List ℕ) (free : writesOf t < recordPlaces) where
+    abbrev begunClients : List ℕ
+    begunClients = putClientWord (startedClient rules.writing mask (writesOf t) q (t .clients)) q countField (nextCount t q)
+
+    abbrev clients′ : List ℕ
+    clients′ = storedSetpoints q setpoints (serversOf t) begunClients
+
+    abbrev value : ℕ → ℕ
+    value i = getD setpoints i 0
+
+    has-begun : HasRow clientWidth (startedClient rules.writing mask (writesOf t) q (t .clients)) q
+    has-begun = started-has rules.writing mask (writesOf t) q (t .clients) (has-row t q ready)
+
+    room : setpointsField + serversOf t ≤ clientWidth
+    room = omega (arith, few t q ready)
+
+    -- a word of the row but for the setpoints
+    begun-word : (f : ℕ) → f < setpointsField → rowOf clients′ q f ≡ clientWord begunClients q f
+    begun-word f l =
+        within-at clientWidth 0 (clientWord clients′ q) f (omega arith)
+        ∙ stored-word q setpointsField value (λ i. true) (serversOf t) room begunClients f (omega arith) (λ i m e. omega arith)
+
+    other-word : (f : ℕ) → f < setpointsField → (f ≡ countField → ⊥) → rowOf clients′ q f ≡ clientWord (startedClient rules.writing mask (writesOf t) q (t .clients)) q f
+    other-word f l d = begun-word f l ∙ word-other clientWidth (startedClient rules.writing mask (writesOf t) q (t .clients)) q countField (nextCount t q) q f (omega arith) (omega arith) (λ e. d (e .1))
+
+    next-count : nextCount t q ≡ suc (countIn c)
+    next-count = add-one (countOf t q) ∙ ap suc (sym (row-at t q countField (omega arith)))
+
+    few-counts : suc (countIn c) < 256
+    few-counts = omega (arith, row-at t q countField (omega arith), sum-part (countOf t) (clientsOf t) q (ready .client), ready .sound .counts)
+
+    abbrev sets : ℕ → ℕ → Content
+    sets n i = request (keyOf n q) (getD setpoints i 0)
+
+    fits : (i : ℕ) → FitsByte (keyOf (nextCount t q) q)
+    fits i = record { count = omega (arith, few-counts, next-count); client = omega (arith, in-range t q ready) }
+
+    pub write-fair : Kept floor h (begun-write q mask setpoints Ok) (view (begunWrite q mask setpoints t))
+    unfolding begunWrite
+    write-fair =
+        subst (λ (v : Press). Kept floor h (begun-write q mask setpoints Ok) v)
+        (sym (view-is t (begunWrite q mask setpoints t) q (begun-shared writesField (λ e. omega arith) (λ e. omega arith) (λ e. omega arith) (omega arith)) refl
+        (sent-links q (sets (nextCount t q)) fits mask (serversOf t) small bound (t .links) long empty ∙ ap (λ (n : ℕ). sends mask (sets n)) next-count)
+        (λ r d. stored-others q setpointsField value (λ i. true) (serversOf t) room begunClients r d
+        ∙ row-put-other (startedClient rules.writing mask (writesOf t) q (t .clients)) q countField (nextCount t q) (omega arith) r d
+        ∙ started-others rules.writing mask (writesOf t) q (t .clients) (has-row t q ready) r d)
+        (λ r d. sent-others q (sets (nextCount t q)) fits mask (serversOf t) small bound (t .links) long empty r d)))
+        (write-kept floor (view t) h tied (few t q ready) q (in-range t q ready) resting-state mask bound (mask-some mask (serversOf t) (few t q ready) w) (rowOf clients′ q)
+        (other-word maskField (omega arith) (λ e. omega arith) ∙ started-mask rules.writing mask (writesOf t) q (t .clients) (has-row t q ready))
+        setpoints
+        (other-word stateField (omega arith) (λ e. omega arith) ∙ started-state rules.writing mask (writesOf t) q (t .clients) (has-row t q ready))
+        (begun-word countField (omega arith) ∙ word-same clientWidth (startedClient rules.writing mask (writesOf t) q (t .clients)) q countField (nextCount t q) has-begun (omega arith) ∙ next-count)
+        few-counts)
+
+  -- a READ that leaves the client's row and links so
+  module _ (clients′ links′ : List ℕ) where
+    abbrev readLeft : Tables
+    readLeft = begunReadWith q mask (asking clients′ links′) t
+
+    read-left : {link : ℕ → Content} → ((r : ℕ) → (r ≡ q → ⊥) → rowOf clients′ r ≡ rowOf (t .clients) r) → linksOf links′ q ≡ link → ((r : ℕ) → (r ≡ q → ⊥) → linksOf links′ r ≡ linksOf (t .links) r) →
+        Kept floor h (begun-read q mask Ok) (pressOf (sharedOf t) (changed (view t .client) q (clientOf (rowOf clients′ q) link))) → Kept floor h (begun-read q mask Ok) (view readLeft)
+    read-left other-rows link-is other-links k =
+        subst (λ (v : Press). Kept floor h (begun-read q mask Ok) v)
+        (sym (view-is t readLeft q (begun-shared readsField (λ e. omega arith) (λ e. omega arith) (λ e. omega arith) (omega arith)) refl link-is other-rows other-links)) k
+
+  abbrev ask : Content
+  ask = request opening 0
+
+  ask-fits : FitsByte opening
+  ask-fits = record { count = omega arith; client = omega arith }
+
+  abbrev with-state : ℕ → List ℕ
+  with-state state = startedClient state mask (readsOf t) q (t .clients)
+
+  word-of : (state f : ℕ) → f < clientWidth → {v : ℕ} → clientWord (with-state state) q f ≡ v → rowOf (with-state state) q f ≡ v
+  word-of state f l e = within-at clientWidth 0 (clientWord (with-state state) q) f l ∙ e
+
+  count-of : (state : ℕ) → clientWord (with-state state) q countField ≡ countIn c
+  count-of state = started-count state mask (readsOf t) q (t .clients) (has-row t q ready) ∙ sym (row-at t q countField (omega arith))
+
+  a-fair : h .extra ≡ 0 → Kept floor h (begun-read q mask Ok) (view (begunReadWith q mask (askingByA q mask t) t))
+  a-fair extra =
+      read-left clients′ (sentGets q mask (t .log) (lastTag t) (serversOf t) (t .links))
+      (λ r d. row-put-other (with-state askingSetpoints) q tagField (lastTag t) (omega arith) r d ∙ started-others askingSetpoints mask (readsOf t) q (t .clients) (has-row t q ready) r d)
+      (sent-links q (gets (lastTag t)) (λ i. at-word-fits _) mask (serversOf t) small bound (t .links) long empty ∙ ap (λ (n : ℕ). sends mask (gets n)) (sym tag-is))
+      (λ r d. sent-others q (gets (lastTag t)) (λ i. at-word-fits _) mask (serversOf t) small bound (t .links) long empty r d)
+      (read-a-kept floor (view t) h tied (few t q ready) q (in-range t q ready) resting-state mask bound (mask-some mask (serversOf t) (few t q ready) w) (rowOf clients′ q)
+      (word maskField (omega arith) (λ e. omega arith) ∙ started-mask askingSetpoints mask (readsOf t) q (t .clients) (has-row t q ready))
+      (word countField (omega arith) (λ e. omega arith) ∙ count-of askingSetpoints)
+      extra
+      (word stateField (omega arith) (λ e. omega arith) ∙ started-state askingSetpoints mask (readsOf t) q (t .clients) (has-row t q ready))
+      (tag-is ∙ last))
+    where
+      clients′ : List ℕ
+      clients′ = putClientWord (with-state askingSetpoints) q tagField (lastTag t)
+
+      gets : ℕ → ℕ → Content
+      gets n i = request (latestKey (t .log) i n) 0
+
+      word : (f : ℕ) → f < clientWidth → (f ≡ tagField → ⊥) → rowOf clients′ q f ≡ clientWord (with-state askingSetpoints) q f
+      word f l d = within-at clientWidth 0 (clientWord clients′ q) f l ∙ word-other clientWidth (with-state askingSetpoints) q tagField (lastTag t) q f (omega arith) l (λ e. d (e .1))
+
+      tag-is : rowOf clients′ q tagField ≡ lastTag t
+      tag-is =
+          within-at clientWidth 0 (clientWord clients′ q) tagField (omega arith)
+          ∙ word-same clientWidth (with-state askingSetpoints) q tagField (lastTag t) (started-has askingSetpoints mask (readsOf t) q (t .clients) (has-row t q ready)) (omega arith)
+
+      last : lastTag t ≡ h .tags
+      last = omega (arith, tied .entries)
+
+  b-fair : h .extra ≡ 2 → Kept floor h (begun-read q mask Ok) (view (begunReadWith q mask (askingByB q mask t) t))
+  b-fair extra =
+      read-left (with-state askingKeys) (sendAsk q coordinator (t .links))
+      (started-others askingKeys mask (readsOf t) q (t .clients) (has-row t q ready))
+      (link-put (t .links) q coordinator ask (omega arith) (has-link t q ready coordinator (omega arith)) ask-fits)
+      (λ r d. link-put-other (t .links) q coordinator ask (omega arith) r d)
+      (read-b-kept floor (view t) h tied (few t q ready) q (in-range t q ready) resting-state mask bound (mask-some mask (serversOf t) (few t q ready) w) (rowOf (with-state askingKeys) q)
+      (word-of askingKeys maskField (omega arith) (started-mask askingKeys mask (readsOf t) q (t .clients) (has-row t q ready)))
+      (word-of askingKeys countField (omega arith) (count-of askingKeys))
+      extra
+      (word-of askingKeys stateField (omega arith) (started-state askingKeys mask (readsOf t) q (t .clients) (has-row t q ready))))
+
+  c-fair : h .extra ≡ 2 → Kept floor h (begun-read q mask Ok) (view (begunReadWith q mask (askingByC q mask t) t))
+  c-fair extra =
+      read-left (with-state askingAll) (sendAsk q coordinator sent)
+      (started-others askingAll mask (readsOf t) q (t .clients) (has-row t q ready))
+      (link-put sent q coordinator ask (omega arith) (rw (sent-length q (λ i. ask) (λ i. ask-fits) mask (serversOf t) small bound (t .links) long empty) (has-link t q ready coordinator (omega arith))) ask-fits
+      ∙ ap (λ (l : ℕ → Content). changed l coordinator ask) (sent-links q (λ i. ask) (λ i. ask-fits) mask (serversOf t) small bound (t .links) long empty))
+      (λ r d. link-put-other sent q coordinator ask (omega arith) r d ∙ sent-others q (λ i. ask) (λ i. ask-fits) mask (serversOf t) small bound (t .links) long empty r d)
+      (read-c-kept floor (view t) h tied (few t q ready) q (in-range t q ready) resting-state mask bound (mask-some mask (serversOf t) (few t q ready) w) (rowOf (with-state askingAll) q)
+      (word-of askingAll maskField (omega arith) (started-mask askingAll mask (readsOf t) q (t .clients) (has-row t q ready)))
+      (word-of askingAll countField (omega arith) (count-of askingAll))
+      extra
+      (word-of askingAll stateField (omega arith) (started-state askingAll mask (readsOf t) q (t .clients) (has-row t q ready))))
+    where
+      sent : List ℕ
+      sent = sentAsks q mask (serversOf t) (t .links)
+
+  pub read-fair : Kept floor h (begun-read q mask Ok) (view (begunRead q mask t))
+  unfolding begunRead
+  read-fair =
+      let extra : h .extra ≡ extraOf (methodOf t) = tied .method in
+      by-test (eqb (methodOf t) 1)
+      (λ a. rw a (a-fair (rw a at extra)))
+      (λ a. by-test (eqb (methodOf t) 2)
+      (λ b. rw (a, b) (b-fair (rw a at extra)))
+      (λ b. rw (a, b) (c-fair (rw a at extra))))
