@@ -148,8 +148,7 @@ module _ (floor : ℕ → ℕ) (p : Press) (h : History) (tied : Tied floor p h)
     read-c-kept two state =
         let total : toCome (changed (sends mask asks) coordinator ask) + weight (sends mask asks coordinator) ≡ toCome (sends mask asks) + 2 = come-changed (sends mask asks) coordinator ask (omega arith) in
         let head : weight (sends mask asks coordinator) ≡ 0 = ap weight (sends-other mask asks coordinator no-head) in
-        let servers : toCome (sends mask asks) ≡ 2 * serversIn mask = sends-come mask asks (λ i. refl) no-head in
-        (
+        let servers : toCome (sends mask asks) ≡ 2 * serversIn mask = sends-come mask asks (λ i. refl) no-head in (
           (idling .is, omega arith),
           rw (idling .is) (begun-tied floor p h tied q new _ (record {
             latest = latest′;

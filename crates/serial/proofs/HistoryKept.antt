@@ -74,7 +74,7 @@ module _ (tagsAt : ℕ → ℕ) (clock tags : ℕ) where
   rising-on old l e r c d h k =
       by-equal d (suc clock)
       (λ q. rw (q, changed-same tagsAt (suc clock) tags)
-          (changed-all tagsAt (suc clock) tags (λ x a. x ≤ suc clock → a ≤ tags) (λ m. omega arith) (λ j ne m. omega (arith, r j clock (omega arith) (omega arith))) c (omega arith)))
+      (changed-all tagsAt (suc clock) tags (λ x a. x ≤ suc clock → a ≤ tags) (λ m. omega arith) (λ j ne m. omega (arith, r j clock (omega arith) (omega arith))) c (omega arith)))
       (λ q. omega (arith, before c (omega arith), before d (omega arith), r c d h (omega arith)))
 
 module _ (tagsAt floor : ℕ → ℕ) (h : History) (ok : HistoryOk tagsAt floor h) where

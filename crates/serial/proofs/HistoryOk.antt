@@ -109,8 +109,7 @@ module _ (tagsAt floor : ℕ → ℕ) (h : History) (ok : HistoryOk tagsAt floor
       let before = walk-to tag (omega arith) in
       let here = walk-reads (valueIn h (suc tag)) (readsOf (suc tag) (h .reads)) (segment (suc tag)) in
       let kind : h .write (suc tag) .isWrite ≡ true = ok .writes (suc tag) (omega arith) l .kind in
-      let step : walked (valueIn h tag) (h .write (suc tag)) ≡ valueIn h (suc tag) = fun-ext (λ i. rw kind) in
-      (
+      let step : walked (valueIn h tag) (h .write (suc tag)) ≡ valueIn h (suc tag) = fun-ext (λ i. rw kind) in (
         walk-append (h .initial) (rowTo h tag) _ (before .0) (rw (before .1) (λ e. absurd (not-both kind e), rw step (here .0))),
         behind-append (h .initial) (rowTo h tag) _
             ∙ ap (λ (v : ℕ → ℕ). behind (walked v (h .write (suc tag))) (readsOf (suc tag) (h .reads))) (before .1)

@@ -17,3 +17,5 @@ pub mod Ready
 pub mod RequestSteps
 pub mod ReplySteps
 pub mod BeginSteps
+pub mod OpeningStep
+pub mod Theorem

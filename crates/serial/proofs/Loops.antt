@@ -156,7 +156,7 @@ module _ (links : List ℕ) (q : ℕ) where
   pub none-come : pending links q ≡ false → toCome (linksOf links q) ≡ 0
   none-come e =
       let z = sum-most (λ i. weight (linksOf links q i)) 0 targets (λ i l.
-          by-test (full i)
-          (λ b. absurd (not-both (any-at full targets i l b) e))
-          (λ b. rw (within-at targets Nothing (contentIn links q) i l, empty-weight (contentIn links q i) (not-false _ b)) (omega arith))) in
+      by-test (full i)
+      (λ b. absurd (not-both (any-at full targets i l b) e))
+      (λ b. rw (within-at targets Nothing (contentIn links q) i l, empty-weight (contentIn links q i) (not-false _ b)) (omega arith))) in
       omega arith

@@ -82,8 +82,7 @@ module _ (floor : ℕ → ℕ) (p : Press) (h : History) (tied : Tied floor p h)
       pub done-next-kept : toCome emptied ≡ 0 → (row : ℕ → ℕ) → row stateField ≡ entering → row countField ≡ countIn c → row maskField ≡ maskIn c →
           Kept floor h (replied q i (nothingShown arrival.Next)) (afterwards (clientOf row (changed emptied coordinator (request (keyOf (countIn c) q) (maskIn c)))))
       done-next-kept all row state count mask =
-          let enter = request (keyOf (countIn c) q) (maskIn c) in
-          (
+          let enter = request (keyOf (countIn c) q) (maskIn c) in (
             rw (a .is) tt,
             rw (a .is) (moved-tied floor p h tied q (clientOf row (changed emptied coordinator enter)) (record {
               latest = λ j n v e. omega (arith, okay .latest j n v e, count);
@@ -162,9 +161,9 @@ module _ (floor : ℕ → ℕ) (p : Press) (h : History) (tied : Tied floor p h)
           count = omega (arith, a .count, come);
         },
         rw (a .is) (
-          let t = turned-tied floor p h tied q got nothing (record { latest = λ j n v e. omega (arith, okay .latest j n v e, count); activity = at-rest state (record { is = refl; links = all-empty emptied all }) }) in
-          record { method = t .method; entries = t .entries; room = t .room; value = t .value; clients = t .clients }
-        ),
+            let t = turned-tied floor p h tied q got nothing (record { latest = λ j n v e. omega (arith, okay .latest j n v e, count); activity = at-rest state (record { is = refl; links = all-empty emptied all }) }) in
+            record { method = t .method; entries = t .entries; room = t .room; value = t .value; clients = t .clients }
+            ),
       )
         where
           here : (j : ℕ) → hasServer (maskIn c) j ≡ true → row (setpointsField + j) ≡ x .value (tagIn c) j
@@ -246,7 +245,7 @@ module _ (floor : ℕ → ℕ) (p : Press) (h : History) (tied : Tied floor p h)
             let l : j < s .servers = a .bound j m in
             let v = versionWord (s .values) j (versionAt (s .keys) (s .log) j tag (received j)) in
             let has : hasVersion (s .keys) (s .log) received tag j ≡ true
-                = rw m at (all-at (λ i. cond (hasServer (maskIn c) i) (hasVersion (s .keys) (s .log) received tag i) true) (s .servers) tag-fits j l) in
+            = rw m at (all-at (λ i. cond (hasServer (maskIn c) i) (hasVersion (s .keys) (s .log) received tag i) true) (s .servers) tag-fits j l) in
             let found = found-more (s .keys) (s .values) j (x .key tag j) (received j) (s .held j) v (snapshot j (omega arith) .1 m .0) (place-found (s .keys) (s .values) j (x .key tag j) (received j) (ltb-true _ _ has)) in
             Option·some-injective _ _ (sym found ∙ tied .value tag high j l)
 
@@ -265,9 +264,9 @@ module _ (floor : ℕ → ℕ) (p : Press) (h : History) (tied : Tied floor p h)
             count = omega (arith, a .count, come);
           },
           rw (a .is) (
-            let t = turned-tied floor p h tied q (clientOf row′ emptied) nothing (record { latest = λ j n v e. omega (arith, okay .latest j n v e, count); activity = at-rest state (record { is = refl; links = all-empty emptied all }) }) in
-            record { method = t .method; entries = t .entries; room = t .room; value = t .value; clients = t .clients }
-          ),
+              let t = turned-tied floor p h tied q (clientOf row′ emptied) nothing (record { latest = λ j n v e. omega (arith, okay .latest j n v e, count); activity = at-rest state (record { is = refl; links = all-empty emptied all }) }) in
+              record { method = t .method; entries = t .entries; room = t .room; value = t .value; clients = t .clients }
+              ),
         )
 
   -- The head's reply: nothing is on the other links.
@@ -278,8 +277,7 @@ module _ (floor : ℕ → ℕ) (p : Press) (h : History) (tied : Tied floor p h)
   pub entered-kept : (w : Contents) → c .link coordinator ≡ Reply w → Entering (h .extra) x (floor q) q c (h .doing q) → (row : ℕ → ℕ) → row stateField ≡ idle → row countField ≡ countIn c →
       Kept floor h (replied q coordinator (nothingShown (arrival.Write (w .number)))) (afterwards (clientOf row (changed (c .link) coordinator Nothing)))
   entered-kept w lk a row state count =
-      let is : h .doing q ≡ tagged (w .number) = rw lk at (a .head) in
-      (
+      let is : h .doing q ≡ tagged (w .number) = rw lk at (a .head) in (
         is,
         rw is record {
           method = tied .method;
@@ -318,9 +316,8 @@ module _ (floor : ℕ → ℕ) (p : Press) (h : History) (tied : Tied floor p h)
       let head : (a .deliveries ≡ 1) × (floor q < w .number) × (w .number ≤ suc (h .tags)) = rw lk at (a .head) in
       let gets : ℕ → Content = λ i. request (latestKey (s .log) i (w .number - 1)) 0 in
       let no-head : hasServer (maskIn c) coordinator ≡ false
-          = by-test (hasServer (maskIn c) coordinator) (λ e. let z : ⊥ = omega (arith, a .bound coordinator e) in absurd z) (λ e. e) in
-      let total : toCome (sends (maskIn c) gets) ≡ 2 * serversIn (maskIn c) = sends-come (maskIn c) gets (λ i. refl) no-head in
-      (
+      = by-test (hasServer (maskIn c) coordinator) (λ e. let z : ⊥ = omega (arith, a .bound coordinator e) in absurd z) (λ e. e) in
+      let total : toCome (sends (maskIn c) gets) ≡ 2 * serversIn (maskIn c) = sends-come (maskIn c) gets (λ i. refl) no-head in (
         rw (a .is) (omega (arith, a .two, a .some, head .0)),
         rw (a .is) (turned-tied floor p h tied q (clientOf row (sends (maskIn c) gets)) _ (record {
           latest = λ j n v e. omega (arith, okay .latest j n v e, count);

@@ -147,16 +147,16 @@ module _ (floor : ℕ → ℕ) (t : Tables) (h : History) (tied : Tied floor (vi
     done-fair state a =
         by-test (pending (emptied q i t) q)
         (λ b. rw b (
-          moved-fair (t .clients) (emptied q i t) (t .writes) (t .reads) (nothingShown arrival.Wait) refl (λ r d. refl) gone-links gone-others
-          (done-wait-kept floor (view t) h tied (few t q ready) q (in-range t q ready) i hi w link a state)
+        moved-fair (t .clients) (emptied q i t) (t .writes) (t .reads) (nothingShown arrival.Wait) refl (λ r d. refl) gone-links gone-others
+        (done-wait-kept floor (view t) h tied (few t q ready) q (in-range t q ready) i hi w link a state)
         ))
         (λ b. rw b (
-          moved-fair (putClientWord (t .clients) q stateField entering) (putLink (emptied q i t) q coordinator enter) (t .writes) (t .reads) (nothingShown arrival.Next)
-          (one-word stateField entering (omega arith)) (one-others stateField entering (omega arith))
-          (link-put (emptied q i t) q coordinator enter (omega arith) (rw (link-length (t .links) q i Nothing) (has-link t q ready coordinator (omega arith))) fits ∙ ap₂ (λ (l : ℕ → Content) (x : Content). changed l coordinator x) gone-links enter-is)
-          (λ r d. link-put-other (emptied q i t) q coordinator enter (omega arith) r d ∙ gone-others r d)
-          (done-next-kept floor (view t) h tied (few t q ready) q (in-range t q ready) i hi w link a (none-left b) (changed (c .row) stateField entering)
-          (changed-same (c .row) stateField entering) (changed-other (c .row) stateField entering countField (λ e. omega arith)) (changed-other (c .row) stateField entering maskField (λ e. omega arith)))
+        moved-fair (putClientWord (t .clients) q stateField entering) (putLink (emptied q i t) q coordinator enter) (t .writes) (t .reads) (nothingShown arrival.Next)
+        (one-word stateField entering (omega arith)) (one-others stateField entering (omega arith))
+        (link-put (emptied q i t) q coordinator enter (omega arith) (rw (link-length (t .links) q i Nothing) (has-link t q ready coordinator (omega arith))) fits ∙ ap₂ (λ (l : ℕ → Content) (x : Content). changed l coordinator x) gone-links enter-is)
+        (λ r d. link-put-other (emptied q i t) q coordinator enter (omega arith) r d ∙ gone-others r d)
+        (done-next-kept floor (view t) h tied (few t q ready) q (in-range t q ready) i hi w link a (none-left b) (changed (c .row) stateField entering)
+        (changed-same (c .row) stateField entering) (changed-other (c .row) stateField entering countField (λ e. omega arith)) (changed-other (c .row) stateField entering maskField (λ e. omega arith)))
         ))
       where
         enter : Content
@@ -221,22 +221,22 @@ module _ (floor : ℕ → ℕ) (t : Tables) (h : History) (tied : Tied floor (vi
     got-fair state a =
         by-test (pending (emptied q i t) q)
         (λ b. rw b (
-          moved-fair (gotSetpoint w q i t) (emptied q i t) (t .writes) (t .reads) (nothingShown arrival.Wait)
-          (one-word (setpointsField + i) (w .number) (omega arith)) (one-others (setpointsField + i) (w .number) (omega arith)) gone-links gone-others
-          (got-wait-kept floor (view t) h tied (few t q ready) q (in-range t q ready) i hi w link a row
-          (other-word countField (λ e. omega arith)) (other-word maskField (λ e. omega arith)) (other-word tagField (λ e. omega arith))
-          (changed-same (c .row) (setpointsField + i) (w .number)) (λ j d. other-word (setpointsField + j) (λ e. d (omega arith)))
-          (come b) (other-word stateField (λ e. omega arith) ∙ state))
+        moved-fair (gotSetpoint w q i t) (emptied q i t) (t .writes) (t .reads) (nothingShown arrival.Wait)
+        (one-word (setpointsField + i) (w .number) (omega arith)) (one-others (setpointsField + i) (w .number) (omega arith)) gone-links gone-others
+        (got-wait-kept floor (view t) h tied (few t q ready) q (in-range t q ready) i hi w link a row
+        (other-word countField (λ e. omega arith)) (other-word maskField (λ e. omega arith)) (other-word tagField (λ e. omega arith))
+        (changed-same (c .row) (setpointsField + i) (w .number)) (λ j d. other-word (setpointsField + j) (λ e. d (omega arith)))
+        (come b) (other-word stateField (λ e. omega arith) ∙ state))
         ))
         (λ b. rw (b, ← row-at t q tagField (omega arith)) (
-          moved-fair (putClientWord (gotSetpoint w q i t) q stateField idle) (emptied q i t) (t .writes)
-          (endedRecord (recordOf t q) (nextStep t) (taggedRecord (recordOf t q) (tagIn c) (t .reads))) (readShown (tagIn c) (gotSetpoint w q i t) q (maskOf t q))
-          (two-words (setpointsField + i) (w .number) stateField idle (omega arith) (omega arith)) (two-others (setpointsField + i) (w .number) stateField idle (omega arith) (omega arith)) gone-links gone-others
-          (got-end-kept floor (view t) h tied (few t q ready) q (in-range t q ready) i hi w link a ended
-          (ended-word countField (λ e. omega arith) (λ e. omega arith)) (ended-word maskField (λ e. omega arith) (λ e. omega arith)) (ended-word tagField (λ e. omega arith) (λ e. omega arith))
-          (changed-other row stateField idle (setpointsField + i) (λ e. omega arith) ∙ changed-same (c .row) (setpointsField + i) (w .number)) (λ j d. ended-word (setpointsField + j) (λ e. d (omega arith)) (λ e. omega arith))
-          (none-left b) (changed-same row stateField idle)
-          (shownSetpoints (gotSetpoint w q i t) q (maskOf t q)) shows)
+        moved-fair (putClientWord (gotSetpoint w q i t) q stateField idle) (emptied q i t) (t .writes)
+        (endedRecord (recordOf t q) (nextStep t) (taggedRecord (recordOf t q) (tagIn c) (t .reads))) (readShown (tagIn c) (gotSetpoint w q i t) q (maskOf t q))
+        (two-words (setpointsField + i) (w .number) stateField idle (omega arith) (omega arith)) (two-others (setpointsField + i) (w .number) stateField idle (omega arith) (omega arith)) gone-links gone-others
+        (got-end-kept floor (view t) h tied (few t q ready) q (in-range t q ready) i hi w link a ended
+        (ended-word countField (λ e. omega arith) (λ e. omega arith)) (ended-word maskField (λ e. omega arith) (λ e. omega arith)) (ended-word tagField (λ e. omega arith) (λ e. omega arith))
+        (changed-other row stateField idle (setpointsField + i) (λ e. omega arith) ∙ changed-same (c .row) (setpointsField + i) (w .number)) (λ j d. ended-word (setpointsField + j) (λ e. d (omega arith)) (λ e. omega arith))
+        (none-left b) (changed-same row stateField idle)
+        (shownSetpoints (gotSetpoint w q i t) q (maskOf t q)) shows)
         ))
       where
         row : ℕ → ℕ
@@ -265,17 +265,17 @@ module _ (floor : ℕ → ℕ) (t : Tables) (h : History) (tied : Tied floor (vi
     all-fair state a =
         by-test (pending (emptied q i t) q)
         (λ b. rw b (
-          moved-fair told (emptied q i t) (t .writes) (t .reads) (nothingShown arrival.Wait)
-          told-row (one-others (receivedField + i) (w .number) (omega arith)) gone-links gone-others
-          (told-wait-kept floor (view t) h tied (few t q ready) q (in-range t q ready) i hi w link a row (other-word maskField (λ e. omega arith)) new old
-          (come b) (other-word stateField (λ e. omega arith) ∙ state) (other-word countField (λ e. omega arith)))
+        moved-fair told (emptied q i t) (t .writes) (t .reads) (nothingShown arrival.Wait)
+        told-row (one-others (receivedField + i) (w .number) (omega arith)) gone-links gone-others
+        (told-wait-kept floor (view t) h tied (few t q ready) q (in-range t q ready) i hi w link a row (other-word maskField (λ e. omega arith)) new old
+        (come b) (other-word stateField (λ e. omega arith) ∙ state) (other-word countField (λ e. omega arith)))
         ))
         (λ b. rw b (
-          moved-fair (putClientWord (concluded tag told q t) q stateField idle) (emptied q i t) (t .writes)
-          (endedRecord (recordOf t q) (nextStep t) (taggedRecord (recordOf t q) tag (t .reads))) (readShown tag (concluded tag told q t) q (maskOf t q))
-          refl ended-others gone-links gone-others
-          (told-end-kept floor (view t) h tied (few t q ready) q (in-range t q ready) i hi w link a row (other-word maskField (λ e. omega arith)) new old
-          (none-left b) (receivedIn told q) same (rowOf (putClientWord (concluded tag told q t) q stateField idle) q) ended-state ended-count (shownSetpoints (concluded tag told q t) q (maskOf t q)) shows)
+        moved-fair (putClientWord (concluded tag told q t) q stateField idle) (emptied q i t) (t .writes)
+        (endedRecord (recordOf t q) (nextStep t) (taggedRecord (recordOf t q) tag (t .reads))) (readShown tag (concluded tag told q t) q (maskOf t q))
+        refl ended-others gone-links gone-others
+        (told-end-kept floor (view t) h tied (few t q ready) q (in-range t q ready) i hi w link a row (other-word maskField (λ e. omega arith)) new old
+        (none-left b) (receivedIn told q) same (rowOf (putClientWord (concluded tag told q t) q stateField idle) q) ended-state ended-count (shownSetpoints (concluded tag told q t) q (maskOf t q)) shows)
         ))
       where
         told : List ℕ

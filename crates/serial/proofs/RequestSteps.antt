@@ -105,12 +105,12 @@ module _ (floor : ℕ → ℕ) (t : Tables) (h : History) (tied : Tied floor (vi
     set-fair state a =
         by-test (ltb (heldOf t i) serverPlaces)
         (λ b. rw b (
-          let room = ltb-true _ _ b in
-          let l : i < serversOf t = rw link at (a .links i hi) .2 in
-          replied-fair (set (t .counts) (heldField + i) (heldOf t i + 1)) (putVersionWord (t .keys) i (heldOf t i) (keyWord (w .key))) (putVersionWord (t .values) i (heldOf t i) (w .number)) (t .log) (t .writes) 0
-          (versionMore (sharedOf t) i (keyWord (w .key)) (w .number))
-          (shared-held (t .counts) i (heldOf t i + 1) _ _ _ (omega (arith, few t q ready, ready .sound .long .counts)) ∙ rw (add-one (heldOf t i)))
-          (set-kept floor (view t) h tied (few t q ready) q (in-range t q ready) i w link hi state a (has-keys t q ready i l) (has-values t q ready i l) room)
+        let room = ltb-true _ _ b in
+        let l : i < serversOf t = rw link at (a .links i hi) .2 in
+        replied-fair (set (t .counts) (heldField + i) (heldOf t i + 1)) (putVersionWord (t .keys) i (heldOf t i) (keyWord (w .key))) (putVersionWord (t .values) i (heldOf t i) (w .number)) (t .log) (t .writes) 0
+        (versionMore (sharedOf t) i (keyWord (w .key)) (w .number))
+        (shared-held (t .counts) i (heldOf t i + 1) _ _ _ (omega (arith, few t q ready, ready .sound .long .counts)) ∙ rw (add-one (heldOf t i)))
+        (set-kept floor (view t) h tied (few t q ready) q (in-range t q ready) i w link hi state a (has-keys t q ready i l) (has-values t q ready i l) room)
         ))
         (λ b. rw b (refused-fair 8))
 
@@ -120,13 +120,13 @@ module _ (floor : ℕ → ℕ) (t : Tables) (h : History) (tied : Tied floor (vi
     enter-fair at state a =
         by-test (ltb (entriesOf t) logPlaces)
         (λ b. rw b (
-          let room = ltb-true (entriesOf t) logPlaces b in
-          let there : view t .client q .link coordinator ≡ Request w = ap (view t .client q .link) (sym at) ∙ link in
-          let head = rw there at (a .head) in
-          replied-fair (set (t .counts) entriesField (entriesOf t + 1)) (t .keys) (t .values) (putEntry (t .log) (entriesOf t) (w .key) (w .number)) (taggedRecord (recordOf t q) (entriesOf t) (t .writes)) (entriesOf t)
-          (entryMore (sharedOf t) (w .key) (w .number))
-          (shared-entries (t .counts) (entriesOf t + 1) _ _ _ (omega (arith, ready .sound .long .counts)) ∙ rw (add-one (entriesOf t)))
-          (rw at (enter-kept floor (view t) h tied (few t q ready) q (in-range t q ready) w state a (head .0) (head .1) (head .2) (omega (arith, ready .sound .long .log))))
+        let room = ltb-true (entriesOf t) logPlaces b in
+        let there : view t .client q .link coordinator ≡ Request w = ap (view t .client q .link) (sym at) ∙ link in
+        let head = rw there at (a .head) in
+        replied-fair (set (t .counts) entriesField (entriesOf t + 1)) (t .keys) (t .values) (putEntry (t .log) (entriesOf t) (w .key) (w .number)) (taggedRecord (recordOf t q) (entriesOf t) (t .writes)) (entriesOf t)
+        (entryMore (sharedOf t) (w .key) (w .number))
+        (shared-entries (t .counts) (entriesOf t + 1) _ _ _ (omega (arith, ready .sound .long .counts)) ∙ rw (add-one (entriesOf t)))
+        (rw at (enter-kept floor (view t) h tied (few t q ready) q (in-range t q ready) w state a (head .0) (head .1) (head .2) (omega (arith, ready .sound .long .log))))
         ))
         (λ b. rw b (refused-fair 8))
 

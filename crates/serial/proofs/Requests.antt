@@ -151,8 +151,7 @@ module _ (floor : ℕ → ℕ) (p : Press) (h : History) (tied : Tied floor p h)
 
     pub set-kept : Kept floor h (requested q i Ok) (pressOf s′ (changed (p .client) q (withLink c i (reply 0))))
     set-kept =
-        let quiet : eqb i coordinator ≡ false = ne-eqb i coordinator (λ e. omega (arith, link .2)) in
-        (
+        let quiet : eqb i coordinator ≡ false = ne-eqb i coordinator (λ e. omega (arith, link .2)) in (
           rw (a .is) tt,
           rw (quiet, a .is) record {
             method = tied .method;
@@ -258,8 +257,7 @@ module _ (floor : ℕ → ℕ) (p : Press) (h : History) (tied : Tied floor p h)
     read-kept : suc deliveries < enough (h .extra) mask → ClientOk (h .extra) x (floor q) q (withLink c i (reply n)) (reading mask begin (suc deliveries)) →
         Kept floor h (requested q i Ok) (pressOf s (changed (p .client) q (withLink c i (reply n))))
     read-kept more ok =
-        let t = turned-tied floor p h tied q (withLink c i (reply n)) (reading mask begin (suc deliveries)) ok in
-        (
+        let t = turned-tied floor p h tied q (withLink c i (reply n)) (reading mask begin (suc deliveries)) ok in (
           rw is more,
           by-test (eqb i coordinator) (λ e. rw (e, is) t) (λ e. rw (e, is) t),
         )

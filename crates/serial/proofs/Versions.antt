@@ -84,7 +84,7 @@ module _ (keys values : List ℕ) (i n word v : ℕ) (keyed : HasRow serverPlace
   find-before j m key before l =
       let apart : (u : ℕ) → u < m → (j ≡ i) × (u ≡ n) → ⊥ = λ u k e. let z : ⊥ = omega (arith, before (e .0), e .1) in z in
       let same : firstBearing keys′ j key m ≡ firstBearing keys j key m
-          = first-same (bears keys′ j key) (bears keys j key) m (λ u k. ap (λ (x : ℕ). eqb x (keyWord key)) (word-other serverPlaces keys i n word j u room (omega arith) (apart u k))) in
+      = first-same (bears keys′ j key) (bears keys j key) m (λ u k. ap (λ (x : ℕ). eqb x (keyWord key)) (word-other serverPlaces keys i n word j u room (omega arith) (apart u k))) in
       by-test (ltb (firstBearing keys j key m) m)
       (λ b. let k = ltb-true _ _ b in rw (same, b) (ap some (word-other serverPlaces values i n v j (firstBearing keys j key m) room (omega arith) (apart _ k))))
       (λ b. rw (same, b))

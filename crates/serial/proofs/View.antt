@@ -109,9 +109,9 @@ shared-held counts i v keys values log l =
     let servers : countAt (set counts (heldField + i) v) 1 ≡ countAt counts 1 = getD-set-other counts (heldField + i) 1 v 0 (λ e. omega arith) in
     let entries : countAt (set counts (heldField + i) v) 4 ≡ countAt counts 4 = getD-set-other counts (heldField + i) 4 v 0 (λ e. omega arith) in
     let held : _≡_ {A = ℕ → ℕ} (λ j. countAt (set counts (heldField + i) v) (heldField + j)) (changed (λ j. countAt counts (heldField + j)) i v)
-        = fun-ext (changed-all (λ j. countAt counts (heldField + j)) i v (λ j n. countAt (set counts (heldField + i) v) (heldField + j) ≡ n)
-        (getD-set-same counts (heldField + i) v 0 l)
-        (λ j d. getD-set-other counts (heldField + i) (heldField + j) v 0 (λ e. d (omega arith)))) in
+    = fun-ext (changed-all (λ j. countAt counts (heldField + j)) i v (λ j n. countAt (set counts (heldField + i) v) (heldField + j) ≡ n)
+    (getD-set-same counts (heldField + i) v 0 l)
+    (λ j d. getD-set-other counts (heldField + i) (heldField + j) v 0 (λ e. d (omega arith)))) in
     λ z. record { method = method z; servers = servers z; entries = entries z; held = held z; keys = keys; values = values; log = log }
 
 -- one entry more
