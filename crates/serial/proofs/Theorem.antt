@@ -164,7 +164,7 @@ pub record Ran (played : List Played) (h : History) : Type 0 where
   pub history : HistoryOk tagsAt floor h
   pub answered : Each Answers played
 
-pub run-ok : (steps : List Step) (tagsAt floor : ℕ → ℕ) (t : Tables) (h : History) → Tied floor (view t) h → HistoryOk tagsAt floor h → Ran (run steps t) (history (run steps t) h)
+pub run-ok : (steps : List Step) (tagsAt floor : ℕ → ℕ) (t : Tables) (h : History) → Tied floor (view t) h → HistoryOk tagsAt floor h → Ran (run play steps t) (history (run play steps t) h)
 run-ok [] tagsAt floor t h tied ok = record { tagsAt = tagsAt; floor = floor; history = ok; answered = tt }
 run-ok (step ∷ steps) tagsAt floor t h tied ok =
     let x = play step t in
@@ -178,7 +178,7 @@ accepted : (n : ℕ) (x t : Tables) → unless n (left Ok x) t .answer ≡ Ok �
 accepted zero x t e = refl
 accepted (suc n) x t e = let z : _≡_ {A = ℕ} 0 1 = cc in let w : ⊥ = omega arith in absurd w
 
-pub theorem : Demand3
+pub theorem : Demand3 play
 unfolding open′
 theorem method k p setpoints t e steps =
     let number = openRefusal method k p setpoints t in

@@ -11,7 +11,7 @@ use Rattle.tables.specs.Tables.{Tables, contentAt}
 use Rattle.rules.specs.declared.Answer.{Answer}
 use Rattle.rules.specs.declared.Answer.the-variants.{Ok, Refused}
 use Rattle.store.specs.Steps.{open′}
-use Rattle.serial.specs.Steps.{Step, Event, opened, begun-write, begun-read, requested, replied, Played, run}
+use Rattle.serial.specs.Steps.{Step, Event, opened, begun-write, begun-read, requested, replied, Played, Machine, run}
 use Rattle.serial.specs.History.{Transaction, Doing, nothing, writing, tagged, reading, History, openedWith, history}
 use Rattle.serial.specs.Row.{Each, row, Walk, RealTime}
 
@@ -67,10 +67,10 @@ pub record Claim (steps : List Played) (h : History) : Type 0 where
   -- every accepted step belongs to a transaction, and every *write* and *read* ends one of its kind
   pub whose : h .astray ≡ 0
 
--- The whole of it: for every opening that is accepted, with any method, k, p, setpoints and tables, and every list of steps behind it.
--- An accepted opening in the list starts the history anew, so that the claim is of the steps behind the last one.
-abbrev pub Demand3 : Type 0
-Demand3 =
+-- The whole of it, of a machine that plays the steps: for every opening that is accepted, with any method, k, p, setpoints and tables, and every list of steps
+-- behind it. An accepted opening in the list starts the history anew, so that the claim is of the steps behind the last one.
+abbrev pub Demand3 : Machine → Type 0
+Demand3 machine =
     (method k p : ℕ) (setpoints : List ℕ) (t : Tables) → open′ method k p setpoints t .answer ≡ Ok → (steps : List Step) →
-    let played = run steps (open′ method k p setpoints t .tables) in
+    let played = run machine steps (open′ method k p setpoints t .tables) in
     Claim played (history played (openedWith method setpoints))

@@ -20,7 +20,7 @@ use Rattle.rules.specs.Reply.{onSetDone, onEntered, onKeys, onGot, onAll, onRep
 use Rattle.soundness.specs.Sound.{longEnough, pressFits, scalarsSound, keyInRange, serverSound, entrySound, logSound, stateAllowed, uses, requestSound, replySound, contentSound, linkSound, receivedSound, clientSound, writeSound, readSound, openSound, recordsSound, sound}
 use Rattle.store.specs.Refusals.{openRefusal, writeRefusal, readRefusal, deliveryRefusal}
 use Rattle.store.specs.Steps as store
-use Rattle.serial.specs.Steps.{Step, opening, beginning-write, beginning-read, request, reply, run}
+use Rattle.serial.specs.Steps.{Step, opening, beginning-write, beginning-read, request, reply, play, run}
 use Rattle.serial.specs.History.{changed, Transaction, writeOf, readOf, History, openedWith, history}
 use Rattle.serial.specs.Row.{readsOf, rowTo, row}
 
@@ -38,7 +38,7 @@ sample =
     request 1 0 ∷ reply 1 0 ∷ request 1 1 ∷ reply 1 1 ∷ reply 0 16 ∷ []
 
 -- `R 0 1 4 14` and `W 1 0 1 2 15`: the steps count from 0 behind the opening, which is document 01's step 1
-pub sample-row : row (history (run sample start) (openedWith 2 (1200 ∷ 30 ∷ []))) ≡
+pub sample-row : row (history (run play sample start) (openedWith 2 (1200 ∷ 30 ∷ []))) ≡
     readOf 1 3 (1200 ∷ 30 ∷ replicate 14 0) 0 2 12 6 ∷ writeOf 0 3 (1800 ∷ 45 ∷ []) 1 0 (some 13) ∷ []
 unfolding zeros start sample changed readsOf rowTo store.open′ store.beginWrite store.beginRead store.deliverRequest store.deliverReply openRefusal writeRefusal readRefusal deliveryRefusal longEnough pressFits turns sound scalarsSound keyInRange serverSound entrySound logSound stateAllowed uses requestSound replySound contentSound linkSound receivedSound clientSound writeSound readSound openSound recordsSound allBelow anyBelow sumBelow linkAt putLink firstFrom lastBelow appended log.entered begunWrite begunRead onSet onEnter onWhichKeys onGet onGetAll onRequestIn requestDelivered onSetDone onEntered onKeys onGot onAll onReplyIn replyDelivered
 sample-row = refl
