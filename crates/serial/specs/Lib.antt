@@ -4,3 +4,4 @@ pub mod History
 pub mod Row
 pub mod Claim
 pub mod Sample
+pub mod Wrong
