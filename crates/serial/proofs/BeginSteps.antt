@@ -5,7 +5,7 @@ use mathlib.Core.Bool.{Bool, true, false, cond}
 use mathlib.Core.List.{List}
 use native.Mathlib.Omega.{arith}
 use native.Mathlib.Numerals.{add-one}
-use lib.ListN.{getD, set, length}
+use lib.ListN.{getD, set, length, length-set}
 use lib.Dec.{eqb, ltb}
 use borrow.Author.Tests.{ltb-true, ltb-false}
 use Rattle.ranges.specs.Tests.{by-equal, by-test, not-both}
@@ -14,9 +14,9 @@ use Rattle.keys.specs.Keys.{keyOf, opening, FitsByte, at-word-fits}
 use Rattle.keys.specs.Masks.{hasServer, serversIn, Within, no-server, some-server}
 use Rattle.coordinator.specs.Latest.{latestKey}
 use Rattle.tables.specs.Rows.{HasRow, word-same, word-other, word-length}
-use Rattle.tables.specs.Layout.{clientWidth, clientWord, putClientWord, stateField, countField, maskField, tagField, recordField, setpointsField, stepField, writesField, readsField, recordPlaces, countAt}
+use Rattle.tables.specs.Layout.{clientWidth, clientWord, putClientWord, stateField, countField, maskField, tagField, recordField, setpointsField, stepField, writesField, readsField, recordPlaces, countAt, countWords}
 use Rattle.tables.specs.Links.{targets, linkWidth, linkRow, linkAt, putLink, link-length}
-use Rattle.tables.specs.Tables.{Tables, tablesOf, methodOf, serversOf, clientsOf, entriesOf, writesOf, readsOf, stateOf, countOf, contentAt}
+use Rattle.tables.specs.Tables.{Tables, tablesOf, methodOf, serversOf, clientsOf, stepOf, entriesOf, writesOf, readsOf, stateOf, countOf, contentAt}
 use Rattle.tables.specs.declared.links.Content.{Content}
 use Rattle.tables.specs.declared.links.Content.the-variants.{Nothing, Request, Reply}
 use Rattle.rules.specs.Answers.{Left, left}
@@ -28,12 +28,15 @@ use Rattle.soundness.specs.Facts.{Sound}
 use Rattle.serial.specs.Steps.{Event, begun-write, begun-read}
 use Rattle.serial.specs.History.{changed, History, extraOf}
 use Rattle.serial.proofs.Places.{changed-same, changed-other}
-use Rattle.serial.proofs.Press.{Shared, Client, clientOf, Press, pressOf, stateIn, countIn, rowOf, linksOf, sharedOf, view, sends, World, world}
-use Rattle.serial.proofs.View.{within-at, row-put-other, link-put, link-put-other, view-is, sharedIn, shared-other}
+use Rattle.serial.proofs.Press.{Shared, renumbered, Client, clientOf, Press, pressOf, stateIn, countIn, rowOf, linksOf, sharedOf, view, sends, World, world}
+use Rattle.serial.proofs.View.{within-at, row-put-other, link-put, link-put-other, view-is, sharedIn, shared-step, shared-writes, shared-reads}
 use Rattle.serial.proofs.Loops.{HasLinks, sent-links, sent-others, sent-length, stored-others, stored-word}
 use Rattle.serial.proofs.Ready.{Ready, few, in-range, has-row, has-link, row-at, link-at}
 use Rattle.serial.proofs.Invariant.{Idle, ClientOk, Tied}
 use Rattle.serial.proofs.Kept.{Kept, resting}
+use Rattle.serial.proofs.Links.{come-changed, come-none, sends-come}
+use Rattle.serial.proofs.Budget.{Budget, no-rest, few-servers}
+use Rattle.serial.proofs.Spending.{write-budget, read-budget}
 use Rattle.serial.proofs.Begins.{write-kept, read-a-kept, read-b-kept, read-c-kept}
 
 -- a begin's state, mask and place of its record
@@ -88,7 +91,7 @@ mask-some mask k l w =
     let s = some-server mask k w in
     omega (arith, sum-part (λ i. one (hasServer mask i)) 16 (s .0) (omega (arith, s .1)), one-true (s .2))
 
-module _ (floor : ℕ → ℕ) (t : Tables) (h : History) (tied : Tied floor (view t) h) (q : ℕ) (ready : Ready t q) (rest : stateOf t q ≡ idle) (mask : ℕ) (w : Within mask (serversOf t)) where
+module _ (floor : ℕ → ℕ) (t : Tables) (h : History) (tied : Tied floor (view t) h) (budget : Budget (view t)) (q : ℕ) (ready : Ready t q) (rest : stateOf t q ≡ idle) (mask : ℕ) (w : Within mask (serversOf t)) where
   abbrev c : Client
   c = view t .client q
 
@@ -107,14 +110,35 @@ module _ (floor : ℕ → ℕ) (t : Tables) (h : History) (tied : Tied floor (vi
   bound : (i : ℕ) → hasServer mask i ≡ true → i < serversOf t
   bound = mask-bound mask (serversOf t) w
 
+  some-masked : 0 < serversIn mask
+  some-masked = mask-some mask (serversOf t) (few t q ready) w
+
+  no-head : hasServer mask coordinator ≡ false
+  no-head = no-server mask (serversOf t) coordinator (w .below) (few t q ready)
+
+  -- the begin keeps the tie and the budget, and pays what it owes
+  abbrev pub Fair : Event → Tables → Type 0
+  Fair event left = Kept floor h event (view left) × Budget (view left)
+
   small : serversOf t ≤ targets
   small = omega (arith, few t q ready)
 
-  -- the counts that a begin changes are none of those shared
-  begun-shared : (field : ℕ) → (field ≡ 0 → ⊥) → (field ≡ 1 → ⊥) → (field ≡ 4 → ⊥) → field < 7 → sharedIn (begunCounts field (t .counts)) (t .keys) (t .values) (t .log) ≡ sharedOf t
-  begun-shared field a b d e =
-      shared-other (set (t .counts) field (countAt (t .counts) field + 1)) stepField _ (t .keys) (t .values) (t .log) (λ z. omega arith) (λ z. omega arith) (λ z. omega arith) (omega arith)
-      ∙ shared-other (t .counts) field _ (t .keys) (t .values) (t .log) a b d e
+  -- what is shared after a begin: one step more, and one transaction of its kind
+  abbrev step′ : ℕ
+  step′ = stepOf t + 1
+
+  counts-long : countWords ≤ length (t .counts)
+  counts-long = ready .sound .long .counts
+
+  writes-shared : sharedIn (begunCounts writesField (t .counts)) (t .keys) (t .values) (t .log) ≡ renumbered step′ (writesOf t + 1) (readsOf t) (sharedOf t)
+  writes-shared =
+      shared-step (set (t .counts) writesField (writesOf t + 1)) step′ (t .keys) (t .values) (t .log) (rw (length-set (t .counts) writesField (writesOf t + 1)) counts-long)
+      ∙ ap (λ (x : Shared). renumbered step′ (x .writes) (x .reads) x) (shared-writes (t .counts) (writesOf t + 1) (t .keys) (t .values) (t .log) counts-long)
+
+  reads-shared : sharedIn (begunCounts readsField (t .counts)) (t .keys) (t .values) (t .log) ≡ renumbered step′ (writesOf t) (readsOf t + 1) (sharedOf t)
+  reads-shared =
+      shared-step (set (t .counts) readsField (readsOf t + 1)) step′ (t .keys) (t .values) (t .log) (rw (length-set (t .counts) readsField (readsOf t + 1)) counts-long)
+      ∙ ap (λ (x : Shared). renumbered step′ (x .writes) (x .reads) x) (shared-reads (t .counts) (readsOf t + 1) (t .keys) (t .values) (t .log) counts-long)
 
   module _ (setpoints : List ℕ) (free : writesOf t < recordPlaces) where
     abbrev begunClients : List ℕ
@@ -153,33 +177,47 @@ module _ (floor : ℕ → ℕ) (t : Tables) (h : History) (tied : Tied floor (vi
     fits : (i : ℕ) → FitsByte (keyOf (nextCount t q) q)
     fits i = record { count = omega (arith, few-counts, next-count); client = omega (arith, in-range t q ready) }
 
-    pub write-fair : Kept floor h (begun-write q mask setpoints Ok) (view (begunWrite q mask setpoints t))
+    abbrev begun : Client
+    begun = clientOf (rowOf clients′ q) (sends mask (sets (suc (countIn c))))
+
+    begun-state : stateIn begun ≡ rules.writing
+    begun-state = other-word stateField (omega arith) (λ e. omega arith) ∙ started-state rules.writing mask (writesOf t) q (t .clients) (has-row t q ready)
+
+    seen : view (begunWrite q mask setpoints t) ≡ pressOf (renumbered step′ (writesOf t + 1) (readsOf t) (sharedOf t)) (changed (view t .client) q begun)
     unfolding begunWrite
-    write-fair =
-        subst (λ (v : Press). Kept floor h (begun-write q mask setpoints Ok) v)
-        (sym (view-is t (begunWrite q mask setpoints t) q (begun-shared writesField (λ e. omega arith) (λ e. omega arith) (λ e. omega arith) (omega arith)) refl
+    seen =
+        view-is t (begunWrite q mask setpoints t) q writes-shared refl
         (sent-links q (sets (nextCount t q)) fits mask (serversOf t) small bound (t .links) long empty ∙ ap (λ (n : ℕ). sends mask (sets n)) next-count)
         (λ r d. stored-others q setpointsField value (λ i. true) (serversOf t) room begunClients r d
         ∙ row-put-other (startedClient rules.writing mask (writesOf t) q (t .clients)) q countField (nextCount t q) (omega arith) r d
         ∙ started-others rules.writing mask (writesOf t) q (t .clients) (has-row t q ready) r d)
-        (λ r d. sent-others q (sets (nextCount t q)) fits mask (serversOf t) small bound (t .links) long empty r d)))
-        (write-kept floor (view t) h tied (few t q ready) q (in-range t q ready) resting-state mask bound (mask-some mask (serversOf t) (few t q ready) w) (rowOf clients′ q)
-        (other-word maskField (omega arith) (λ e. omega arith) ∙ started-mask rules.writing mask (writesOf t) q (t .clients) (has-row t q ready))
-        setpoints
-        (other-word stateField (omega arith) (λ e. omega arith) ∙ started-state rules.writing mask (writesOf t) q (t .clients) (has-row t q ready))
-        (begun-word countField (omega arith) ∙ word-same clientWidth (startedClient rules.writing mask (writesOf t) q (t .clients)) q countField (nextCount t q) has-begun (omega arith) ∙ next-count)
-        few-counts)
+        (λ r d. sent-others q (sets (nextCount t q)) fits mask (serversOf t) small bound (t .links) long empty r d)
+
+    pub write-fair : Fair (begun-write q mask setpoints Ok) (begunWrite q mask setpoints t)
+    write-fair = (
+      subst (λ (v : Press). Kept floor h (begun-write q mask setpoints Ok) v) (sym seen)
+          (write-kept floor (view t) h tied (few t q ready) q (in-range t q ready) resting-state mask bound some-masked (rowOf clients′ q)
+          (other-word maskField (omega arith) (λ e. omega arith) ∙ started-mask rules.writing mask (writesOf t) q (t .clients) (has-row t q ready)) step′ (writesOf t + 1) (readsOf t)
+          setpoints begun-state
+          (begun-word countField (omega arith) ∙ word-same clientWidth (startedClient rules.writing mask (writesOf t) q (t .clients)) q countField (nextCount t q) has-begun (omega arith) ∙ next-count)
+          few-counts),
+      subst Budget (sym seen)
+          (write-budget (view t) budget q (in-range t q ready) free begun begun-state (omega (arith, sends-come mask (sets (suc (countIn c))) (λ i. refl) no-head, few-servers mask))),
+    )
 
   -- a READ that leaves the client's row and links so
   module _ (clients′ links′ : List ℕ) where
     abbrev readLeft : Tables
     readLeft = begunReadWith q mask (asking clients′ links′) t
 
+    abbrev readPress : (ℕ → Content) → Press
+    readPress link = pressOf (renumbered step′ (writesOf t) (readsOf t + 1) (sharedOf t)) (changed (view t .client) q (clientOf (rowOf clients′ q) link))
+
     read-left : {link : ℕ → Content} → ((r : ℕ) → (r ≡ q → ⊥) → rowOf clients′ r ≡ rowOf (t .clients) r) → linksOf links′ q ≡ link → ((r : ℕ) → (r ≡ q → ⊥) → linksOf links′ r ≡ linksOf (t .links) r) →
-        Kept floor h (begun-read q mask Ok) (pressOf (sharedOf t) (changed (view t .client) q (clientOf (rowOf clients′ q) link))) → Kept floor h (begun-read q mask Ok) (view readLeft)
-    read-left other-rows link-is other-links k =
-        subst (λ (v : Press). Kept floor h (begun-read q mask Ok) v)
-        (sym (view-is t readLeft q (begun-shared readsField (λ e. omega arith) (λ e. omega arith) (λ e. omega arith) (omega arith)) refl link-is other-rows other-links)) k
+        Kept floor h (begun-read q mask Ok) (readPress link) → Budget (readPress link) → Fair (begun-read q mask Ok) readLeft
+    read-left other-rows link-is other-links k b =
+        let seen = view-is t readLeft q reads-shared refl link-is other-rows other-links in
+        (subst (λ (v : Press). Kept floor h (begun-read q mask Ok) v) (sym seen) k, subst Budget (sym seen) b)
 
   abbrev ask : Content
   ask = request opening 0
@@ -196,18 +234,18 @@ module _ (floor : ℕ → ℕ) (t : Tables) (h : History) (tied : Tied floor (vi
   count-of : (state : ℕ) → clientWord (with-state state) q countField ≡ countIn c
   count-of state = started-count state mask (readsOf t) q (t .clients) (has-row t q ready) ∙ sym (row-at t q countField (omega arith))
 
-  a-fair : h .extra ≡ 0 → Kept floor h (begun-read q mask Ok) (view (begunReadWith q mask (askingByA q mask t) t))
-  a-fair extra =
+  a-fair : readsOf t < recordPlaces → h .extra ≡ 0 → Fair (begun-read q mask Ok) (begunReadWith q mask (askingByA q mask t) t)
+  a-fair free extra =
       read-left clients′ (sentGets q mask (t .log) (lastTag t) (serversOf t) (t .links))
       (λ r d. row-put-other (with-state askingSetpoints) q tagField (lastTag t) (omega arith) r d ∙ started-others askingSetpoints mask (readsOf t) q (t .clients) (has-row t q ready) r d)
       (sent-links q (gets (lastTag t)) (λ i. at-word-fits _) mask (serversOf t) small bound (t .links) long empty ∙ ap (λ (n : ℕ). sends mask (gets n)) (sym tag-is))
       (λ r d. sent-others q (gets (lastTag t)) (λ i. at-word-fits _) mask (serversOf t) small bound (t .links) long empty r d)
-      (read-a-kept floor (view t) h tied (few t q ready) q (in-range t q ready) resting-state mask bound (mask-some mask (serversOf t) (few t q ready) w) (rowOf clients′ q)
-      (word maskField (omega arith) (λ e. omega arith) ∙ started-mask askingSetpoints mask (readsOf t) q (t .clients) (has-row t q ready))
+      (read-a-kept floor (view t) h tied (few t q ready) q (in-range t q ready) resting-state mask bound some-masked (rowOf clients′ q)
+      (word maskField (omega arith) (λ e. omega arith) ∙ started-mask askingSetpoints mask (readsOf t) q (t .clients) (has-row t q ready)) step′ (writesOf t) (readsOf t + 1)
       (word countField (omega arith) (λ e. omega arith) ∙ count-of askingSetpoints)
-      extra
-      (word stateField (omega arith) (λ e. omega arith) ∙ started-state askingSetpoints mask (readsOf t) q (t .clients) (has-row t q ready))
-      (tag-is ∙ last))
+      extra state (tag-is ∙ last))
+      (read-budget (view t) budget q (in-range t q ready) free asked askingSetpoints state (λ e. omega arith) (λ e. omega arith)
+      (omega (arith, no-rest asked askingSetpoints state (λ e. omega arith) (λ e. omega arith), sends-come mask (gets (rowOf clients′ q tagField)) (λ i. refl) no-head, few-servers mask)))
     where
       clients′ : List ℕ
       clients′ = putClientWord (with-state askingSetpoints) q tagField (lastTag t)
@@ -218,6 +256,12 @@ module _ (floor : ℕ → ℕ) (t : Tables) (h : History) (tied : Tied floor (vi
       word : (f : ℕ) → f < clientWidth → (f ≡ tagField → ⊥) → rowOf clients′ q f ≡ clientWord (with-state askingSetpoints) q f
       word f l d = within-at clientWidth 0 (clientWord clients′ q) f l ∙ word-other clientWidth (with-state askingSetpoints) q tagField (lastTag t) q f (omega arith) l (λ e. d (e .1))
 
+      asked : Client
+      asked = clientOf (rowOf clients′ q) (sends mask (gets (rowOf clients′ q tagField)))
+
+      state : stateIn asked ≡ askingSetpoints
+      state = word stateField (omega arith) (λ e. omega arith) ∙ started-state askingSetpoints mask (readsOf t) q (t .clients) (has-row t q ready)
+
       tag-is : rowOf clients′ q tagField ≡ lastTag t
       tag-is =
           within-at clientWidth 0 (clientWord clients′ q) tagField (omega arith)
@@ -226,40 +270,57 @@ module _ (floor : ℕ → ℕ) (t : Tables) (h : History) (tied : Tied floor (vi
       last : lastTag t ≡ h .tags
       last = omega (arith, tied .entries)
 
-  b-fair : h .extra ≡ 2 → Kept floor h (begun-read q mask Ok) (view (begunReadWith q mask (askingByB q mask t) t))
-  b-fair extra =
+  b-fair : readsOf t < recordPlaces → h .extra ≡ 2 → Fair (begun-read q mask Ok) (begunReadWith q mask (askingByB q mask t) t)
+  b-fair free extra =
       read-left (with-state askingKeys) (sendAsk q coordinator (t .links))
       (started-others askingKeys mask (readsOf t) q (t .clients) (has-row t q ready))
       (link-put (t .links) q coordinator ask (omega arith) (has-link t q ready coordinator (omega arith)) ask-fits)
       (λ r d. link-put-other (t .links) q coordinator ask (omega arith) r d)
-      (read-b-kept floor (view t) h tied (few t q ready) q (in-range t q ready) resting-state mask bound (mask-some mask (serversOf t) (few t q ready) w) (rowOf (with-state askingKeys) q)
-      (word-of askingKeys maskField (omega arith) (started-mask askingKeys mask (readsOf t) q (t .clients) (has-row t q ready)))
+      (read-b-kept floor (view t) h tied (few t q ready) q (in-range t q ready) resting-state mask bound some-masked (rowOf (with-state askingKeys) q)
+      masked step′ (writesOf t) (readsOf t + 1)
       (word-of askingKeys countField (omega arith) (count-of askingKeys))
-      extra
-      (word-of askingKeys stateField (omega arith) (started-state askingKeys mask (readsOf t) q (t .clients) (has-row t q ready))))
+      extra state)
+      (read-budget (view t) budget q (in-range t q ready) free asked askingKeys state (λ e. omega arith) (λ e. omega arith)
+      (rw (state, masked) (omega (arith, come-changed (c .link) coordinator ask (omega arith), come-none (c .link) (idling .links), few-servers mask))))
+    where
+      asked : Client
+      asked = clientOf (rowOf (with-state askingKeys) q) (changed (c .link) coordinator ask)
 
-  c-fair : h .extra ≡ 2 → Kept floor h (begun-read q mask Ok) (view (begunReadWith q mask (askingByC q mask t) t))
-  c-fair extra =
+      masked : rowOf (with-state askingKeys) q maskField ≡ mask
+      masked = word-of askingKeys maskField (omega arith) (started-mask askingKeys mask (readsOf t) q (t .clients) (has-row t q ready))
+
+      state : stateIn asked ≡ askingKeys
+      state = word-of askingKeys stateField (omega arith) (started-state askingKeys mask (readsOf t) q (t .clients) (has-row t q ready))
+
+  c-fair : readsOf t < recordPlaces → h .extra ≡ 2 → Fair (begun-read q mask Ok) (begunReadWith q mask (askingByC q mask t) t)
+  c-fair free extra =
       read-left (with-state askingAll) (sendAsk q coordinator sent)
       (started-others askingAll mask (readsOf t) q (t .clients) (has-row t q ready))
       (link-put sent q coordinator ask (omega arith) (rw (sent-length q (λ i. ask) (λ i. ask-fits) mask (serversOf t) small bound (t .links) long empty) (has-link t q ready coordinator (omega arith))) ask-fits
       ∙ ap (λ (l : ℕ → Content). changed l coordinator ask) (sent-links q (λ i. ask) (λ i. ask-fits) mask (serversOf t) small bound (t .links) long empty))
       (λ r d. link-put-other sent q coordinator ask (omega arith) r d ∙ sent-others q (λ i. ask) (λ i. ask-fits) mask (serversOf t) small bound (t .links) long empty r d)
-      (read-c-kept floor (view t) h tied (few t q ready) q (in-range t q ready) resting-state mask bound (mask-some mask (serversOf t) (few t q ready) w) (rowOf (with-state askingAll) q)
-      (word-of askingAll maskField (omega arith) (started-mask askingAll mask (readsOf t) q (t .clients) (has-row t q ready)))
+      (read-c-kept floor (view t) h tied (few t q ready) q (in-range t q ready) resting-state mask bound some-masked (rowOf (with-state askingAll) q)
+      (word-of askingAll maskField (omega arith) (started-mask askingAll mask (readsOf t) q (t .clients) (has-row t q ready))) step′ (writesOf t) (readsOf t + 1)
       (word-of askingAll countField (omega arith) (count-of askingAll))
-      extra
-      (word-of askingAll stateField (omega arith) (started-state askingAll mask (readsOf t) q (t .clients) (has-row t q ready))))
+      extra state)
+      (read-budget (view t) budget q (in-range t q ready) free asked askingAll state (λ e. omega arith) (λ e. omega arith)
+      (omega (arith, no-rest asked askingAll state (λ e. omega arith) (λ e. omega arith), come-changed (sends mask (λ i. ask)) coordinator ask (omega arith), sends-come mask (λ i. ask) (λ i. refl) no-head, few-servers mask)))
     where
+      asked : Client
+      asked = clientOf (rowOf (with-state askingAll) q) (changed (sends mask (λ i. ask)) coordinator ask)
+
+      state : stateIn asked ≡ askingAll
+      state = word-of askingAll stateField (omega arith) (started-state askingAll mask (readsOf t) q (t .clients) (has-row t q ready))
+
       sent : List ℕ
       sent = sentAsks q mask (serversOf t) (t .links)
 
-  pub read-fair : Kept floor h (begun-read q mask Ok) (view (begunRead q mask t))
+  pub read-fair : readsOf t < recordPlaces → Fair (begun-read q mask Ok) (begunRead q mask t)
   unfolding begunRead
-  read-fair =
+  read-fair free =
       let extra : h .extra ≡ extraOf (methodOf t) = tied .method in
       by-test (eqb (methodOf t) 1)
-      (λ a. rw a (a-fair (rw a at extra)))
+      (λ a. rw a (a-fair free (rw a at extra)))
       (λ a. by-test (eqb (methodOf t) 2)
-      (λ b. rw (a, b) (b-fair (rw a at extra)))
-      (λ b. rw (a, b) (c-fair (rw a at extra))))
+      (λ b. rw (a, b) (b-fair free (rw a at extra)))
+      (λ b. rw (a, b) (c-fair free (rw a at extra))))

@@ -20,7 +20,7 @@ use Rattle.rules.specs.declared.Answer.the-variants.{Ok}
 use Rattle.serial.specs.Steps.{begun-write, begun-read}
 use Rattle.serial.specs.History.{changed, Doing, nothing, writing, reading, History}
 use Rattle.serial.proofs.Places.{changed-same, changed-other, changed-all}
-use Rattle.serial.proofs.Press.{Client, clientOf, Press, pressOf, stateIn, countIn, maskIn, tagIn, weight, toCome, sends, World, world}
+use Rattle.serial.proofs.Press.{renumbered, Client, clientOf, Press, pressOf, stateIn, countIn, maskIn, tagIn, weight, toCome, sends, World, world}
 use Rattle.serial.proofs.Links.{come-changed, come-some, sends-masked, sends-other, sends-come}
 use Rattle.serial.proofs.Invariant.{WriteLink, KeysLink, GetLink, AllLink, Idle, at-writing, at-keys, at-getting, at-all, ClientOk, Tied}
 use Rattle.serial.proofs.Kept.{Kept, begun-tied, resting}
@@ -29,7 +29,7 @@ use Rattle.serial.proofs.Kept.{Kept, begun-tied, resting}
 module _ (floor : ℕ → ℕ) (p : Press) (h : History) (tied : Tied floor p h) (few : p .shared .servers ≤ 16)
     (q : ℕ) (hq : q < 16) (rest : stateIn (p .client q) ≡ idle)
     (mask : ℕ) (bound : (i : ℕ) → hasServer mask i ≡ true → i < p .shared .servers) (some-masked : 0 < serversIn mask)
-    (row : ℕ → ℕ) (masked : row maskField ≡ mask) where
+    (row : ℕ → ℕ) (masked : row maskField ≡ mask) (step writes reads : ℕ) where
   abbrev x : World
   x = world p h
 
@@ -37,7 +37,7 @@ module _ (floor : ℕ → ℕ) (p : Press) (h : History) (tied : Tied floor p h)
   old = p .client q
 
   abbrev begun-press : (ℕ → Content) → Press
-  begun-press link = pressOf (p .shared) (changed (p .client) q (clientOf row link))
+  begun-press link = pressOf (renumbered step writes reads (p .shared)) (changed (p .client) q (clientOf row link))
 
   okay : ClientOk (h .extra) x (floor q) q old (h .doing q)
   okay = tied .clients q hq
@@ -66,7 +66,7 @@ module _ (floor : ℕ → ℕ) (p : Press) (h : History) (tied : Tied floor p h)
       Kept floor h (begun-write q mask setpoints Ok) (begun-press (sends mask (sets setpoints)))
   write-kept setpoints state count small = (
     idling .is,
-    rw (idling .is) (begun-tied floor p h tied q new _ (record {
+    rw (idling .is) (begun-tied floor p h tied step writes reads q new _ (record {
       latest = λ i n v e. omega (arith, okay .latest i n v e, count);
       activity = at-writing state (record {
         setpoints = setpoints;
@@ -93,7 +93,7 @@ module _ (floor : ℕ → ℕ) (p : Press) (h : History) (tied : Tied floor p h)
         Kept floor h (begun-read q mask Ok) (begun-press (sends mask (λ i. request (latestKey (p .shared .log) i (row tagField)) 0)))
     read-a-kept zero-more state tag = (
       (idling .is, omega arith),
-      rw (idling .is) (begun-tied floor p h tied q (clientOf row (sends mask gets)) _ (record {
+      rw (idling .is) (begun-tied floor p h tied step writes reads q (clientOf row (sends mask gets)) _ (record {
         latest = latest′;
         activity = at-getting state (record {
           begin = h .clock;
@@ -124,7 +124,7 @@ module _ (floor : ℕ → ℕ) (p : Press) (h : History) (tied : Tied floor p h)
     pub read-b-kept : h .extra ≡ 2 → row stateField ≡ askingKeys → Kept floor h (begun-read q mask Ok) (begun-press (changed (old .link) coordinator ask))
     read-b-kept two state = (
       (idling .is, omega arith),
-      rw (idling .is) (begun-tied floor p h tied q (clientOf row (changed (old .link) coordinator ask)) _ (record {
+      rw (idling .is) (begun-tied floor p h tied step writes reads q (clientOf row (changed (old .link) coordinator ask)) _ (record {
         latest = latest′;
         activity = at-keys state (record {
           begin = h .clock;
@@ -150,7 +150,7 @@ module _ (floor : ℕ → ℕ) (p : Press) (h : History) (tied : Tied floor p h)
         let head : weight (sends mask asks coordinator) ≡ 0 = ap weight (sends-other mask asks coordinator no-head) in
         let servers : toCome (sends mask asks) ≡ 2 * serversIn mask = sends-come mask asks (λ i. refl) no-head in (
           (idling .is, omega arith),
-          rw (idling .is) (begun-tied floor p h tied q new _ (record {
+          rw (idling .is) (begun-tied floor p h tied step writes reads q new _ (record {
             latest = latest′;
             activity = at-all state (record {
               begin = h .clock;

@@ -15,7 +15,7 @@ use Rattle.rules.specs.declared.Answer.the-variants.{Ok, Refused}
 use Rattle.rules.specs.declared.Arrival.{Arrival}
 use Rattle.rules.specs.declared.Arrival.the-variants as arrival
 use Rattle.serial.specs.Steps.{Event, opened, begun-write, begun-read, requested, replied}
-use Rattle.serial.specs.History.{changed, Transaction, Doing, nothing, writing, tagged, reading, History, historyOf, passed, turned, begun, delivered, writeOf, given, entered, ended, wrote, readOf, showed, arrived, fresh, extraOf, openedWith, after}
+use Rattle.serial.specs.History.{changed, Transaction, Doing, nothing, writing, tagged, reading, History, historyOf, passed, turned, begun, delivered, writeOf, given, entered, ended, wrote, readOf, showed, arrived, fresh, extraOf, openedWith, atHead, after}
 use Rattle.serial.specs.Row.{Each}
 use Rattle.serial.specs.Claim.{enough, EndsAt, Unfinished}
 use Rattle.serial.proofs.Places.{changed-same, changed-other, changed-all, changed-both}
@@ -223,6 +223,11 @@ module _ (tagsAt floor : ℕ → ℕ) (h : History) (ok : HistoryOk tagsAt floor
   entered-ok q (tagged tag) e m = (now′, passed-ok)
   entered-ok q (reading mask begin deliveries) e m = (now′, delivered-ok q (reading mask begin deliveries) e m)
 
+  -- whichever target the test tells from the others
+  requested-ok : (q : ℕ) (head : Bool) → More (h .extra) (h .doing q) → (t : ℕ → ℕ) × HistoryOk t floor (cond head (entered (h .doing q) q h) (delivered (h .doing q) q h))
+  requested-ok q true m = entered-ok q (h .doing q) refl m
+  requested-ok q false m = (now′, delivered-ok q (h .doing q) refl m)
+
   arrived-ok : (q i : ℕ) (a : Arrival) (shown : List ℕ) → OwedArrival floor h a shown q → HistoryOk now′ floor (arrived a shown q h)
   arrived-ok q i arrival.Wait shown owed = delivered-ok q (h .doing q) refl owed
   arrived-ok q i arrival.Next shown owed = delivered-ok q (h .doing q) refl owed
@@ -252,9 +257,6 @@ after-ok tagsAt floor h ok (begun-write q mask setpoints Ok) owed = rw owed (now
 after-ok tagsAt floor h ok (begun-write q mask setpoints (Refused n)) owed = (now′ tagsAt floor h ok, passed-ok tagsAt floor h ok)
 after-ok tagsAt floor h ok (begun-read q mask Ok) owed = rw (owed .0) (now′ tagsAt floor h ok, begun-ok tagsAt floor h ok q (reading mask (h .clock) 0) (owed .1) (begin-now tagsAt floor h ok (h .clock) refl))
 after-ok tagsAt floor h ok (begun-read q mask (Refused n)) owed = (now′ tagsAt floor h ok, passed-ok tagsAt floor h ok)
-after-ok tagsAt floor h ok (requested q i Ok) owed =
-    by-test (eqb i coordinator)
-    (λ e. rw e (entered-ok tagsAt floor h ok q (h .doing q) refl owed))
-    (λ e. rw e (now′ tagsAt floor h ok, delivered-ok tagsAt floor h ok q (h .doing q) refl owed))
+after-ok tagsAt floor h ok (requested q i Ok) owed = requested-ok tagsAt floor h ok q (atHead i) owed
 after-ok tagsAt floor h ok (requested q i (Refused n)) owed = (now′ tagsAt floor h ok, passed-ok tagsAt floor h ok)
 after-ok tagsAt floor h ok (replied q i d) owed = (now′ tagsAt floor h ok, arrived-ok tagsAt floor h ok q i (d .arrival) (d .setpoints) owed)

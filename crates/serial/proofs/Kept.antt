@@ -9,19 +9,23 @@ use Rattle.serial.specs.History.{changed, Doing, nothing, History, passe
 use Rattle.tables.specs.Links.{targets}
 use Rattle.serial.proofs.Places.{changed-all, changed-both, changed-three}
 use Rattle.serial.proofs.Owed.{Owed, floorAfter}
-use Rattle.serial.proofs.Press.{Client, Press, pressOf, stateIn, World, world}
+use Rattle.serial.proofs.Press.{renumbered, Client, Press, pressOf, stateIn, World, world}
 use Rattle.serial.proofs.Invariant.{Idle, Activity, at-rest, at-writing, at-entering, at-keys, at-getting, at-all, ClientOk, Tied}
 
 abbrev pub Kept : (ℕ → ℕ) → History → Event → Press → Type 0
 Kept floor h event p = Owed floor h event × Tied (floorAfter event h floor) p (after event h)
 
 module _ (floor : ℕ → ℕ) (p : Press) (h : History) (tied : Tied floor p h) where
+  -- a step that the row does not see
   pub passed-tied : Tied floor p (passed h)
   passed-tied = record { method = tied .method; entries = tied .entries; room = tied .room; value = tied .value; clients = tied .clients }
 
-  -- only client q has changed, and what it is at
-  pub turned-tied : (q : ℕ) (c : Client) (d : Doing) → ClientOk (h .extra) (world p h) (floor q) q c d → Tied floor (pressOf (p .shared) (changed (p .client) q c)) (turned q d h)
-  turned-tied q c d ok = record {
+  -- Only client q has changed, and what it is at; the step number and the transactions begun are no part of the tie.
+  abbrev moved : ℕ → ℕ → ℕ → ℕ → Client → Press
+  moved step writes reads q c = pressOf (renumbered step writes reads (p .shared)) (changed (p .client) q c)
+
+  pub turned-tied : (step writes reads q : ℕ) (c : Client) (d : Doing) → ClientOk (h .extra) (world p h) (floor q) q c d → Tied floor (moved step writes reads q c) (turned q d h)
+  turned-tied step writes reads q c d ok = record {
     method = tied .method;
     entries = tied .entries;
     room = tied .room;
@@ -30,8 +34,8 @@ module _ (floor : ℕ → ℕ) (p : Press) (h : History) (tied : Tied floor p h)
   }
 
   -- only its tables
-  pub moved-tied : (q : ℕ) (c : Client) → ClientOk (h .extra) (world p h) (floor q) q c (h .doing q) → Tied floor (pressOf (p .shared) (changed (p .client) q c)) (passed h)
-  moved-tied q c ok = record {
+  pub moved-tied : (step writes reads q : ℕ) (c : Client) → ClientOk (h .extra) (world p h) (floor q) q c (h .doing q) → Tied floor (moved step writes reads q c) (passed h)
+  moved-tied step writes reads q c ok = record {
     method = tied .method;
     entries = tied .entries;
     room = tied .room;
@@ -40,8 +44,8 @@ module _ (floor : ℕ → ℕ) (p : Press) (h : History) (tied : Tied floor p h)
   }
 
   -- a begin also sets its floor
-  pub begun-tied : (q : ℕ) (c : Client) (d : Doing) → ClientOk (h .extra) (world p h) (h .tags) q c d → Tied (changed floor q (h .tags)) (pressOf (p .shared) (changed (p .client) q c)) (turned q d h)
-  begun-tied q c d ok = record {
+  pub begun-tied : (step writes reads q : ℕ) (c : Client) (d : Doing) → ClientOk (h .extra) (world p h) (h .tags) q c d → Tied (changed floor q (h .tags)) (moved step writes reads q c) (turned q d h)
+  begun-tied step writes reads q c d ok = record {
     method = tied .method;
     entries = tied .entries;
     room = tied .room;

@@ -8,9 +8,11 @@ pub mod Press
 pub mod Invariant
 pub mod Links
 pub mod Kept
+pub mod Budget
 pub mod Begins
 pub mod Requests
 pub mod Replies
+pub mod Spending
 pub mod View
 pub mod Loops
 pub mod Ready
@@ -18,4 +20,5 @@ pub mod RequestSteps
 pub mod ReplySteps
 pub mod BeginSteps
 pub mod OpeningStep
+pub mod Accepted
 pub mod Theorem

@@ -4,7 +4,7 @@ use mathlib.Core.Path.{_≡_, refl, sym, ap, _∙_}
 use mathlib.Core.Bool.{Bool, true, false, cond}
 use native.Mathlib.Omega.{arith}
 use Rattle.ranges.specs.Tests.{by-test, not-both}
-use Rattle.ranges.specs.Sum.{sumBelow, one, countBelow, sum-more, sum-none, sum-same, sum-set, sum-part, sum-zero, one-true, one-false}
+use Rattle.ranges.specs.Sum.{sumBelow, one, countBelow, sum-more, sum-none, sum-same, sum-set, sum-part, sum-most, sum-zero, one-true, one-false}
 use Rattle.keys.specs.Masks.{hasServer, serversIn}
 use Rattle.tables.specs.Links.{targets}
 use Rattle.tables.specs.declared.links.Content.{Content}
@@ -28,6 +28,9 @@ weight-zero (Reply w) e = let z : ⊥ = omega arith in absurd z
 -- nothing to come: no link holds anything
 pub all-empty : (link : ℕ → Content) → toCome link ≡ 0 → (i : ℕ) → i < targets → link i ≡ Nothing
 all-empty link e i h = weight-zero (link i) (sum-zero (λ j. weight (link j)) targets e i h)
+
+pub come-none : (link : ℕ → Content) → ((i : ℕ) → i < targets → link i ≡ Nothing) → toCome link ≡ 0
+come-none link e = let z = sum-most (λ i. weight (link i)) 0 targets (λ i l. rw (e i l) (omega arith)) in omega arith
 
 pub come-some : (link : ℕ → Content) (i : ℕ) → i < targets → 0 < weight (link i) → 0 < toCome link
 come-some link i h l = omega (arith, sum-part (λ j. weight (link j)) targets i h)

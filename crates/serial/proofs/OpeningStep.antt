@@ -11,6 +11,7 @@ use lib.Seq.{getD-set-same, getD-set-other, sets, length-sets}
 use lib.Dec.{eqb, ltb}
 use borrow.Author.Tests.{ltb-true, ltb-false, eq-eqb, eqb-true}
 use Rattle.ranges.specs.Tests.{by-equal, by-test, both-left}
+use Rattle.ranges.specs.Sum.{sumBelow, sum-most}
 use Rattle.ranges.specs.Turns.{turns, turns-keep}
 use Rattle.ranges.specs.Picked.{is-picked, not-reached}
 use Rattle.keys.specs.Keys.{keyOf, keyWord, opening}
@@ -22,12 +23,15 @@ use Rattle.tables.specs.Entries.{entry-key-same}
 use Rattle.tables.specs.Links.{targets, linkWidth, linkRow, linkAt}
 use Rattle.tables.specs.Tables.{Tables, heldOf}
 use Rattle.tables.specs.declared.links.Content.the-variants.{Nothing}
+use Rattle.rules.specs.Common.{idle}
 use Rattle.rules.specs.Open.{cleared, holdOne, openedCounts, openKey, openValue, allServers, opened}
 use Rattle.soundness.specs.Facts.{Long, Press}
 use Rattle.serial.specs.History.{History, extraOf, openedWith}
 use Rattle.serial.proofs.Owed.{valueAt}
 use Rattle.serial.proofs.Versions.{find, is-found, found-is}
-use Rattle.serial.proofs.Press.{view}
+use Rattle.serial.proofs.Press.{Client, stateIn, view}
+use Rattle.serial.proofs.Links.{come-none}
+use Rattle.serial.proofs.Budget.{waits, due, ahead, Budget, no-waits, no-due, no-rest}
 use Rattle.serial.proofs.View.{within-at}
 use Rattle.serial.proofs.Invariant.{at-rest, Tied}
 
@@ -57,6 +61,11 @@ module _ (m k p : ℕ) (setpoints : List ℕ) (t : Tables) (press : Press m k p)
   scalar f l =
       turns-keep holdOne (λ xs. getD xs f 0 ≡ getD start f 0) (λ i xs e. getD-set-other xs (heldField + i) f 1 0 (λ z. omega arith) ∙ e) k start refl
       ∙ rw (zero-add f) at (sets-at first (cleared (t .counts)) 0 f l (rw (cleared-length (t .counts)) (omega (arith, long .counts))))
+
+  none-begun : (f : ℕ) → 5 ≤ f → f < heldField → countAt (left .counts) f ≡ 0
+  none-begun f l h =
+      turns-keep holdOne (λ xs. getD xs f 0 ≡ getD start f 0) (λ i xs e. getD-set-other xs (heldField + i) f 1 0 (λ z. omega arith) ∙ e) k start refl
+      ∙ sets-behind first (cleared (t .counts)) 0 f (omega arith) ∙ cleared-word (t .counts) f
 
   keeps-long : (i : ℕ) (xs : List ℕ) → countWords ≤ length xs → countWords ≤ length (holdOne i xs)
   keeps-long i xs r = rw (length-set xs (heldField + i) 1) r
@@ -141,3 +150,22 @@ module _ (m k p : ℕ) (setpoints : List ℕ) (t : Tables) (press : Press m k p)
       activity = at-rest (row-zero q 0 (omega arith)) (record { is = refl; links = link-none q });
     };
   }
+
+  -- nothing waits, nothing is due, nothing is ahead
+  none-of : (f : Client → ℕ) → ((q : ℕ) → f (view left .client q) ≡ 0) → sumBelow (λ q. f (view left .client q)) 16 ≡ 0
+  none-of f e = let z = sum-most (λ q. f (view left .client q)) 0 16 (λ q l. rw (e q) (omega arith)) in omega arith
+
+  pub opened-budget : Budget (view left)
+  opened-budget =
+      let writes : countAt (left .counts) 5 ≡ 0 = none-begun 5 (omega arith) (omega arith) in
+      let reads : countAt (left .counts) 6 ≡ 0 = none-begun 6 (omega arith) (omega arith) in
+      let state : (q : ℕ) → stateIn (view left .client q) ≡ idle = λ q. row-zero q 0 (omega arith) in
+      record {
+        writes = omega arith;
+        reads = omega arith;
+        stored = λ i.
+            let held : heldOf left i ≤ 1 = by-test (ltb i k) (λ b. omega (arith, one-held i (ltb-true i k b))) (λ b. omega (arith, none-held i (ltb-false i k b))) in
+            omega (arith, none-of (waits i) (λ q. no-waits (view left .client q) idle (state q) (λ e. omega arith) i));
+        logged = omega (arith, scalar 4 (omega arith), none-of due (λ q. no-due (view left .client q) idle (state q) (λ e. omega arith) (λ e. omega arith)));
+        taken = omega (arith, scalar 3 (omega arith), none-of ahead (λ q. omega (arith, come-none (view left .client q .link) (link-none q), no-rest (view left .client q) idle (state q) (λ e. omega arith) (λ e. omega arith))));
+      }

@@ -11,7 +11,7 @@ use Rattle.keys.specs.Masks.{hasServer}
 use Rattle.coordinator.specs.Latest.{latestKey}
 use Rattle.tables.specs.Layout.{clientWidth, clientWord, stateField, countField, maskField, tagField, setpointsField, receivedField}
 use Rattle.tables.specs.Links.{targets, linkAt}
-use Rattle.tables.specs.Tables.{Tables, methodOf, serversOf, entriesOf, heldOf}
+use Rattle.tables.specs.Tables.{Tables, methodOf, serversOf, stepOf, entriesOf, writesOf, readsOf, heldOf}
 use Rattle.tables.specs.declared.links.Content.{Content}
 use Rattle.tables.specs.declared.links.Content.the-variants.{Nothing, Request, Reply}
 use Rattle.serial.specs.History.{changed, History}
@@ -25,11 +25,19 @@ within n default f i = cond (ltb i n) (f i) default
 pub record Shared : Type 0 where
   pub method : ℕ
   pub servers : ℕ
+  pub step : ℕ
   pub entries : ℕ
+  pub writes : ℕ
+  pub reads : ℕ
   pub held : ℕ → ℕ
   pub keys : List ℕ
   pub values : List ℕ
   pub log : List ℕ
+
+-- the same but for the step number and the transactions begun
+abbrev pub renumbered : ℕ → ℕ → ℕ → Shared → Shared
+renumbered step writes reads s =
+    record { method = s .method; servers = s .servers; step = step; entries = s .entries; writes = writes; reads = reads; held = s .held; keys = s .keys; values = s .values; log = s .log }
 
 pub record Client : Type 0 where
   pub row : ℕ → ℕ
@@ -72,7 +80,7 @@ abbrev pub linksOf : List ℕ → ℕ → ℕ → Content
 linksOf links q = within targets Nothing (λ i. linkAt links q i .content)
 
 abbrev pub sharedOf : Tables → Shared
-sharedOf t = record { method = methodOf t; servers = serversOf t; entries = entriesOf t; held = heldOf t; keys = t .keys; values = t .values; log = t .log }
+sharedOf t = record { method = methodOf t; servers = serversOf t; step = stepOf t; entries = entriesOf t; writes = writesOf t; reads = readsOf t; held = heldOf t; keys = t .keys; values = t .values; log = t .log }
 
 abbrev pub view : Tables → Press
 view t = pressOf (sharedOf t) (λ q. clientOf (rowOf (t .clients) q) (linksOf (t .links) q))

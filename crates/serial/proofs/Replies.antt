@@ -31,13 +31,13 @@ use Rattle.serial.proofs.Places.{changed-same, changed-other, changed-a
 use Rattle.serial.proofs.Owed.{valueAt, valueIn}
 use Rattle.serial.proofs.HistoryKept.{value-ended}
 use Rattle.serial.proofs.Versions.{found-place, place-found, found-more}
-use Rattle.serial.proofs.Press.{Shared, Client, clientOf, Press, pressOf, stateIn, countIn, maskIn, tagIn, setpointIn, receivedIn, weight, toCome, sends, World, worldOf, world}
+use Rattle.serial.proofs.Press.{Shared, renumbered, Client, clientOf, Press, pressOf, stateIn, countIn, maskIn, tagIn, setpointIn, receivedIn, weight, toCome, sends, World, worldOf, world}
 use Rattle.serial.proofs.Links.{come-changed, come-some, all-empty, sends-masked, sends-other, sends-come}
 use Rattle.serial.proofs.Invariant.{Holds, WriteLink, Writing, Entering, AskingKeys, GetLink, Getting, Snapshot, AllLink, AskingAll, at-rest, at-writing, at-entering, at-getting, at-all, ClientOk, Tied, Grown, client-frame}
 use Rattle.serial.proofs.Kept.{Kept, turned-tied, moved-tied}
 use Rattle.serial.proofs.Requests.{withLink}
 
-module _ (floor : ℕ → ℕ) (p : Press) (h : History) (tied : Tied floor p h) (few : p .shared .servers ≤ 16) (q : ℕ) (hq : q < 16) where
+module _ (floor : ℕ → ℕ) (p : Press) (h : History) (tied : Tied floor p h) (few : p .shared .servers ≤ 16) (q : ℕ) (hq : q < 16) (step writes reads : ℕ) where
   abbrev x : World
   x = world p h
 
@@ -51,7 +51,7 @@ module _ (floor : ℕ → ℕ) (p : Press) (h : History) (tied : Tied floor p h)
   okay = tied .clients q hq
 
   abbrev afterwards : Client → Press
-  afterwards d = pressOf s (changed (p .client) q d)
+  afterwards d = pressOf (renumbered step writes reads s) (changed (p .client) q d)
 
   -- The link holds nothing now.
   module _ (i : ℕ) (hi : i < targets) (w : Contents) (lk : c .link i ≡ Reply w) where
@@ -72,7 +72,7 @@ module _ (floor : ℕ → ℕ) (p : Press) (h : History) (tied : Tied floor p h)
       pub done-wait-kept : stateIn c ≡ rules.writing → Kept floor h (replied q i (nothingShown arrival.Wait)) (afterwards (withLink c i Nothing))
       done-wait-kept state = (
         rw (a .is) tt,
-        rw (a .is) (moved-tied floor p h tied q (withLink c i Nothing) (record {
+        rw (a .is) (moved-tied floor p h tied step writes reads q (withLink c i Nothing) (record {
           latest = okay .latest;
           activity = at-writing state (record { setpoints = a .setpoints; begin = a .begin; is = a .is; few = a .few; bound = a .bound; links = done-link });
         })),
@@ -84,7 +84,7 @@ module _ (floor : ℕ → ℕ) (p : Press) (h : History) (tied : Tied floor p h)
       done-next-kept all row state count mask =
           let enter = request (keyOf (countIn c) q) (maskIn c) in (
             rw (a .is) tt,
-            rw (a .is) (moved-tied floor p h tied q (clientOf row (changed emptied coordinator enter)) (record {
+            rw (a .is) (moved-tied floor p h tied step writes reads q (clientOf row (changed emptied coordinator enter)) (record {
               latest = λ j n v e. omega (arith, okay .latest j n v e, count);
               activity = at-entering state (record {
                 others = λ j l. changed-other emptied coordinator enter j (λ e. omega arith) ∙ all-empty emptied all j (omega arith);
@@ -130,7 +130,7 @@ module _ (floor : ℕ → ℕ) (p : Press) (h : History) (tied : Tied floor p h)
       pub got-wait-kept : 0 < toCome emptied → row stateField ≡ askingSetpoints → Kept floor h (replied q i (nothingShown arrival.Wait)) (afterwards got)
       got-wait-kept left state = (
         rw (a .is) (omega (arith, a .count, come)),
-        rw (a .is) (turned-tied floor p h tied q got _ (record {
+        rw (a .is) (turned-tied floor p h tied step writes reads q got _ (record {
           latest = λ j n v e. omega (arith, okay .latest j n v e, count);
           activity = at-getting state (record {
             begin = a .begin;
@@ -161,7 +161,7 @@ module _ (floor : ℕ → ℕ) (p : Press) (h : History) (tied : Tied floor p h)
           count = omega (arith, a .count, come);
         },
         rw (a .is) (
-            let t = turned-tied floor p h tied q got nothing (record { latest = λ j n v e. omega (arith, okay .latest j n v e, count); activity = at-rest state (record { is = refl; links = all-empty emptied all }) }) in
+            let t = turned-tied floor p h tied step writes reads q got nothing (record { latest = λ j n v e. omega (arith, okay .latest j n v e, count); activity = at-rest state (record { is = refl; links = all-empty emptied all }) }) in
             record { method = t .method; entries = t .entries; room = t .room; value = t .value; clients = t .clients }
             ),
       )
@@ -192,7 +192,7 @@ module _ (floor : ℕ → ℕ) (p : Press) (h : History) (tied : Tied floor p h)
       pub told-wait-kept : 0 < toCome emptied → row stateField ≡ askingAll → row countField ≡ countIn c → Kept floor h (replied q i (nothingShown arrival.Wait)) (afterwards told)
       told-wait-kept left state count = (
         rw (a .is) (omega (arith, a .count, come)),
-        rw (a .is) (turned-tied floor p h tied q told _ (record {
+        rw (a .is) (turned-tied floor p h tied step writes reads q told _ (record {
           latest = λ j n v e. omega (arith, okay .latest j n v e, count);
           activity = at-all state (record {
             begin = a .begin;
@@ -264,7 +264,7 @@ module _ (floor : ℕ → ℕ) (p : Press) (h : History) (tied : Tied floor p h)
             count = omega (arith, a .count, come);
           },
           rw (a .is) (
-              let t = turned-tied floor p h tied q (clientOf row′ emptied) nothing (record { latest = λ j n v e. omega (arith, okay .latest j n v e, count); activity = at-rest state (record { is = refl; links = all-empty emptied all }) }) in
+              let t = turned-tied floor p h tied step writes reads q (clientOf row′ emptied) nothing (record { latest = λ j n v e. omega (arith, okay .latest j n v e, count); activity = at-rest state (record { is = refl; links = all-empty emptied all }) }) in
               record { method = t .method; entries = t .entries; room = t .room; value = t .value; clients = t .clients }
               ),
         )
@@ -319,7 +319,7 @@ module _ (floor : ℕ → ℕ) (p : Press) (h : History) (tied : Tied floor p h)
       = by-test (hasServer (maskIn c) coordinator) (λ e. let z : ⊥ = omega (arith, a .bound coordinator e) in absurd z) (λ e. e) in
       let total : toCome (sends (maskIn c) gets) ≡ 2 * serversIn (maskIn c) = sends-come (maskIn c) gets (λ i. refl) no-head in (
         rw (a .is) (omega (arith, a .two, a .some, head .0)),
-        rw (a .is) (turned-tied floor p h tied q (clientOf row (sends (maskIn c) gets)) _ (record {
+        rw (a .is) (turned-tied floor p h tied step writes reads q (clientOf row (sends (maskIn c) gets)) _ (record {
           latest = λ j n v e. omega (arith, okay .latest j n v e, count);
           activity = at-getting state (record {
             begin = a .begin;

@@ -16,7 +16,7 @@ use Rattle.coordinator.specs.Latest.{latestKey}
 use Rattle.tables.specs.Rows.{HasRow, word-same, word-other, word-length}
 use Rattle.tables.specs.Layout.{clientWidth, clientWord, putClientWord, stateField, countField, maskField, tagField, setpointsField, receivedField, stepField, versionWord}
 use Rattle.tables.specs.Links.{targets, linkWidth, linkRow, linkAt, putLink, link-length}
-use Rattle.tables.specs.Tables.{Tables, tablesOf, serversOf, stateOf, countOf, maskOf, tagOf, recordOf, contentAt}
+use Rattle.tables.specs.Tables.{Tables, tablesOf, serversOf, stepOf, writesOf, readsOf, stateOf, countOf, maskOf, tagOf, recordOf, contentAt}
 use Rattle.tables.specs.declared.links.Contents.{Contents}
 use Rattle.tables.specs.declared.links.Content.{Content}
 use Rattle.tables.specs.declared.links.Content.the-variants.{Nothing, Request, Reply}
@@ -31,10 +31,13 @@ use Rattle.rules.specs.declared.Arrival.the-variants as arrival
 use Rattle.soundness.specs.Facts.{Sound}
 use Rattle.serial.specs.Steps.{replied}
 use Rattle.serial.specs.History.{changed, History}
+use Rattle.serial.specs.Consequences.{numberOfArrival}
 use Rattle.serial.proofs.Places.{changed-same, changed-other}
-use Rattle.serial.proofs.Press.{within, Shared, Client, clientOf, Press, pressOf, stateIn, countIn, maskIn, tagIn, setpointIn, rowOf, linksOf, sharedOf, view, weight, toCome, sends, World, world}
-use Rattle.serial.proofs.View.{within-at, row-put, row-put-other, link-put, link-put-other, view-is, shared-other}
-use Rattle.serial.proofs.Links.{all-empty}
+use Rattle.serial.proofs.Press.{within, Shared, renumbered, Client, clientOf, Press, pressOf, stateIn, countIn, maskIn, tagIn, setpointIn, rowOf, linksOf, sharedOf, view, weight, toCome, sends, World, world}
+use Rattle.serial.proofs.View.{within-at, row-put, row-put-other, link-put, link-put-other, view-is, shared-step}
+use Rattle.serial.proofs.Links.{come-changed, all-empty, sends-come}
+use Rattle.serial.proofs.Budget.{Budget, no-rest}
+use Rattle.serial.proofs.Spending.{further, done-budget, last-budget}
 use Rattle.serial.proofs.Loops.{HasLinks, sent-links, sent-others, stored-length, stored-others, stored-word, stored-at, pending-come, none-come}
 use Rattle.serial.proofs.Ready.{Ready, few, in-range, has-row, has-link, row-at, link-at, not-empty}
 use Rattle.serial.proofs.Invariant.{Writing, Entering, AskingKeys, Getting, AskingAll, Activity, at-rest, at-writing, at-entering, at-keys, at-getting, at-all, ClientOk, Tied}
@@ -42,8 +45,11 @@ use Rattle.serial.proofs.Kept.{Kept, passed-tied}
 use Rattle.serial.proofs.Requests.{withLink}
 use Rattle.serial.proofs.Replies.{done-wait-kept, done-next-kept, got-wait-kept, got-end-kept, told-wait-kept, told-end-kept, entered-kept, keys-kept}
 
-abbrev pub FairReply : (ℕ → ℕ) → History → ℕ → ℕ → Arrived → Type 0
-FairReply floor h q i x = Kept floor h (replied q i (x .delivered)) (view (x .tables))
+-- the step keeps the tie and the budget, and pays what it owes
+pub record FairReply (floor : ℕ → ℕ) (h : History) (q i : ℕ) (x : Arrived) : Type 0 where
+  pub kept : Kept floor h (replied q i (x .delivered)) (view (x .tables))
+  pub budget : Budget (view (x .tables))
+  pub room : numberOfArrival (x .delivered .arrival) ≡ 8 → ⊥
 
 -- the setpoints shown are the words of the client's row
 pub shown-at : (clients : List ℕ) (q mask j : ℕ) → j < 16 → hasServer mask j ≡ true → getD (shownSetpoints clients q mask) j 0 ≡ clientWord clients q (setpointsField + j)
@@ -54,12 +60,13 @@ shown-at clients q mask j l e =
     (λ i u xs m d. getD-set-other xs i u (clientWord clients q (setpointsField + i)) 0 d)
     (hasServer mask) (replicate 16 0) (omega arith) 16 j (omega arith) l e
 
-module _ (floor : ℕ → ℕ) (t : Tables) (h : History) (tied : Tied floor (view t) h) (q : ℕ) (ready : Ready t q) (i : ℕ) (hi : i < targets) where
+module _ (floor : ℕ → ℕ) (t : Tables) (h : History) (tied : Tied floor (view t) h) (budget : Budget (view t)) (q i : ℕ) where
+  pub refused-reply : (n : ℕ) → (n ≡ 8 → ⊥) → FairReply floor h q i (said (arrival.Refused n) t)
+  refused-reply n d = record { kept = (tt, passed-tied floor (view t) h tied); budget = budget; room = d }
+
+module _ (floor : ℕ → ℕ) (t : Tables) (h : History) (tied : Tied floor (view t) h) (budget : Budget (view t)) (q : ℕ) (ready : Ready t q) (i : ℕ) (hi : i < targets) where
   abbrev c : Client
   c = view t .client q
-
-  pub refused-reply : (n : ℕ) → FairReply floor h q i (said (arrival.Refused n) t)
-  refused-reply n = (tt, passed-tied floor (view t) h tied)
 
   abbrev gone : ℕ → Content
   gone = changed (c .link) i Nothing
@@ -74,16 +81,17 @@ module _ (floor : ℕ → ℕ) (t : Tables) (h : History) (tied : Tied floor (vi
   abbrev movedTo : List ℕ → List ℕ → List ℕ → List ℕ → Tables
   movedTo clients links writes reads = tablesOf (counted (t .counts)) clients links (t .keys) (t .values) (t .log) writes reads
 
+  abbrev movedPress : (ℕ → ℕ) → (ℕ → Content) → Press
+  movedPress row link = pressOf (renumbered (stepOf t + 1) (writesOf t) (readsOf t) (sharedOf t)) (changed (view t .client) q (clientOf row link))
+
   module _ (clients links writes reads : List ℕ) {row : ℕ → ℕ} {link : ℕ → Content} (d : Delivered) where
     moved-fair : rowOf clients q ≡ row → ((r : ℕ) → (r ≡ q → ⊥) → rowOf clients r ≡ rowOf (t .clients) r) →
         linksOf links q ≡ link → ((r : ℕ) → (r ≡ q → ⊥) → linksOf links r ≡ linksOf (t .links) r) →
-        Kept floor h (replied q i d) (pressOf (sharedOf t) (changed (view t .client) q (clientOf row link))) → FairReply floor h q i (arrived d (movedTo clients links writes reads))
-    moved-fair rows other-rows link-is other-links k =
-        subst (λ (v : Press). Kept floor h (replied q i d) v)
-        (sym (view-is t (movedTo clients links writes reads) q
-        (shared-other (t .counts) stepField _ (t .keys) (t .values) (t .log) (λ e. omega arith) (λ e. omega arith) (λ e. omega arith) (omega arith))
-        rows link-is other-rows other-links))
-        k
+        (numberOfArrival (d .arrival) ≡ 8 → ⊥) →
+        Kept floor h (replied q i d) (movedPress row link) → Budget (movedPress row link) → FairReply floor h q i (arrived d (movedTo clients links writes reads))
+    moved-fair rows other-rows link-is other-links room k b =
+        let seen = view-is t (movedTo clients links writes reads) q (shared-step (t .counts) (stepOf t + 1) (t .keys) (t .values) (t .log) (ready .sound .long .counts)) rows link-is other-rows other-links in
+        record { kept = subst (λ (v : Press). Kept floor h (replied q i d) v) (sym seen) k; budget = subst Budget (sym seen) b; room = room }
 
   -- words of the row that a step puts one behind the other
   one-word : (f v : ℕ) → f < clientWidth → rowOf (putClientWord (t .clients) q f v) q ≡ changed (c .row) f v
@@ -142,25 +150,38 @@ module _ (floor : ℕ → ℕ) (t : Tables) (h : History) (tied : Tied floor (vi
     none-left : pending (emptied q i t) q ≡ false → toCome gone ≡ 0
     none-left e = subst (λ (l : ℕ → Content). toCome l ≡ 0) gone-links (none-come (emptied q i t) q e)
 
+    -- one delivery further, where no second round is to come
+    gone-come : toCome gone + 1 ≡ toCome (c .link)
+    gone-come = omega (arith, come-changed (c .link) i Nothing hi, ap weight link)
+
+    gone-budget : (row : ℕ → ℕ) (state : ℕ) → row stateField ≡ state → (state ≡ rules.writing → ⊥) → (state ≡ entering → ⊥) → (state ≡ askingKeys → ⊥) → Budget (movedPress row gone)
+    gone-budget row state is a b d = further (view t) budget q (in-range t q ready) (clientOf row gone) state is a b (omega (arith, gone-come, no-rest (clientOf row gone) state is a d))
+
     done-fair : stateIn c ≡ rules.writing → Writing (h .extra) (world (view t) h) (floor q) q c (h .doing q) → FairReply floor h q i (onSetDone q i t)
     unfolding onSetDone
     done-fair state a =
         by-test (pending (emptied q i t) q)
         (λ b. rw b (
-        moved-fair (t .clients) (emptied q i t) (t .writes) (t .reads) (nothingShown arrival.Wait) refl (λ r d. refl) gone-links gone-others
-        (done-wait-kept floor (view t) h tied (few t q ready) q (in-range t q ready) i hi w link a state)
+        moved-fair (t .clients) (emptied q i t) (t .writes) (t .reads) (nothingShown arrival.Wait) refl (λ r d. refl) gone-links gone-others (λ z. omega arith)
+        (done-wait-kept floor (view t) h tied (few t q ready) q (in-range t q ready) (stepOf t + 1) (writesOf t) (readsOf t) i hi w link a state)
+        (done-budget (view t) budget q (in-range t q ready) i hi w link state)
         ))
         (λ b. rw b (
         moved-fair (putClientWord (t .clients) q stateField entering) (putLink (emptied q i t) q coordinator enter) (t .writes) (t .reads) (nothingShown arrival.Next)
         (one-word stateField entering (omega arith)) (one-others stateField entering (omega arith))
         (link-put (emptied q i t) q coordinator enter (omega arith) (rw (link-length (t .links) q i Nothing) (has-link t q ready coordinator (omega arith))) fits ∙ ap₂ (λ (l : ℕ → Content) (x : Content). changed l coordinator x) gone-links enter-is)
-        (λ r d. link-put-other (emptied q i t) q coordinator enter (omega arith) r d ∙ gone-others r d)
-        (done-next-kept floor (view t) h tied (few t q ready) q (in-range t q ready) i hi w link a (none-left b) (changed (c .row) stateField entering)
+        (λ r d. link-put-other (emptied q i t) q coordinator enter (omega arith) r d ∙ gone-others r d) (λ z. omega arith)
+        (done-next-kept floor (view t) h tied (few t q ready) q (in-range t q ready) (stepOf t + 1) (writesOf t) (readsOf t) i hi w link a (none-left b) (changed (c .row) stateField entering)
         (changed-same (c .row) stateField entering) (changed-other (c .row) stateField entering countField (λ e. omega arith)) (changed-other (c .row) stateField entering maskField (λ e. omega arith)))
+        (last-budget (view t) budget q (in-range t q ready) (clientOf (changed (c .row) stateField entering) (changed gone coordinator (request (keyOf (countIn c) q) (maskIn c)))) (changed-same (c .row) stateField entering) state
+        (rw state (omega (arith, gone-come))) (entry-come (none-left b)))
         ))
       where
         enter : Content
         enter = request (keyOf (countOf t q) q) (maskOf t q)
+
+        entry-come : toCome gone ≡ 0 → toCome (changed gone coordinator (request (keyOf (countIn c) q) (maskIn c))) ≡ 2
+        entry-come e = omega (arith, come-changed gone coordinator (request (keyOf (countIn c) q) (maskIn c)) (omega arith), ap weight (all-empty gone e coordinator (omega arith)))
 
         fits : FitsByte (keyOf (countOf t q) q)
         fits = record { count = rw (row-at t q countField (omega arith)) at (a .few); client = omega (arith, in-range t q ready) }
@@ -178,31 +199,43 @@ module _ (floor : ℕ → ℕ) (t : Tables) (h : History) (tied : Tied floor (vi
         let at = at-head (a .others) in
         let there : c .link coordinator ≡ Reply w = ap (c .link) (sym at) ∙ link in
         moved-fair (putClientWord (putClientWord (t .clients) q tagField (w .number)) q stateField idle) (emptied q i t) (endedRecord (recordOf t q) (nextStep t) (t .writes)) (t .reads) (nothingShown (arrival.Write (w .number)))
-        (two-words tagField (w .number) stateField idle (omega arith) (omega arith)) (two-others tagField (w .number) stateField idle (omega arith) (omega arith)) gone-links gone-others
-        (rw at (entered-kept floor (view t) h tied (few t q ready) q (in-range t q ready) w there a (changed (changed (c .row) tagField (w .number)) stateField idle)
+        (two-words tagField (w .number) stateField idle (omega arith) (omega arith)) (two-others tagField (w .number) stateField idle (omega arith) (omega arith)) gone-links gone-others (λ z. omega arith)
+        (rw at (entered-kept floor (view t) h tied (few t q ready) q (in-range t q ready) (stepOf t + 1) (writesOf t) (readsOf t) w there a (changed (changed (c .row) tagField (w .number)) stateField idle)
         (changed-same (changed (c .row) tagField (w .number)) stateField idle) (left-by tagField (w .number) stateField idle countField (λ e. omega arith) (λ e. omega arith))))
+        (gone-budget (changed (changed (c .row) tagField (w .number)) stateField idle) idle (changed-same (changed (c .row) tagField (w .number)) stateField idle) (λ e. omega arith) (λ e. omega arith) (λ e. omega arith))
 
     mask-at : maskIn c ≡ maskOf t q
     mask-at = row-at t q maskField (omega arith)
 
     -- B: the keys arrived
-    keys-fair : AskingKeys (h .extra) (world (view t) h) (floor q) q c (h .doing q) → FairReply floor h q i (onKeys w q i t)
+    keys-fair : stateIn c ≡ askingKeys → AskingKeys (h .extra) (world (view t) h) (floor q) q c (h .doing q) → FairReply floor h q i (onKeys w q i t)
     unfolding onKeys
-    keys-fair a =
+    keys-fair state a =
         let at = at-head (a .others) in
         let there : c .link coordinator ≡ Reply w = ap (c .link) (sym at) ∙ link in
         moved-fair (putClientWord (putClientWord (t .clients) q tagField (w .number - 1)) q stateField askingSetpoints) (sentGets q (maskOf t q) (t .log) (w .number - 1) (serversOf t) (emptied q i t)) (t .writes) (t .reads) (nothingShown arrival.Next)
         (two-words tagField (w .number - 1) stateField askingSetpoints (omega arith) (omega arith)) (two-others tagField (w .number - 1) stateField askingSetpoints (omega arith) (omega arith))
         (sent-links q gets (λ j. at-word-fits _) (maskOf t q) (serversOf t) (omega (arith, few t q ready)) bound (emptied q i t) long (empty at) ∙ ap (λ (m : ℕ). sends m gets) (sym mask-at))
-        (λ r d. sent-others q gets (λ j. at-word-fits _) (maskOf t q) (serversOf t) (omega (arith, few t q ready)) bound (emptied q i t) long (empty at) r d ∙ gone-others r d)
-        (keys-kept floor (view t) h tied (few t q ready) q (in-range t q ready) w there a (changed (changed (c .row) tagField (w .number - 1)) stateField askingSetpoints)
+        (λ r d. sent-others q gets (λ j. at-word-fits _) (maskOf t q) (serversOf t) (omega (arith, few t q ready)) bound (emptied q i t) long (empty at) r d ∙ gone-others r d) (λ z. omega arith)
+        (keys-kept floor (view t) h tied (few t q ready) q (in-range t q ready) (stepOf t + 1) (writesOf t) (readsOf t) w there a (changed (changed (c .row) tagField (w .number - 1)) stateField askingSetpoints)
         (changed-same (changed (c .row) tagField (w .number - 1)) stateField askingSetpoints)
         (left-by tagField (w .number - 1) stateField askingSetpoints countField (λ e. omega arith) (λ e. omega arith))
         (left-by tagField (w .number - 1) stateField askingSetpoints maskField (λ e. omega arith) (λ e. omega arith))
         (changed-other (changed (c .row) tagField (w .number - 1)) stateField askingSetpoints tagField (λ e. omega arith) ∙ changed-same (c .row) tagField (w .number - 1)))
+        (further (view t) budget q (in-range t q ready) asked askingSetpoints asked-state (λ e. omega arith) (λ e. omega arith)
+        (rw state (omega (arith, no-rest asked askingSetpoints asked-state (λ e. omega arith) (λ e. omega arith), sends-come (maskIn c) gets (λ j. refl) no-head, gone-come))))
       where
         gets : ℕ → Content
         gets j = request (latestKey (t .log) j (w .number - 1)) 0
+
+        asked : Client
+        asked = clientOf (changed (changed (c .row) tagField (w .number - 1)) stateField askingSetpoints) (sends (maskIn c) gets)
+
+        asked-state : stateIn asked ≡ askingSetpoints
+        asked-state = changed-same (changed (c .row) tagField (w .number - 1)) stateField askingSetpoints
+
+        no-head : hasServer (maskIn c) coordinator ≡ false
+        no-head = by-test (hasServer (maskIn c) coordinator) (λ e. let z : ⊥ = omega (arith, a .bound coordinator e, few t q ready) in absurd z) (λ e. e)
 
         bound : (j : ℕ) → hasServer (maskOf t q) j ≡ true → j < serversOf t
         bound j m = a .bound j (rw mask-at m)
@@ -222,21 +255,23 @@ module _ (floor : ℕ → ℕ) (t : Tables) (h : History) (tied : Tied floor (vi
         by-test (pending (emptied q i t) q)
         (λ b. rw b (
         moved-fair (gotSetpoint w q i t) (emptied q i t) (t .writes) (t .reads) (nothingShown arrival.Wait)
-        (one-word (setpointsField + i) (w .number) (omega arith)) (one-others (setpointsField + i) (w .number) (omega arith)) gone-links gone-others
-        (got-wait-kept floor (view t) h tied (few t q ready) q (in-range t q ready) i hi w link a row
+        (one-word (setpointsField + i) (w .number) (omega arith)) (one-others (setpointsField + i) (w .number) (omega arith)) gone-links gone-others (λ z. omega arith)
+        (got-wait-kept floor (view t) h tied (few t q ready) q (in-range t q ready) (stepOf t + 1) (writesOf t) (readsOf t) i hi w link a row
         (other-word countField (λ e. omega arith)) (other-word maskField (λ e. omega arith)) (other-word tagField (λ e. omega arith))
         (changed-same (c .row) (setpointsField + i) (w .number)) (λ j d. other-word (setpointsField + j) (λ e. d (omega arith)))
         (come b) (other-word stateField (λ e. omega arith) ∙ state))
+        (gone-budget row askingSetpoints (other-word stateField (λ e. omega arith) ∙ state) (λ e. omega arith) (λ e. omega arith) (λ e. omega arith))
         ))
         (λ b. rw (b, ← row-at t q tagField (omega arith)) (
         moved-fair (putClientWord (gotSetpoint w q i t) q stateField idle) (emptied q i t) (t .writes)
         (endedRecord (recordOf t q) (nextStep t) (taggedRecord (recordOf t q) (tagIn c) (t .reads))) (readShown (tagIn c) (gotSetpoint w q i t) q (maskOf t q))
-        (two-words (setpointsField + i) (w .number) stateField idle (omega arith) (omega arith)) (two-others (setpointsField + i) (w .number) stateField idle (omega arith) (omega arith)) gone-links gone-others
-        (got-end-kept floor (view t) h tied (few t q ready) q (in-range t q ready) i hi w link a ended
+        (two-words (setpointsField + i) (w .number) stateField idle (omega arith) (omega arith)) (two-others (setpointsField + i) (w .number) stateField idle (omega arith) (omega arith)) gone-links gone-others (λ z. omega arith)
+        (got-end-kept floor (view t) h tied (few t q ready) q (in-range t q ready) (stepOf t + 1) (writesOf t) (readsOf t) i hi w link a ended
         (ended-word countField (λ e. omega arith) (λ e. omega arith)) (ended-word maskField (λ e. omega arith) (λ e. omega arith)) (ended-word tagField (λ e. omega arith) (λ e. omega arith))
         (changed-other row stateField idle (setpointsField + i) (λ e. omega arith) ∙ changed-same (c .row) (setpointsField + i) (w .number)) (λ j d. ended-word (setpointsField + j) (λ e. d (omega arith)) (λ e. omega arith))
         (none-left b) (changed-same row stateField idle)
         (shownSetpoints (gotSetpoint w q i t) q (maskOf t q)) shows)
+        (gone-budget ended idle (changed-same row stateField idle) (λ e. omega arith) (λ e. omega arith) (λ e. omega arith))
         ))
       where
         row : ℕ → ℕ
@@ -266,16 +301,18 @@ module _ (floor : ℕ → ℕ) (t : Tables) (h : History) (tied : Tied floor (vi
         by-test (pending (emptied q i t) q)
         (λ b. rw b (
         moved-fair told (emptied q i t) (t .writes) (t .reads) (nothingShown arrival.Wait)
-        told-row (one-others (receivedField + i) (w .number) (omega arith)) gone-links gone-others
-        (told-wait-kept floor (view t) h tied (few t q ready) q (in-range t q ready) i hi w link a row (other-word maskField (λ e. omega arith)) new old
+        told-row (one-others (receivedField + i) (w .number) (omega arith)) gone-links gone-others (λ z. omega arith)
+        (told-wait-kept floor (view t) h tied (few t q ready) q (in-range t q ready) (stepOf t + 1) (writesOf t) (readsOf t) i hi w link a row (other-word maskField (λ e. omega arith)) new old
         (come b) (other-word stateField (λ e. omega arith) ∙ state) (other-word countField (λ e. omega arith)))
+        (gone-budget row askingAll (other-word stateField (λ e. omega arith) ∙ state) (λ e. omega arith) (λ e. omega arith) (λ e. omega arith))
         ))
         (λ b. rw b (
         moved-fair (putClientWord (concluded tag told q t) q stateField idle) (emptied q i t) (t .writes)
         (endedRecord (recordOf t q) (nextStep t) (taggedRecord (recordOf t q) tag (t .reads))) (readShown tag (concluded tag told q t) q (maskOf t q))
-        refl ended-others gone-links gone-others
-        (told-end-kept floor (view t) h tied (few t q ready) q (in-range t q ready) i hi w link a row (other-word maskField (λ e. omega arith)) new old
+        refl ended-others gone-links gone-others (λ z. omega arith)
+        (told-end-kept floor (view t) h tied (few t q ready) q (in-range t q ready) (stepOf t + 1) (writesOf t) (readsOf t) i hi w link a row (other-word maskField (λ e. omega arith)) new old
         (none-left b) (receivedIn told q) same (rowOf (putClientWord (concluded tag told q t) q stateField idle) q) ended-state ended-count (shownSetpoints (concluded tag told q t) q (maskOf t q)) shows)
+        (gone-budget (rowOf (putClientWord (concluded tag told q t) q stateField idle) q) idle ended-state (λ e. omega arith) (λ e. omega arith) (λ e. omega arith))
         ))
       where
         told : List ℕ
@@ -364,14 +401,14 @@ module _ (floor : ℕ → ℕ) (t : Tables) (h : History) (tied : Tied floor (vi
     in-activity (at-rest e a) = not-empty (Reply w) (omega arith) (sym link ∙ a .links i hi)
     in-activity (at-writing e a) = subst (FairReply floor h q i) (sym (in-state rules.writing e ∙ is-done)) (done-fair e a)
     in-activity (at-entering e a) = subst (FairReply floor h q i) (sym (in-state entering e ∙ is-entered)) (entered-fair a)
-    in-activity (at-keys e a) = subst (FairReply floor h q i) (sym (in-state askingKeys e ∙ is-keys)) (keys-fair a)
+    in-activity (at-keys e a) = subst (FairReply floor h q i) (sym (in-state askingKeys e ∙ is-keys)) (keys-fair e a)
     in-activity (at-getting e a) = subst (FairReply floor h q i) (sym (in-state askingSetpoints e ∙ is-got)) (got-fair e a)
     in-activity (at-all e a) = subst (FairReply floor h q i) (sym (in-state askingAll e ∙ is-all)) (all-fair e a)
 
   by-content : (x : Content) → contentAt t q i ≡ x → FairReply floor h q i (onReply x q i t)
   unfolding replyDelivered
-  by-content Nothing e = refused-reply 9
-  by-content (Request w) e = refused-reply 9
+  by-content Nothing e = refused-reply floor t h tied budget q i 9 (λ z. omega arith)
+  by-content (Request w) e = refused-reply floor t h tied budget q i 9 (λ z. omega arith)
   by-content (Reply w) e = rw e at (in-activity w e (tied .clients q (in-range t q ready) .activity))
 
   pub reply-fair : FairReply floor h q i (replyDelivered q i t)

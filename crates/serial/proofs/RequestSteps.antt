@@ -6,15 +6,16 @@ use mathlib.Core.List.{List}
 use native.Mathlib.Omega.{arith}
 use native.Mathlib.Numerals.{add-one}
 use lib.ListN.{getD, set, length, length-set}
+use lib.Seq.{getD-set-other}
 use lib.Dec.{eqb, ltb}
 use borrow.Author.Tests.{lt-ltb, le-ltb, ltb-true, ltb-false}
 use Rattle.ranges.specs.Tests.{by-equal, by-test}
 use Rattle.keys.specs.declared.Key.{Key}
 use Rattle.keys.specs.Keys.{keyWord, opening}
 use Rattle.tables.specs.Rows.{HasRow}
-use Rattle.tables.specs.Layout.{countAt, heldField, stepField, entriesField, serverPlaces, logPlaces, entryWidth, versionWord, putVersionWord, putEntry, stateField}
+use Rattle.tables.specs.Layout.{countAt, countWords, heldField, stepField, entriesField, serverPlaces, logPlaces, entryWidth, versionWord, putVersionWord, putEntry, stateField}
 use Rattle.tables.specs.Links.{targets, linkWidth, linkRow, putLink, link-same}
-use Rattle.tables.specs.Tables.{Tables, tablesOf, entriesOf, heldOf, stateOf, recordOf, contentAt, serversOf}
+use Rattle.tables.specs.Tables.{Tables, tablesOf, stepOf, entriesOf, writesOf, readsOf, heldOf, stateOf, recordOf, contentAt, serversOf}
 use Rattle.tables.specs.declared.links.Contents.{Contents}
 use Rattle.tables.specs.declared.links.Content.{Content}
 use Rattle.tables.specs.declared.links.Content.the-variants.{Nothing, Request, Reply}
@@ -29,43 +30,68 @@ use Rattle.soundness.specs.Facts.{Sound}
 use Rattle.serial.specs.Steps.{requested}
 use Rattle.serial.specs.History.{changed, History}
 use Rattle.serial.specs.Claim.{IsReply, LeavesReply}
-use Rattle.serial.proofs.Press.{Shared, Client, clientOf, Press, pressOf, stateIn, maskIn, sharedOf, view, weight, World, world}
-use Rattle.serial.proofs.View.{within-at, link-put, link-put-other, view-is, sharedIn, shared-other, shared-held, shared-entries}
+use Rattle.serial.specs.Consequences.{numberOf}
+use Rattle.serial.proofs.Press.{Shared, renumbered, Client, clientOf, Press, pressOf, stateIn, maskIn, sharedOf, view, weight, World, world}
+use Rattle.serial.proofs.View.{within-at, link-put, link-put-other, view-is, sharedIn, shared-step, shared-held, shared-entries}
+use Rattle.serial.proofs.Links.{come-changed}
 use Rattle.serial.proofs.Versions.{found-place}
 use Rattle.serial.proofs.Ready.{Ready, few, in-range, has-link, has-keys, has-values, row-at, link-at, not-empty}
 use Rattle.serial.proofs.Invariant.{Writing, Stored, Entering, AskingKeys, Getting, AskingAll, Idle, Activity, at-rest, at-writing, at-entering, at-keys, at-getting, at-all, ClientOk, Tied}
 use Rattle.serial.proofs.Kept.{Kept, passed-tied}
+use Rattle.serial.proofs.Budget.{waits, due, Budget, waiting-room, entry-room}
+use Rattle.serial.proofs.Spending.{further, set-budget, enter-budget}
 use Rattle.serial.proofs.Requests.{versionMore, entryMore, withLink, set-kept, enter-kept, which-keys-kept, get-kept, get-all-kept}
 
--- the step keeps the tie, pays what it owes, and leaves the reply on the link
-abbrev pub FairRequest : (ℕ → ℕ) → History → ℕ → ℕ → Left → Type 0
-FairRequest floor h q i x = Kept floor h (requested q i (x .answer)) (view (x .tables)) × LeavesReply (x .answer) (contentAt (x .tables) q i)
+-- the step keeps the tie and the budget, pays what it owes, leaves the reply on the link, and finds room
+pub record FairRequest (floor : ℕ → ℕ) (h : History) (q i : ℕ) (x : Left) : Type 0 where
+  pub kept : Kept floor h (requested q i (x .answer)) (view (x .tables))
+  pub budget : Budget (view (x .tables))
+  pub answers : LeavesReply (x .answer) (contentAt (x .tables) q i)
+  pub room : numberOf (x .answer) ≡ 8 → ⊥
 
-module _ (floor : ℕ → ℕ) (t : Tables) (h : History) (tied : Tied floor (view t) h) (q : ℕ) (ready : Ready t q) (i : ℕ) (hi : i < targets) where
-  pub refused-fair : (n : ℕ) → FairRequest floor h q i (refused n t)
-  refused-fair n = ((tt, passed-tied floor (view t) h tied), tt)
+module _ (floor : ℕ → ℕ) (t : Tables) (h : History) (tied : Tied floor (view t) h) (budget : Budget (view t)) (q i : ℕ) where
+  pub refused-fair : (n : ℕ) → (n ≡ 8 → ⊥) → FairRequest floor h q i (refused n t)
+  refused-fair n d = record { kept = (tt, passed-tied floor (view t) h tied); budget = budget; answers = tt; room = d }
 
+module _ (floor : ℕ → ℕ) (t : Tables) (h : History) (tied : Tied floor (view t) h) (budget : Budget (view t)) (q : ℕ) (ready : Ready t q) (i : ℕ) (hi : i < targets) where
   -- the tables when a reply has taken the request's place
   abbrev replied : List ℕ → List ℕ → List ℕ → List ℕ → List ℕ → ℕ → Tables
   replied counts keys values log writes n = tablesOf (counted counts) (t .clients) (putLink (t .links) q i (reply n)) keys values log writes (t .reads)
 
-  module _ (counts keys values log writes : List ℕ) (n : ℕ) where
-    replied-view : (s : Shared) → sharedIn counts keys values log ≡ s → view (replied counts keys values log writes n) ≡ pressOf s (changed (view t .client) q (withLink (view t .client q) i (reply n)))
+  abbrev next : Shared → Shared
+  next s = renumbered (stepOf t + 1) (s .writes) (s .reads) s
+
+  abbrev repliedPress : Shared → ℕ → Press
+  repliedPress s n = pressOf (next s) (changed (view t .client) q (withLink (view t .client q) i (reply n)))
+
+  module _ (counts keys values log writes : List ℕ) (n : ℕ) (long : countWords ≤ length counts) (step : countAt counts stepField ≡ stepOf t) where
+    replied-view : (s : Shared) → sharedIn counts keys values log ≡ s → view (replied counts keys values log writes n) ≡ repliedPress s n
     replied-view s e =
         view-is t (replied counts keys values log writes n) q
-        (shared-other counts stepField _ keys values log (λ d. omega arith) (λ d. omega arith) (λ d. omega arith) (omega arith) ∙ e)
+        (shared-step counts (countAt counts stepField + 1) keys values log long
+        ∙ ap (λ (x : Shared). renumbered (countAt counts stepField + 1) (x .writes) (x .reads) x) e
+        ∙ ap (λ (m : ℕ). renumbered (m + 1) (s .writes) (s .reads) s) step)
         refl (link-put (t .links) q i (reply n) hi (has-link t q ready i hi) (record { count = omega arith; client = omega arith }))
         (λ r d. refl) (λ r d. link-put-other (t .links) q i (reply n) hi r d)
 
     replied-reply : contentAt (replied counts keys values log writes n) q i ≡ reply n
     replied-reply = link-same (t .links) q i (reply n) (has-link t q ready i hi) (record { count = omega arith; client = omega arith })
 
-    replied-fair : (s : Shared) → sharedIn counts keys values log ≡ s → Kept floor h (requested q i Ok) (pressOf s (changed (view t .client) q (withLink (view t .client q) i (reply n)))) →
-        FairRequest floor h q i (left Ok (replied counts keys values log writes n))
-    replied-fair s e k = (
-      subst (λ (v : Press). Kept floor h (requested q i Ok) v) (sym (replied-view s e)) k,
-      subst IsReply (sym replied-reply) tt,
-    )
+    replied-fair : (s : Shared) → sharedIn counts keys values log ≡ s → Kept floor h (requested q i Ok) (repliedPress s n) → Budget (repliedPress s n) → FairRequest floor h q i (left Ok (replied counts keys values log writes n))
+    replied-fair s e k b = record {
+      kept = subst (λ (v : Press). Kept floor h (requested q i Ok) v) (sym (replied-view s e)) k;
+      budget = subst Budget (sym (replied-view s e)) b;
+      answers = subst IsReply (sym replied-reply) tt;
+      room = λ z. omega arith;
+    }
+
+  counts-long : countWords ≤ length (t .counts)
+  counts-long = ready .sound .long .counts
+
+  -- a READ's request: one delivery further
+  read-further : (n : ℕ) (w : Contents) → view t .client q .link i ≡ Request w → (state : ℕ) → stateIn (view t .client q) ≡ state → (state ≡ rules.writing → ⊥) → (state ≡ entering → ⊥) → Budget (repliedPress (sharedOf t) n)
+  read-further n w lk state is a b =
+      further (view t) budget q (in-range t q ready) (withLink (view t .client q) i (reply n)) state is a b (omega (arith, come-changed (view t .client q .link) i (reply n) hi, ap weight lk))
 
   module _ (w : Contents) (lk : contentAt t q i ≡ Request w) where
     link : view t .client q .link i ≡ Request w
@@ -99,50 +125,53 @@ module _ (floor : ℕ → ℕ) (t : Tables) (h : History) (tied : Tied floor (vi
     unfolding onRequestIn
     is-get-all = refl
 
-    -- a set request finds room or 256 versions
+    -- a set request finds room
     set-fair : stateIn (view t .client q) ≡ rules.writing → Writing (h .extra) (world (view t) h) (floor q) q (view t .client q) (h .doing q) → FairRequest floor h q i (onSet w q i t)
     unfolding onSet appended
     set-fair state a =
-        by-test (ltb (heldOf t i) serverPlaces)
-        (λ b. rw b (
-        let room = ltb-true _ _ b in
+        let waiting : waits i (view t .client q) ≡ 1 = rw (state, link) in
+        let room : heldOf t i < serverPlaces = omega (arith, waiting-room (view t) budget q (in-range t q ready) i waiting, ready .sound .scalars .writes) in
         let l : i < serversOf t = rw link at (a .links i hi) .2 in
-        replied-fair (set (t .counts) (heldField + i) (heldOf t i + 1)) (putVersionWord (t .keys) i (heldOf t i) (keyWord (w .key))) (putVersionWord (t .values) i (heldOf t i) (w .number)) (t .log) (t .writes) 0
+        let few16 = few t q ready in
+        rw (lt-ltb (heldOf t i) serverPlaces room)
+        (replied-fair (set (t .counts) (heldField + i) (heldOf t i + 1)) (putVersionWord (t .keys) i (heldOf t i) (keyWord (w .key))) (putVersionWord (t .values) i (heldOf t i) (w .number)) (t .log) (t .writes) 0
+        (rw (length-set (t .counts) (heldField + i) (heldOf t i + 1)) counts-long) (getD-set-other (t .counts) (heldField + i) stepField (heldOf t i + 1) 0 (λ e. omega arith))
         (versionMore (sharedOf t) i (keyWord (w .key)) (w .number))
-        (shared-held (t .counts) i (heldOf t i + 1) _ _ _ (omega (arith, few t q ready, ready .sound .long .counts)) ∙ rw (add-one (heldOf t i)))
-        (set-kept floor (view t) h tied (few t q ready) q (in-range t q ready) i w link hi state a (has-keys t q ready i l) (has-values t q ready i l) room)
-        ))
-        (λ b. rw b (refused-fair 8))
+        (shared-held (t .counts) (heldOf t i + 1) _ _ _ counts-long i (omega arith) ∙ rw (add-one (heldOf t i)))
+        (set-kept floor (view t) h tied few16 q (in-range t q ready) (stepOf t + 1) (writesOf t) (readsOf t) i w link hi state a (has-keys t q ready i l) (has-values t q ready i l) room)
+        (set-budget (view t) budget q (in-range t q ready) i hi w link state (keyWord (w .key)) (w .number)))
 
-    -- an entry finds room or 256 entries
+    -- an entry finds room
     enter-fair : i ≡ coordinator → stateIn (view t .client q) ≡ entering → (a : Entering (h .extra) (world (view t) h) (floor q) q (view t .client q) (h .doing q)) → FairRequest floor h q i (onEnter w q i t)
     unfolding onEnter log.entered
     enter-fair at state a =
-        by-test (ltb (entriesOf t) logPlaces)
-        (λ b. rw b (
-        let room = ltb-true (entriesOf t) logPlaces b in
         let there : view t .client q .link coordinator ≡ Request w = ap (view t .client q .link) (sym at) ∙ link in
+        let waiting : due (view t .client q) ≡ 1 = rw (state, there) in
+        let room : entriesOf t < logPlaces = omega (arith, entry-room (view t) budget q (in-range t q ready) waiting, ready .sound .scalars .writes) in
         let head = rw there at (a .head) in
-        replied-fair (set (t .counts) entriesField (entriesOf t + 1)) (t .keys) (t .values) (putEntry (t .log) (entriesOf t) (w .key) (w .number)) (taggedRecord (recordOf t q) (entriesOf t) (t .writes)) (entriesOf t)
+        rw (lt-ltb (entriesOf t) logPlaces room)
+        (replied-fair (set (t .counts) entriesField (entriesOf t + 1)) (t .keys) (t .values) (putEntry (t .log) (entriesOf t) (w .key) (w .number)) (taggedRecord (recordOf t q) (entriesOf t) (t .writes)) (entriesOf t)
+        (rw (length-set (t .counts) entriesField (entriesOf t + 1)) counts-long) (getD-set-other (t .counts) entriesField stepField (entriesOf t + 1) 0 (λ e. omega arith))
         (entryMore (sharedOf t) (w .key) (w .number))
-        (shared-entries (t .counts) (entriesOf t + 1) _ _ _ (omega (arith, ready .sound .long .counts)) ∙ rw (add-one (entriesOf t)))
-        (rw at (enter-kept floor (view t) h tied (few t q ready) q (in-range t q ready) w state a (head .0) (head .1) (head .2) (omega (arith, ready .sound .long .log))))
-        ))
-        (λ b. rw b (refused-fair 8))
+        (shared-entries (t .counts) (entriesOf t + 1) _ _ _ counts-long ∙ rw (add-one (entriesOf t)))
+        (rw at (enter-kept floor (view t) h tied (few t q ready) q (in-range t q ready) (stepOf t + 1) (writesOf t) (readsOf t) w state a (head .0) (head .1) (head .2) (omega (arith, ready .sound .long .log))))
+        (rw at (enter-budget (view t) budget q (in-range t q ready) w there state (w .key) (w .number) (entriesOf t))))
 
     -- the head or a server tells how much it holds
     which-fair : i ≡ coordinator → stateIn (view t .client q) ≡ askingKeys → AskingKeys (h .extra) (world (view t) h) (floor q) q (view t .client q) (h .doing q) → FairRequest floor h q i (onWhichKeys q i t)
     unfolding onWhichKeys
     which-fair at state a =
         let there : view t .client q .link coordinator ≡ Request w = ap (view t .client q .link) (sym at) ∙ link in
-        replied-fair (t .counts) (t .keys) (t .values) (t .log) (t .writes) (entriesOf t) (sharedOf t) refl
-        (rw at (which-keys-kept floor (view t) h tied (few t q ready) q (in-range t q ready) w there state a))
+        replied-fair (t .counts) (t .keys) (t .values) (t .log) (t .writes) (entriesOf t) counts-long refl (sharedOf t) refl
+        (rw at (which-keys-kept floor (view t) h tied (few t q ready) q (in-range t q ready) (stepOf t + 1) (writesOf t) (readsOf t) w there state a))
+        (read-further (entriesOf t) w link askingKeys state (λ e. omega arith) (λ e. omega arith))
 
     all-fair : stateIn (view t .client q) ≡ askingAll → AskingAll (h .extra) (world (view t) h) (floor q) q (view t .client q) (h .doing q) → FairRequest floor h q i (onGetAll q i t)
     unfolding onGetAll
     all-fair state a =
-        replied-fair (t .counts) (t .keys) (t .values) (t .log) (t .writes) (cond (eqb i coordinator) (entriesOf t) (heldOf t i)) (sharedOf t) refl
-        (get-all-kept floor (view t) h tied (few t q ready) q (in-range t q ready) i hi w link state a)
+        replied-fair (t .counts) (t .keys) (t .values) (t .log) (t .writes) (cond (eqb i coordinator) (entriesOf t) (heldOf t i)) counts-long refl (sharedOf t) refl
+        (get-all-kept floor (view t) h tied (few t q ready) q (in-range t q ready) (stepOf t + 1) (writesOf t) (readsOf t) i hi w link state a)
+        (read-further _ w link askingAll state (λ e. omega arith) (λ e. omega arith))
 
     -- a get request finds its key
     get-fair : stateIn (view t .client q) ≡ askingSetpoints → Getting (h .extra) (world (view t) h) (floor q) q (view t .client q) (h .doing q) → FairRequest floor h q i (onGet w q i t)
@@ -151,8 +180,9 @@ module _ (floor : ℕ → ℕ) (t : Tables) (h : History) (tied : Tied floor (vi
         let v = world (view t) h .value (view t .client q .row 3) i in
         let f = found-place (t .keys) (t .values) i (w .key) (heldOf t i) v (rw link at (a .links i hi)) in
         rw (lt-ltb (firstBearing (t .keys) i (w .key) (heldOf t i)) (heldOf t i) (f .0), f .1)
-        (replied-fair (t .counts) (t .keys) (t .values) (t .log) (t .writes) v (sharedOf t) refl
-        (get-kept floor (view t) h tied (few t q ready) q (in-range t q ready) i hi w link state a))
+        (replied-fair (t .counts) (t .keys) (t .values) (t .log) (t .writes) v counts-long refl (sharedOf t) refl
+        (get-kept floor (view t) h tied (few t q ready) q (in-range t q ready) (stepOf t + 1) (writesOf t) (readsOf t) i hi w link state a)
+        (read-further v w link askingSetpoints state (λ e. omega arith) (λ e. omega arith)))
 
     -- only the head's link holds anything in states 2 and 3
     at-head : ((j : ℕ) → j < coordinator → view t .client q .link j ≡ Nothing) → i ≡ coordinator
@@ -168,9 +198,9 @@ module _ (floor : ℕ → ℕ) (t : Tables) (h : History) (tied : Tied floor (vi
 
   by-content : (c : Content) → contentAt t q i ≡ c → FairRequest floor h q i (onRequest c q i t)
   unfolding requestDelivered
-  by-content Nothing e = refused-fair 9
+  by-content Nothing e = refused-fair floor t h tied budget q i 9 (λ z. omega arith)
   by-content (Request w) e = rw e at (in-activity w e (tied .clients q (in-range t q ready) .activity))
-  by-content (Reply w) e = refused-fair 9
+  by-content (Reply w) e = refused-fair floor t h tied budget q i 9 (λ z. omega arith)
 
   pub request-fair : FairRequest floor h q i (requestDelivered q i t)
   unfolding requestDelivered

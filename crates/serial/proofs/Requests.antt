@@ -31,7 +31,7 @@ use Rattle.serial.proofs.Places.{changed-same, changed-other, changed-a
 use Rattle.serial.proofs.Owed.{valueAt, valueIn, More, floorAfter}
 use Rattle.serial.proofs.HistoryKept.{value-before}
 use Rattle.serial.proofs.Versions.{find, find-before, find-more, find-new, find-other}
-use Rattle.serial.proofs.Press.{Shared, Client, clientOf, Press, pressOf, stateIn, countIn, maskIn, tagIn, weight, toCome, World, worldOf, world}
+use Rattle.serial.proofs.Press.{Shared, renumbered, Client, clientOf, Press, pressOf, stateIn, countIn, maskIn, tagIn, weight, toCome, World, worldOf, world}
 use Rattle.serial.proofs.Links.{come-changed, come-some}
 use Rattle.serial.proofs.Invariant.{own, WriteLink, Writing, Stored, Entering, AskingKeys, KeysLink, GetLink, Getting, Snapshot, AllLink, AskingAll, at-writing, at-entering, at-keys, at-getting, at-all, ClientOk, Tied, Grown, client-frame}
 use Rattle.serial.proofs.Kept.{Kept, turned-tied, moved-tied}
@@ -41,7 +41,10 @@ abbrev pub versionMore : Shared → ℕ → ℕ → ℕ → Shared
 versionMore s i word v = record {
   method = s .method;
   servers = s .servers;
+  step = s .step;
   entries = s .entries;
+  writes = s .writes;
+  reads = s .reads;
   held = changed (s .held) i (suc (s .held i));
   keys = putVersionWord (s .keys) i (s .held i) word;
   values = putVersionWord (s .values) i (s .held i) v;
@@ -53,7 +56,10 @@ abbrev pub entryMore : Shared → Key → ℕ → Shared
 entryMore s key mask = record {
   method = s .method;
   servers = s .servers;
+  step = s .step;
   entries = suc (s .entries);
+  writes = s .writes;
+  reads = s .reads;
   held = s .held;
   keys = s .keys;
   values = s .values;
@@ -64,7 +70,7 @@ entryMore s key mask = record {
 abbrev pub withLink : Client → ℕ → Content → Client
 withLink c i l = clientOf (c .row) (changed (c .link) i l)
 
-module _ (floor : ℕ → ℕ) (p : Press) (h : History) (tied : Tied floor p h) (few : p .shared .servers ≤ 16) (q : ℕ) (hq : q < 16) where
+module _ (floor : ℕ → ℕ) (p : Press) (h : History) (tied : Tied floor p h) (few : p .shared .servers ≤ 16) (q : ℕ) (hq : q < 16) (step writes reads : ℕ) where
   abbrev x : World
   x = world p h
 
@@ -149,7 +155,7 @@ module _ (floor : ℕ → ℕ) (p : Press) (h : History) (tied : Tied floor p h)
       });
     }
 
-    pub set-kept : Kept floor h (requested q i Ok) (pressOf s′ (changed (p .client) q (withLink c i (reply 0))))
+    pub set-kept : Kept floor h (requested q i Ok) (pressOf (renumbered step writes reads s′) (changed (p .client) q (withLink c i (reply 0))))
     set-kept =
         let quiet : eqb i coordinator ≡ false = ne-eqb i coordinator (λ e. omega (arith, link .2)) in (
           rw (a .is) tt,
@@ -229,7 +235,7 @@ module _ (floor : ℕ → ℕ) (p : Press) (h : History) (tied : Tied floor p h)
       own = λ i n. refl;
     }
 
-    pub enter-kept : Kept floor h (requested q coordinator Ok) (pressOf s″ (changed (p .client) q (withLink c coordinator (reply (s .entries)))))
+    pub enter-kept : Kept floor h (requested q coordinator Ok) (pressOf (renumbered step writes reads s″) (changed (p .client) q (withLink c coordinator (reply (s .entries)))))
     enter-kept = (
       rw (b .is) tt,
       rw (b .is) record {
@@ -255,16 +261,16 @@ module _ (floor : ℕ → ℕ) (p : Press) (h : History) (tied : Tied floor p h)
     replied-come = omega (arith, come-changed (c .link) i (reply n) hi, ap weight lk)
 
     read-kept : suc deliveries < enough (h .extra) mask → ClientOk (h .extra) x (floor q) q (withLink c i (reply n)) (reading mask begin (suc deliveries)) →
-        Kept floor h (requested q i Ok) (pressOf s (changed (p .client) q (withLink c i (reply n))))
+        Kept floor h (requested q i Ok) (pressOf (renumbered step writes reads s) (changed (p .client) q (withLink c i (reply n))))
     read-kept more ok =
-        let t = turned-tied floor p h tied q (withLink c i (reply n)) (reading mask begin (suc deliveries)) ok in (
+        let t = turned-tied floor p h tied step writes reads q (withLink c i (reply n)) (reading mask begin (suc deliveries)) ok in (
           rw is more,
           by-test (eqb i coordinator) (λ e. rw (e, is) t) (λ e. rw (e, is) t),
         )
 
   -- B's head answers with the number of its entries.
   pub which-keys-kept : (w : Contents) → c .link coordinator ≡ Request w → stateIn c ≡ askingKeys → AskingKeys (h .extra) x (floor q) q c (h .doing q) →
-      Kept floor h (requested q coordinator Ok) (pressOf s (changed (p .client) q (withLink c coordinator (reply (s .entries)))))
+      Kept floor h (requested q coordinator Ok) (pressOf (renumbered step writes reads s) (changed (p .client) q (withLink c coordinator (reply (s .entries)))))
   which-keys-kept w lk state a =
       let none-yet : a .deliveries ≡ 0 = rw lk at (a .head) in
       read-kept coordinator (omega arith) w lk (s .entries) (maskIn c) (a .begin) (a .deliveries) (a .is) (omega (arith, a .two, a .some)) (record {
@@ -284,7 +290,7 @@ module _ (floor : ℕ → ℕ) (p : Press) (h : History) (tied : Tied floor p h)
 
   -- A server answers a get with the setpoint of the key: the value behind the client's tag.
   pub get-kept : (i : ℕ) → i < targets → (w : Contents) → c .link i ≡ Request w → stateIn c ≡ askingSetpoints → Getting (h .extra) x (floor q) q c (h .doing q) →
-      Kept floor h (requested q i Ok) (pressOf s (changed (p .client) q (withLink c i (reply (x .value (tagIn c) i)))))
+      Kept floor h (requested q i Ok) (pressOf (renumbered step writes reads s) (changed (p .client) q (withLink c i (reply (x .value (tagIn c) i)))))
   get-kept i hi w lk state a =
       let v = x .value (tagIn c) i in
       let come = replied-come i hi w lk v (maskIn c) (a .begin) (a .deliveries) (a .is) in
@@ -314,7 +320,7 @@ module _ (floor : ℕ → ℕ) (p : Press) (h : History) (tied : Tied floor p h)
   holding i = cond (eqb i coordinator) (s .entries) (s .held i)
 
   pub get-all-kept : (i : ℕ) → i < targets → (w : Contents) → c .link i ≡ Request w → stateIn c ≡ askingAll → AskingAll (h .extra) x (floor q) q c (h .doing q) →
-      Kept floor h (requested q i Ok) (pressOf s (changed (p .client) q (withLink c i (reply (holding i)))))
+      Kept floor h (requested q i Ok) (pressOf (renumbered step writes reads s) (changed (p .client) q (withLink c i (reply (holding i)))))
   get-all-kept i hi w lk state a =
       let n = holding i in
       let come = replied-come i hi w lk n (maskIn c) (a .begin) (a .deliveries) (a .is) in

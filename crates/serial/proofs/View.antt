@@ -10,7 +10,7 @@ use lib.Dec.{eqb, ltb}
 use borrow.Author.Tests.{lt-ltb, le-ltb, ltb-true, ltb-false}
 use Rattle.ranges.specs.Tests.{by-equal, by-test}
 use Rattle.tables.specs.Rows.{HasRow, word-same, word-other}
-use Rattle.tables.specs.Layout.{countAt, heldField, clientWidth, clientWord, putClientWord}
+use Rattle.tables.specs.Layout.{countAt, countWords, methodField, serversField, stepField, entriesField, writesField, readsField, heldField, clientWidth, clientWord, putClientWord}
 use Rattle.tables.specs.Links.{targets, linkWidth, linkRow, linkAt, putLink, ContentFits, link-same, link-other}
 use Rattle.tables.specs.Tables.{Tables}
 use Rattle.tables.specs.declared.links.Content.{Content}
@@ -18,7 +18,7 @@ use Rattle.tables.specs.declared.links.Content.the-variants.{Nothing, Request, 
 use Rattle.tables.specs.declared.links.Link.{Link}
 use Rattle.serial.specs.History.{changed}
 use Rattle.serial.proofs.Places.{changed-same, changed-other, changed-all}
-use Rattle.serial.proofs.Press.{within, Shared, Client, clientOf, Press, pressOf, rowOf, linksOf, sharedOf, view}
+use Rattle.serial.proofs.Press.{within, Shared, renumbered, Client, clientOf, Press, pressOf, rowOf, linksOf, sharedOf, view}
 
 module _ {A : Type 0} (n : ℕ) (default : A) where
   pub within-at : (f : ℕ → A) (i : ℕ) → i < n → within n default f i ≡ f i
@@ -86,41 +86,72 @@ view-is t t′ q {s} {row} {link} shared rows links other-rows other-links =
     (ap₂ clientOf rows links)
     (λ r d. ap₂ clientOf (other-rows r d) (other-links r d))))
 
--- The counts that what is shared goes by: a word among the others may change.
+-- What is shared, as the counts change: one word of them, and none of the others.
 abbrev pub sharedIn : List ℕ → List ℕ → List ℕ → List ℕ → Shared
-sharedIn counts keys values log =
-    record { method = countAt counts 0; servers = countAt counts 1; entries = countAt counts 4; held = λ i. countAt counts (heldField + i); keys = keys; values = values; log = log }
+sharedIn counts keys values log = record {
+  method = countAt counts methodField;
+  servers = countAt counts serversField;
+  step = countAt counts stepField;
+  entries = countAt counts entriesField;
+  writes = countAt counts writesField;
+  reads = countAt counts readsField;
+  held = λ i. countAt counts (heldField + i);
+  keys = keys;
+  values = values;
+  log = log;
+}
 
-module _ (counts : List ℕ) (f v : ℕ) (keys values log : List ℕ) where
-  pub shared-other : (f ≡ 0 → ⊥) → (f ≡ 1 → ⊥) → (f ≡ 4 → ⊥) → f < heldField → sharedIn (set counts f v) keys values log ≡ sharedIn counts keys values log
-  shared-other a b c d =
-      let method : countAt (set counts f v) 0 ≡ countAt counts 0 = getD-set-other counts f 0 v 0 (λ e. a (sym e)) in
-      let servers : countAt (set counts f v) 1 ≡ countAt counts 1 = getD-set-other counts f 1 v 0 (λ e. b (sym e)) in
-      let entries : countAt (set counts f v) 4 ≡ countAt counts 4 = getD-set-other counts f 4 v 0 (λ e. c (sym e)) in
-      let held : _≡_ {A = ℕ → ℕ} (λ i. countAt (set counts f v) (heldField + i)) (λ i. countAt counts (heldField + i)) = fun-ext (λ i. getD-set-other counts f (heldField + i) v 0 (λ e. omega arith)) in
-      λ z. record { method = method z; servers = servers z; entries = entries z; held = held z; keys = keys; values = values; log = log }
+-- equal by its parts
+shared-by : {a b : Shared} → a .method ≡ b .method → a .servers ≡ b .servers → a .step ≡ b .step → a .entries ≡ b .entries → a .writes ≡ b .writes → a .reads ≡ b .reads → a .held ≡ b .held →
+    a .keys ≡ b .keys → a .values ≡ b .values → a .log ≡ b .log → a ≡ b
+shared-by m s n e w r h k v l = λ z. record { method = m z; servers = s z; step = n z; entries = e z; writes = w z; reads = r z; held = h z; keys = k z; values = v z; log = l z }
 
--- one version more at server i
-pub shared-held : (counts : List ℕ) (i v : ℕ) (keys values log : List ℕ) → heldField + i < length counts →
-    sharedIn (set counts (heldField + i) v) keys values log ≡
-    record { method = countAt counts 0; servers = countAt counts 1; entries = countAt counts 4; held = changed (λ j. countAt counts (heldField + j)) i v; keys = keys; values = values; log = log }
-shared-held counts i v keys values log l =
-    let method : countAt (set counts (heldField + i) v) 0 ≡ countAt counts 0 = getD-set-other counts (heldField + i) 0 v 0 (λ e. omega arith) in
-    let servers : countAt (set counts (heldField + i) v) 1 ≡ countAt counts 1 = getD-set-other counts (heldField + i) 1 v 0 (λ e. omega arith) in
-    let entries : countAt (set counts (heldField + i) v) 4 ≡ countAt counts 4 = getD-set-other counts (heldField + i) 4 v 0 (λ e. omega arith) in
-    let held : _≡_ {A = ℕ → ℕ} (λ j. countAt (set counts (heldField + i) v) (heldField + j)) (changed (λ j. countAt counts (heldField + j)) i v)
-    = fun-ext (changed-all (λ j. countAt counts (heldField + j)) i v (λ j n. countAt (set counts (heldField + i) v) (heldField + j) ≡ n)
-    (getD-set-same counts (heldField + i) v 0 l)
-    (λ j d. getD-set-other counts (heldField + i) (heldField + j) v 0 (λ e. d (omega arith)))) in
-    λ z. record { method = method z; servers = servers z; entries = entries z; held = held z; keys = keys; values = values; log = log }
+module _ (counts : List ℕ) (f v : ℕ) where
+  abbrev put : List ℕ
+  put = set counts f v
 
--- one entry more
-pub shared-entries : (counts : List ℕ) (v : ℕ) (keys values log : List ℕ) → 4 < length counts →
-    sharedIn (set counts 4 v) keys values log ≡
-    record { method = countAt counts 0; servers = countAt counts 1; entries = v; held = λ j. countAt counts (heldField + j); keys = keys; values = values; log = log }
-shared-entries counts v keys values log l =
-    let method : countAt (set counts 4 v) 0 ≡ countAt counts 0 = getD-set-other counts 4 0 v 0 (λ e. omega arith) in
-    let servers : countAt (set counts 4 v) 1 ≡ countAt counts 1 = getD-set-other counts 4 1 v 0 (λ e. omega arith) in
-    let entries : countAt (set counts 4 v) 4 ≡ v = getD-set-same counts 4 v 0 l in
-    let held : _≡_ {A = ℕ → ℕ} (λ j. countAt (set counts 4 v) (heldField + j)) (λ j. countAt counts (heldField + j)) = fun-ext (λ j. getD-set-other counts 4 (heldField + j) v 0 (λ e. omega arith)) in
-    λ z. record { method = method z; servers = servers z; entries = entries z; held = held z; keys = keys; values = values; log = log }
+  other : (g : ℕ) → (g ≡ f → ⊥) → countAt put g ≡ countAt counts g
+  other g d = getD-set-other counts f g v 0 d
+
+  same-held : f < heldField → _≡_ {A = ℕ → ℕ} (λ i. countAt put (heldField + i)) (λ i. countAt counts (heldField + i))
+  same-held l = fun-ext (λ i. other (heldField + i) (λ e. omega arith))
+
+module _ (counts : List ℕ) (v : ℕ) (keys values log : List ℕ) (long : countWords ≤ length counts) where
+  abbrev shared : Shared
+  shared = sharedIn counts keys values log
+
+  -- one step more
+  pub shared-step : sharedIn (set counts stepField v) keys values log ≡ renumbered v (countAt counts writesField) (countAt counts readsField) shared
+  shared-step =
+      shared-by (other counts stepField v 0 (λ e. omega arith)) (other counts stepField v 1 (λ e. omega arith)) (getD-set-same counts stepField v 0 (omega arith)) (other counts stepField v 4 (λ e. omega arith))
+      (other counts stepField v 5 (λ e. omega arith)) (other counts stepField v 6 (λ e. omega arith)) (same-held counts stepField v (omega arith)) refl refl refl
+
+  -- one WRITE more, one READ more
+  pub shared-writes : sharedIn (set counts writesField v) keys values log ≡ renumbered (countAt counts stepField) v (countAt counts readsField) shared
+  shared-writes =
+      shared-by (other counts writesField v 0 (λ e. omega arith)) (other counts writesField v 1 (λ e. omega arith)) (other counts writesField v 3 (λ e. omega arith)) (other counts writesField v 4 (λ e. omega arith))
+      (getD-set-same counts writesField v 0 (omega arith)) (other counts writesField v 6 (λ e. omega arith)) (same-held counts writesField v (omega arith)) refl refl refl
+
+  pub shared-reads : sharedIn (set counts readsField v) keys values log ≡ renumbered (countAt counts stepField) (countAt counts writesField) v shared
+  shared-reads =
+      shared-by (other counts readsField v 0 (λ e. omega arith)) (other counts readsField v 1 (λ e. omega arith)) (other counts readsField v 3 (λ e. omega arith)) (other counts readsField v 4 (λ e. omega arith))
+      (other counts readsField v 5 (λ e. omega arith)) (getD-set-same counts readsField v 0 (omega arith)) (same-held counts readsField v (omega arith)) refl refl refl
+
+  -- one version more at server i
+  pub shared-held : (i : ℕ) → i < 16 → sharedIn (set counts (heldField + i) v) keys values log ≡
+      record { method = shared .method; servers = shared .servers; step = shared .step; entries = shared .entries; writes = shared .writes; reads = shared .reads; held = changed (shared .held) i v; keys = keys; values = values; log = log }
+  shared-held i l =
+      let f = heldField + i in
+      shared-by (other counts f v 0 (λ e. omega arith)) (other counts f v 1 (λ e. omega arith)) (other counts f v 3 (λ e. omega arith)) (other counts f v 4 (λ e. omega arith))
+      (other counts f v 5 (λ e. omega arith)) (other counts f v 6 (λ e. omega arith))
+      (fun-ext (changed-all (shared .held) i v (λ j n. countAt (set counts f v) (heldField + j) ≡ n)
+      (getD-set-same counts f v 0 (omega arith))
+      (λ j d. other counts f v (heldField + j) (λ e. d (omega arith)))))
+      refl refl refl
+
+  -- one entry more
+  pub shared-entries : sharedIn (set counts entriesField v) keys values log ≡
+      record { method = shared .method; servers = shared .servers; step = shared .step; entries = v; writes = shared .writes; reads = shared .reads; held = shared .held; keys = keys; values = values; log = log }
+  shared-entries =
+      shared-by (other counts entriesField v 0 (λ e. omega arith)) (other counts entriesField v 1 (λ e. omega arith)) (other counts entriesField v 3 (λ e. omega arith)) (getD-set-same counts entriesField v 0 (omega arith))
+      (other counts entriesField v 5 (λ e. omega arith)) (other counts entriesField v 6 (λ e. omega arith)) (same-held counts entriesField v (omega arith)) refl refl refl

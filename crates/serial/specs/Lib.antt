@@ -3,5 +3,6 @@ pub mod Steps
 pub mod History
 pub mod Row
 pub mod Claim
+pub mod Consequences
 pub mod Sample
 pub mod Wrong
