@@ -1,25 +1,24 @@
 -- What a delivered request appends, a version or a log entry, keeps sound tables sound.
-use Prim.Native.Nat.{ℕ, zero, suc, _+_, _*_, _≤_, _<_}
-use mathlib.Core.Path.{_≡_, refl, sym, _∙_, ap}
-use mathlib.Core.Bool.{Bool, true, false}
+use Prim.Native.Nat.{ℕ, _+_, _*_, _≤_, _<_}
+use mathlib.Core.Path.{_≡_, refl}
+use mathlib.Core.Bool.{true}
 use mathlib.Core.List.{List, [], _∷_}
 use native.Mathlib.Omega.{arith}
-use lib.ListN.{getD, set, length, length-set}
+use lib.ListN.{set, length-set}
 use lib.Seq.{getD-set-same, getD-set-other}
 use Rattle.ranges.specs.Tests.{by-equal}
 use Rattle.keys.specs.declared.Key.{Key}
 use Rattle.keys.specs.Keys.{keyWord}
 use Rattle.keys.specs.Masks.{Within}
-use Rattle.tables.specs.Rows.{wordAt, HasRow, word-same, word-other, word-length, row-same, row-other, row-length}
-use Rattle.tables.specs.Layout.{countWords, countAt, entriesField, heldField, serverPlaces, logPlaces, versionWord, entryWidth, recordWidth, recordWord, clientOfRecord, numberOfRecord, tagOfRecord, putEntry}
+use Rattle.tables.specs.Rows.{HasRow, word-same, word-other, row-same, row-other, row-length}
+use Rattle.tables.specs.Layout.{countAt, entriesField, heldField, serverPlaces, logPlaces, versionWord, entryWidth, recordWord, clientOfRecord, numberOfRecord, tagOfRecord, putEntry, clientsField, methodField, readsField, serversField, stepField, writesField}
 use Rattle.tables.specs.Tables.{Tables, serversOf, clientsOf, stepOf, entriesOf, writesOf, heldOf, recordOf}
 use Rattle.server.specs.Held.{stored}
 use Rattle.coordinator.specs.Log.{enterLeft}
-use Rattle.rules.specs.Common.{taggedRecord}
 use Rattle.rules.specs.Request.{storedBy, enteredBy}
 use Rattle.soundness.specs.Sound.{keyInRange}
 use Rattle.soundness.specs.Facts.{EntryFacts, WriteFacts, Sound}
-use Rattle.keeping.specs.Frame.{Numbers, Lengths, Grows, Renewed, kept, client-kept, write-kept, read-kept}
+use Rattle.keeping.specs.Frame.{Numbers, Grows, Kept, kept, client-kept, write-kept, read-kept}
 use Rattle.keeping.specs.Records.{tagged-word, tagged-other, tagged-here, tagged-open, open-kept}
 
 -- a version behind those that server i holds
@@ -35,7 +34,7 @@ module _ (q i : ℕ) (key : Key) (setpoint : ℕ) (t : Tables) (s : Sound t) (cl
   same f d = getD-set-other (t .counts) (heldField + i) f _ 0 d
 
   pub stored-step : stepOf after ≡ stepOf t
-  stored-step = same 3 (λ e. omega arith)
+  stored-step = same stepField (λ e. omega arith)
 
   one-more : heldOf after i ≡ heldOf t i + 1
   one-more = getD-set-same (t .counts) (heldField + i) _ 0 (omega (arith, few, s .long .counts))
@@ -46,10 +45,10 @@ module _ (q i : ℕ) (key : Key) (setpoint : ℕ) (t : Tables) (s : Sound t) (cl
   stored-numbers : Numbers t after
   stored-numbers =
       record {
-        method = same 0 (λ e. omega arith);
-        servers = same 1 (λ e. omega arith);
-        clients = same 2 (λ e. omega arith);
-        entries = omega (arith, same 4 (λ e. omega arith));
+        method = same methodField (λ e. omega arith);
+        servers = same serversField (λ e. omega arith);
+        clients = same clientsField (λ e. omega arith);
+        entries = omega (arith, same entriesField (λ e. omega arith));
         held = λ j h. by-equal j i (λ e. rw e (omega (arith, one-more))) (λ d. omega (arith, held-other j d));
       }
 
@@ -59,7 +58,7 @@ module _ (q i : ℕ) (key : Key) (setpoint : ℕ) (t : Tables) (s : Sound t) (cl
       word-other serverPlaces words i (heldOf t i) v j place room (omega (arith, s .server j h .held .most))
       (λ e. let z : heldOf t j ≡ heldOf t i = rw (e .0) in omega (arith, e .1))
 
-  pub stored-grows : Grows q t after
+  stored-grows : Grows q t after
   stored-grows =
       record {
         numbers = stored-numbers;
@@ -81,11 +80,11 @@ module _ (q i : ℕ) (key : Key) (setpoint : ℕ) (t : Tables) (s : Sound t) (cl
       rw (e, here, word-same serverPlaces (t .keys) i (heldOf t i) (keyWord key) (omega (arith, s .long .keys)) room) good)
       (λ d. let z : ⊥ = omega (arith, held-other j d) in absurd z)
 
-  pub stored-sound : Sound after
-  stored-sound =
-      let entries = same 4 (λ e. omega arith) in
-      let writes = same 5 (λ e. omega arith) in
-      let reads = same 6 (λ e. omega arith) in
+  pub stored-kept : Kept q t after
+  stored-kept =
+      let entries = same entriesField (λ e. omega arith) in
+      let writes = same writesField (λ e. omega arith) in
+      let reads = same readsField (λ e. omega arith) in
       kept q t after s stored-grows (record {
         step = rw stored-step (s .scalars .step);
         entries = rw entries (s .scalars .entries .most);
@@ -114,7 +113,7 @@ module _ (q : ℕ) (key : Key) (mask : ℕ) (t : Tables) (s : Sound t) (client :
   alike f d = getD-set-other (t .counts) entriesField f _ 0 d
 
   pub entered-step : stepOf longer ≡ stepOf t
-  entered-step = alike 3 (λ e. omega arith)
+  entered-step = alike stepField (λ e. omega arith)
 
   pub entry-more : entriesOf longer ≡ entriesOf t + 1
   entry-more = getD-set-same (t .counts) entriesField _ 0 (omega (arith, s .long .counts))
@@ -125,14 +124,14 @@ module _ (q : ℕ) (key : Key) (mask : ℕ) (t : Tables) (s : Sound t) (client :
   entered-numbers : Numbers t longer
   entered-numbers =
       record {
-        method = alike 0 (λ e. omega arith);
-        servers = alike 1 (λ e. omega arith);
-        clients = alike 2 (λ e. omega arith);
+        method = alike methodField (λ e. omega arith);
+        servers = alike serversField (λ e. omega arith);
+        clients = alike clientsField (λ e. omega arith);
         entries = omega (arith, entry-more);
         held = λ j h. omega (arith, held-alike j);
       }
 
-  pub entered-grows : Grows q t longer
+  entered-grows : Grows q t longer
   entered-grows =
       record {
         numbers = entered-numbers;
@@ -149,8 +148,8 @@ module _ (q : ℕ) (key : Key) (mask : ℕ) (t : Tables) (s : Sound t) (client :
       let here : tag ≡ entriesOf t = omega (arith, entry-more) in
       let has : HasRow entryWidth (t .log) (entriesOf t) = omega (arith, s .long .log) in
       rw here (record {
-        key = rw (alike 2 (λ e. omega arith), row-same entryWidth (t .log) (entriesOf t) row 0 has (omega arith) (omega arith)) good;
-        mask = rw (alike 1 (λ e. omega arith), row-same entryWidth (t .log) (entriesOf t) row 1 has (omega arith) (omega arith)) within;
+        key = rw (alike clientsField (λ e. omega arith), row-same entryWidth (t .log) (entriesOf t) row 0 has (omega arith) (omega arith)) good;
+        mask = rw (alike serversField (λ e. omega arith), row-same entryWidth (t .log) (entriesOf t) row 1 has (omega arith) (omega arith)) within;
       })
 
   -- every record's tag is within the longer log, the new one too
@@ -167,10 +166,10 @@ module _ (q : ℕ) (key : Key) (mask : ℕ) (t : Tables) (s : Sound t) (client :
       (tagged-word (t .writes) (recordOf t q) (entriesOf t) n numberOfRecord (omega arith) (λ e. omega arith))
       (tag-within n h) (s .write n h)
 
-  pub entered-sound : Sound longer
-  entered-sound =
-      let writes = alike 5 (λ e. omega arith) in
-      let reads = alike 6 (λ e. omega arith) in
+  pub entered-kept : Kept q t longer
+  entered-kept =
+      let writes = alike writesField (λ e. omega arith) in
+      let reads = alike readsField (λ e. omega arith) in
       kept q t longer s entered-grows (record {
         step = rw entered-step (s .scalars .step);
         entries = rw entry-more (omega arith);

@@ -1,24 +1,22 @@
 -- What a step of one client leaves to the others. A client's part of soundness mentions the rest only through numbers that grow
 -- (the log's entries, the versions held), so one law carries every other client over a step.
-use Prim.Native.Nat.{ℕ, _+_, _*_, _^_, _≤_, _<_}
-use mathlib.Core.Path.{_≡_, refl, sym, _∙_, ap}
-use mathlib.Core.Bool.{Bool, true, false, cond, not, _&&_, _||_}
-use mathlib.Core.List.{List, [], _∷_}
+use Prim.Native.Nat.{ℕ, _≤_, _<_}
+use mathlib.Core.Path.{_≡_, refl, sym, _∙_}
+use mathlib.Core.Bool.{Bool, true, false, cond, _&&_, _||_}
 use native.Mathlib.Omega.{arith}
 use lib.ListN.{length}
 use lib.Dec.{eqb, leb, ltb}
 use borrow.Author.Tests.{eq-eqb, ne-eqb, ltb-true, ltb-false, lt-ltb}
 use Rattle.ranges.specs.Tests.{by-test, by-equal, both, both-left, both-right}
 use Rattle.ranges.specs.Sum.{sumBelow}
-use Rattle.keys.specs.Masks.{Within}
 use Rattle.tables.specs.Rows.{wordAt}
-use Rattle.tables.specs.Layout.{clientWidth, clientWord, serverPlaces, logPlaces, recordPlaces, entryWidth, versionWord, entryMask, recordWord, clientOfRecord, numberOfRecord, tagOfRecord}
-use Rattle.tables.specs.Links.{targets, linkWidth, linkAt, isEmpty}
-use Rattle.tables.specs.Tables.{Tables, methodOf, serversOf, clientsOf, stepOf, entriesOf, writesOf, readsOf, heldOf, stateOf, countOf, maskOf, tagOf, recordOf, receivedOf, contentAt}
-use Rattle.rules.specs.Common.{idle, writing, entering, askingKeys, askingSetpoints, askingAll, coordinator, pending}
-use Rattle.soundness.specs.Sound.{between, uses, holding, keyOn, keyInRange, requestSound, replySound, receivedSound, stateAllowed, isWriting}
-use Rattle.soundness.specs.Facts.{Between, between-facts, facts-between, Long, Press, Scalars, ServerFacts, EntryFacts, LogFacts, LinkFacts, ClientFacts, WriteFacts, ReadFacts, RecordsFacts, Sound}
-use Rattle.keeping.specs.Links.{linkWord, kindOn, numberOn, empty-same-words, pending-same, LinkAsks, link-asks, asks-link}
+use Rattle.tables.specs.Layout.{clientWidth, clientWord, serverPlaces, logPlaces, recordPlaces, entryWidth, versionWord, recordWord, clientOfRecord, numberOfRecord, tagOfRecord, countField, maskField, stateField, tagField}
+use Rattle.tables.specs.Links.{targets, linkWidth, isEmpty}
+use Rattle.tables.specs.Tables.{Tables, methodOf, serversOf, clientsOf, stepOf, entriesOf, writesOf, readsOf, heldOf, stateOf, countOf, maskOf, tagOf, receivedOf, contentAt}
+use Rattle.rules.specs.Common.{entering, askingKeys, askingAll, coordinator}
+use Rattle.soundness.specs.Sound.{between, uses, holding, keyInRange, requestSound, replySound, receivedSound}
+use Rattle.soundness.specs.Facts.{Between, between-facts, facts-between, Long, Press, ServerFacts, EntryFacts, LogFacts, LinkFacts, ClientFacts, WriteFacts, ReadFacts, RecordsFacts, Sound}
+use Rattle.keeping.specs.Links.{linkWord, empty-same-words, pending-same, link-asks, asks-link}
 
 -- The press stays; the log and the servers' versions only grow in number.
 pub record Numbers (t t′ : Tables) : Type 0 where
@@ -29,7 +27,8 @@ pub record Numbers (t t′ : Tables) : Type 0 where
   pub held : (i : ℕ) → i < 16 → heldOf t i ≤ heldOf t′ i
 
 -- a number within a bound is within a greater one
-reply-more : (b c : Bool) (number n n′ h h′ : ℕ) → n ≤ n′ → h ≤ h′ → cond b (leb 1 number && ltb number n) (cond c (between 1 number h) true) ≡ true → cond b (leb 1 number && ltb number n′) (cond c (between 1 number h′) true) ≡ true
+reply-more : (b c : Bool) (number n n′ h h′ : ℕ) → n ≤ n′ → h ≤ h′ → cond b (leb 1 number && ltb number n) (cond c (between 1 number h) true) ≡ true →
+    cond b (leb 1 number && ltb number n′) (cond c (between 1 number h′) true) ≡ true
 reply-more true c number n n′ h h′ g l e = both (leb 1 number) (ltb number n′) (both-left _ _ e) (lt-ltb number n′ (omega (arith, ltb-true number n (both-right (leb 1 number) _ e))))
 reply-more false true number n n′ h h′ g l e = let f = between-facts 1 number h e in facts-between 1 number h′ (record { least = f .least; most = omega (arith, f .most) })
 reply-more false false number n n′ h h′ g l e = refl
@@ -70,12 +69,13 @@ module _ (t t′ : Tables) (n : Numbers t t′) where
         (received-more (eqb (stateOf t q) askingAll && (uses (stateOf t q) (maskOf t q) i && isEmpty (contentAt t q i))) (receivedOf t q i) (holding t i) (holding t′ i) (holding-more i h) e)
 
   -- a client whose row and links stay
-  pub client-kept : (q : ℕ) → ((f : ℕ) → f < clientWidth → clientWord (t′ .clients) q f ≡ clientWord (t .clients) q f) → ((i f : ℕ) → i < targets → f < linkWidth → linkWord (t′ .links) q i f ≡ linkWord (t .links) q i f) → ClientFacts t q → ClientFacts t′ q
+  pub client-kept : (q : ℕ) → ((f : ℕ) → f < clientWidth → clientWord (t′ .clients) q f ≡ clientWord (t .clients) q f) →
+      ((i f : ℕ) → i < targets → f < linkWidth → linkWord (t′ .links) q i f ≡ linkWord (t .links) q i f) → ClientFacts t q → ClientFacts t′ q
   client-kept q row words c =
-      let state : stateOf t′ q ≡ stateOf t q = row 0 (omega arith) in
-      let mask : maskOf t′ q ≡ maskOf t q = row 2 (omega arith) in
-      let count : countOf t′ q ≡ countOf t q = row 1 (omega arith) in
-      let tag : tagOf t′ q ≡ tagOf t q = row 3 (omega arith) in
+      let state : stateOf t′ q ≡ stateOf t q = row stateField (omega arith) in
+      let mask : maskOf t′ q ≡ maskOf t q = row maskField (omega arith) in
+      let count : countOf t′ q ≡ countOf t q = row countField (omega arith) in
+      let tag : tagOf t′ q ≡ tagOf t q = row tagField (omega arith) in
       record {
         allowed = rw (n .method, state) (c .allowed);
         count = rw (state, count) (c .count);
@@ -88,10 +88,12 @@ module _ (t t′ : Tables) (n : Numbers t t′) where
       }
 
   -- a record whose client and number stay, and whose tag is within the log
-  pub write-kept : (m : ℕ) → recordWord (t′ .writes) m clientOfRecord ≡ recordWord (t .writes) m clientOfRecord → recordWord (t′ .writes) m numberOfRecord ≡ recordWord (t .writes) m numberOfRecord → recordWord (t′ .writes) m tagOfRecord < entriesOf t′ → WriteFacts t m → WriteFacts t′ m
+  pub write-kept : (m : ℕ) → recordWord (t′ .writes) m clientOfRecord ≡ recordWord (t .writes) m clientOfRecord →
+      recordWord (t′ .writes) m numberOfRecord ≡ recordWord (t .writes) m numberOfRecord → recordWord (t′ .writes) m tagOfRecord < entriesOf t′ → WriteFacts t m → WriteFacts t′ m
   write-kept m c k h w = record { client = rw (c, n .clients) (w .client); count = rw k (w .count); tag = h }
 
-  pub read-kept : (m : ℕ) → recordWord (t′ .reads) m clientOfRecord ≡ recordWord (t .reads) m clientOfRecord → recordWord (t′ .reads) m numberOfRecord ≡ recordWord (t .reads) m numberOfRecord → recordWord (t′ .reads) m tagOfRecord < entriesOf t′ → ReadFacts t m → ReadFacts t′ m
+  pub read-kept : (m : ℕ) → recordWord (t′ .reads) m clientOfRecord ≡ recordWord (t .reads) m clientOfRecord →
+      recordWord (t′ .reads) m numberOfRecord ≡ recordWord (t .reads) m numberOfRecord → recordWord (t′ .reads) m tagOfRecord < entriesOf t′ → ReadFacts t m → ReadFacts t′ m
   read-kept m c k h w = record { client = rw (c, n .clients) (w .client); mask = rw (k, n .servers) (w .mask); tag = h }
 
 -- No table changes its length.
@@ -179,9 +181,9 @@ module _ (q : ℕ) (t t′ : Tables) (s : Sound t) (g : Grows q t t′) where
             (λ b. r .entry tag (ltb-false _ _ b) l);
       }
 
-  -- one law for every step: what it left and what it proves anew make sound tables
-  pub kept : Renewed q t t′ → Sound t′
-  kept r =
+  -- what a step left and what it proves anew make sound tables
+  sound-kept : Renewed q t t′ → Sound t′
+  sound-kept r =
       record {
         long = long-kept;
         scalars = record { press = press-kept; step = r .step; entries = record { least = omega (arith, s .scalars .entries .least, g .numbers .entries); most = r .entries }; writes = r .writes; reads = r .reads };
@@ -193,3 +195,67 @@ module _ (q : ℕ) (t t′ : Tables) (s : Sound t) (g : Grows q t t′) where
         read = r .read;
         records = λ p h. r .records p (rw (g .numbers .clients) at h);
       }
+
+-- A step of client q on sound tables: what it leaves is sound, and the rest has only grown.
+pub record Kept (q : ℕ) (t t′ : Tables) : Type 0 where
+  pub sound : Sound t′
+  pub grows : Grows q t t′
+
+-- the law of every step
+pub kept : (q : ℕ) (t t′ : Tables) → Sound t → Grows q t t′ → Renewed q t t′ → Kept q t t′
+kept q t t′ s g r = record { sound = sound-kept q t t′ s g r; grows = g }
+
+-- a step refused leaves all as before
+pub kept-same : (q : ℕ) (t : Tables) → Sound t → Kept q t t
+kept-same q t s =
+    record {
+      sound = s;
+      grows = record {
+        numbers = record { method = refl; servers = refl; clients = refl; entries = omega arith; held = λ i h. omega arith };
+        lengths = record { counts = refl; clients = refl; links = refl; keys = refl; values = refl; log = refl; writes = refl; reads = refl };
+        row = λ p f d h. refl;
+        link = λ p i f d h l. refl;
+        key = λ i place h l. refl;
+        value = λ i place h l. refl;
+        entry = λ tag f h l. refl;
+      };
+    }
+
+-- two steps of one client, one behind the other
+module _ (q : ℕ) (t t₁ t₂ : Tables) (s : Sound t) (a : Grows q t t₁) (b : Grows q t₁ t₂) where
+  held-then : (i place : ℕ) → i < serversOf t → place < heldOf t i → place < heldOf t₁ i
+  held-then i place h l = omega (arith, a .numbers .held i (omega (arith, s .scalars .press .servers .most)))
+
+  pub grows-then : Grows q t t₂
+  grows-then =
+      let m = a .numbers in
+      let n = b .numbers in
+      let x = a .lengths in
+      let y = b .lengths in
+      record {
+        numbers = record {
+          method = n .method ∙ m .method;
+          servers = n .servers ∙ m .servers;
+          clients = n .clients ∙ m .clients;
+          entries = omega (arith, m .entries, n .entries);
+          held = λ i h. omega (arith, m .held i h, n .held i h);
+        };
+        lengths = record {
+          counts = y .counts ∙ x .counts;
+          clients = y .clients ∙ x .clients;
+          links = y .links ∙ x .links;
+          keys = y .keys ∙ x .keys;
+          values = y .values ∙ x .values;
+          log = y .log ∙ x .log;
+          writes = y .writes ∙ x .writes;
+          reads = y .reads ∙ x .reads;
+        };
+        row = λ p f d h. b .row p f d h ∙ a .row p f d h;
+        link = λ p i f d h l. b .link p i f d h l ∙ a .link p i f d h l;
+        key = λ i place h l. b .key i place (rw (m .servers) h) (held-then i place h l) ∙ a .key i place h l;
+        value = λ i place h l. b .value i place (rw (m .servers) h) (held-then i place h l) ∙ a .value i place h l;
+        entry = λ tag f h l. b .entry tag f (omega (arith, m .entries)) l ∙ a .entry tag f h l;
+      }
+
+pub kept-then : (q : ℕ) (t t₁ t₂ : Tables) → Sound t → Kept q t t₁ → Kept q t₁ t₂ → Kept q t t₂
+kept-then q t t₁ t₂ s a b = record { sound = b .sound; grows = grows-then q t t₁ t₂ s (a .grows) (b .grows) }

@@ -1,17 +1,14 @@
 -- A link by its three words: what it holds, what soundness asks of it, and what a put leaves.
-use Prim.Native.Nat.{ℕ, _+_, _*_, _≤_, _<_}
+use Prim.Native.Nat.{ℕ, _≤_, _<_}
 use mathlib.Core.Path.{_≡_, refl, sym, _∙_, ap}
-use mathlib.Core.Bool.{Bool, true, false, cond, not, _&&_, _||_, true≢false}
-use mathlib.Core.List.{List, [], _∷_}
+use mathlib.Core.Bool.{Bool, true, false, not, _&&_}
+use mathlib.Core.List.{List}
 use native.Mathlib.Omega.{arith}
 use lib.ListN.{getD, length}
-use lib.Dec.{eqb, leb, ltb}
-use borrow.Author.Tests.{eq-eqb, ne-eqb, eqb-true, eqb-false, not-true, not-false}
-use Rattle.ranges.specs.Tests.{by-test, by-equal, both, both-left, both-right, not-both}
-use Rattle.ranges.specs.All.{anyBelow, any-at, any-same}
-use Rattle.keys.specs.Keys.{keyWord}
-use Rattle.tables.specs.Rows.{wordAt, HasRow, place-one, row-same, row-other, row-length}
-use Rattle.tables.specs.Links.{targets, linkWidth, linkRow, linkAt, putLink, isEmpty, contentWords, contentOf, contentsOf}
+use Rattle.ranges.specs.Tests.{by-equal, both, both-left, both-right, not-both}
+use Rattle.ranges.specs.All.{any-at, any-same}
+use Rattle.tables.specs.Rows.{wordAt, HasRow, place-one, row-same, row-other}
+use Rattle.tables.specs.Links.{targets, linkWidth, linkRow, linkAt, putLink, isEmpty, contentWords, contentsOf}
 use Rattle.tables.specs.Tables.{Tables, stateOf, maskOf, contentAt}
 use Rattle.tables.specs.declared.links.Contents.{Contents}
 use Rattle.tables.specs.declared.links.Content.{Content}
@@ -101,9 +98,6 @@ module _ (links : List ℕ) (q i : ℕ) where
   pub kind-full : linkWord links q i 0 ≤ 2 → (linkWord links q i 0 ≡ 0 → ⊥) → isEmpty (linkAt links q i .content) ≡ false
   kind-full h d = kind-by h (λ k. absurd (d k)) (λ k. ap isEmpty (at-request k)) (λ k. ap isEmpty (at-reply k))
 
-  pub empty-kind : linkWord links q i 0 ≤ 2 → isEmpty (linkAt links q i .content) ≡ true → linkWord links q i 0 ≡ 0
-  empty-kind h e = by-equal (linkWord links q i 0) 0 (λ k. k) (λ d. absurd (not-both e (kind-full h d)))
-
 -- some link of the client is full, or none is
 abbrev full : List ℕ → ℕ → ℕ → Bool
 full links q i = not (isEmpty (linkAt links q i .content))
@@ -167,3 +161,8 @@ module _ (links : List ℕ) (q i : ℕ) (c : Content) where
   pub put-other : (p j f : ℕ) → i < targets → j < targets → ((p ≡ q) × (j ≡ i) → ⊥) → f < linkWidth → linkWord (putLink links q i c) p j f ≡ linkWord links p j f
   unfolding putLink
   put-other p j f h g d l = row-other linkWidth links (linkRow q i) (contentWords c) (linkRow p j) f (rw (words-three c) (omega arith)) l (λ e. d (place-one targets p j q i g h e))
+
+  -- of the same client: every other target
+  pub put-beside : (j f : ℕ) → (j ≡ i → ⊥) → f < linkWidth → linkWord (putLink links q i c) q j f ≡ linkWord links q j f
+  unfolding putLink
+  put-beside j f d l = row-other linkWidth links (linkRow q i) (contentWords c) (linkRow q j) f (rw (words-three c) (omega arith)) l (λ e. d (omega arith))

@@ -1,20 +1,21 @@
 -- A step that appends no version and no log entry. It changes its client's row and links, the records, and of the counts only
 -- those of steps, WRITEs and READs: all steps but the delivery of a set or an enter request.
 use Prim.Native.Nat.{ℕ, _+_, _≤_, _<_}
-use mathlib.Core.Path.{_≡_, refl, sym, _∙_, ap}
+use mathlib.Core.Path.{_≡_, ap}
 use mathlib.Core.List.{List}
 use native.Mathlib.Omega.{arith}
-use lib.ListN.{getD, length, length-set}
+use lib.ListN.{length, length-set}
 use lib.Seq.{getD-set-same, getD-set-other}
 use Rattle.ranges.specs.Sum.{sumBelow}
 use Rattle.tables.specs.Rows.{wordAt}
-use Rattle.tables.specs.Layout.{countWords, countAt, stepField, writesField, readsField, heldField, recordPlaces, clientWidth, clientWord, versionWord, entryWidth}
+use Rattle.tables.specs.Layout.{countWords, countAt, stepField, writesField, readsField, heldField, recordPlaces, clientWidth, clientWord, versionWord, entryWidth, clientsField, entriesField, methodField, serversField}
 use Rattle.tables.specs.Links.{targets, linkWidth}
 use Rattle.tables.specs.Tables.{Tables, clientsOf, stepOf, entriesOf, writesOf, readsOf, heldOf, countOf}
 use Rattle.rules.specs.Common.{counted}
+use Rattle.soundness.specs.Sound.{holding}
 use Rattle.soundness.specs.Facts.{Between, ClientFacts, WriteFacts, ReadFacts, RecordsFacts, Sound}
 use Rattle.keeping.specs.Links.{linkWord}
-use Rattle.keeping.specs.Frame.{Numbers, Lengths, Grows, Renewed, kept}
+use Rattle.keeping.specs.Frame.{Numbers, Lengths, Grows, Kept, kept}
 
 pub record Moves (q : ℕ) (t t′ : Tables) : Type 0 where
   pub count : (f : ℕ) → (f ≡ stepField → ⊥) → (f ≡ writesField → ⊥) → (f ≡ readsField → ⊥) → countAt (t′ .counts) f ≡ countAt (t .counts) f
@@ -27,17 +28,20 @@ pub record Moves (q : ℕ) (t t′ : Tables) : Type 0 where
 
 module _ (q : ℕ) (t t′ : Tables) (m : Moves q t t′) where
   pub same-entries : entriesOf t′ ≡ entriesOf t
-  same-entries = m .count 4 (λ e. omega arith) (λ e. omega arith) (λ e. omega arith)
+  same-entries = m .count entriesField (λ e. omega arith) (λ e. omega arith) (λ e. omega arith)
 
   pub same-held : (i : ℕ) → heldOf t′ i ≡ heldOf t i
   same-held i = m .count (heldField + i) (λ e. omega arith) (λ e. omega arith) (λ e. omega arith)
 
+  pub same-holding : (i : ℕ) → holding t′ i ≡ holding t i
+  same-holding i = rw (same-entries, same-held i)
+
   pub moves-numbers : Numbers t t′
   moves-numbers =
       record {
-        method = m .count 0 (λ e. omega arith) (λ e. omega arith) (λ e. omega arith);
-        servers = m .count 1 (λ e. omega arith) (λ e. omega arith) (λ e. omega arith);
-        clients = m .count 2 (λ e. omega arith) (λ e. omega arith) (λ e. omega arith);
+        method = m .count methodField (λ e. omega arith) (λ e. omega arith) (λ e. omega arith);
+        servers = m .count serversField (λ e. omega arith) (λ e. omega arith) (λ e. omega arith);
+        clients = m .count clientsField (λ e. omega arith) (λ e. omega arith) (λ e. omega arith);
         entries = omega (arith, same-entries);
         held = λ i h. omega (arith, same-held i);
       }
@@ -65,8 +69,8 @@ pub record Anew (q : ℕ) (t t′ : Tables) : Type 0 where
   pub read : (n : ℕ) → n < readsOf t′ → ReadFacts t′ n
   pub records : (p : ℕ) → p < clientsOf t → RecordsFacts t′ p
 
-pub moved-sound : (q : ℕ) (t t′ : Tables) → Sound t → Moves q t t′ → Anew q t t′ → Sound t′
-moved-sound q t t′ s m a =
+pub moved-kept : (q : ℕ) (t t′ : Tables) → Sound t → Moves q t t′ → Anew q t t′ → Kept q t t′
+moved-kept q t t′ s m a =
     kept q t t′ s (moves-grows q t t′ m)
     (record {
       step = a .step;

@@ -1,31 +1,31 @@
 -- An accepted opening leaves sound tables, whatever stood in them before.
-use Prim.Native.Nat.{ℕ, zero, suc, _+_, _*_, _-_, _^_, _≤_, _<_}
-use mathlib.Core.Path.{_≡_, refl, sym, _∙_, ap}
-use mathlib.Core.Bool.{Bool, true, false, cond, not, _&&_}
+use Prim.Native.Nat.{ℕ, _+_, _*_, _^_, _≤_, _<_}
+use mathlib.Core.Path.{_≡_, refl, _∙_}
+use mathlib.Core.Bool.{true}
 use mathlib.Core.List.{List, [], _∷_}
 use native.Mathlib.Nat.{zero-add}
 use native.Mathlib.Omega.{arith}
-use lib.ListN.{getD, set, length, length-set, replicate, length-replicate, getD-replicate, List·getD-eq-default}
+use lib.ListN.{getD, length, length-set, length-replicate, getD-replicate, List·getD-eq-default}
 use lib.Seq.{getD-set-same, getD-set-other, sets, length-sets}
 use lib.Pow.{pow-mono}
-use lib.Dec.{eqb, ltb}
+use lib.Dec.{ltb}
 use borrow.Author.Tests.{ltb-true, ltb-false}
-use Rattle.ranges.specs.Tests.{by-test, both-left}
+use Rattle.ranges.specs.Tests.{by-test}
 use Rattle.ranges.specs.Sum.{sumBelow, sum-most, count-zero}
 use Rattle.ranges.specs.Turns.{turns, turns-keep}
 use Rattle.ranges.specs.Picked.{is-picked}
-use Rattle.keys.specs.Keys.{opening, keyWord}
 use Rattle.keys.specs.Masks.{Within}
-use Rattle.tables.specs.Rows.{wordAt, word-same, word-other, word-length, row-same, row-length, sets-at, sets-behind}
-use Rattle.tables.specs.Layout.{countWords, clientWidth, clientWord, serverPlaces, versionWord, heldField, entryWidth, entryMask, putEntry}
-use Rattle.tables.specs.Links.{targets, linkWidth}
-use Rattle.tables.specs.Tables.{Tables, countOf, clientsOf, heldOf}
-use Rattle.rules.specs.Open.{cleared, holdOne, openedCounts, openKey, openValue, allServers, opened}
-use Rattle.soundness.specs.Sound.{longEnough, pressFits, keyInRange, receivedSound, stateAllowed, isOpen}
-use Rattle.soundness.specs.Facts.{Between, Long, long-facts, Press, press-facts, ServerFacts, LogFacts, ClientFacts, Sound}
+use Rattle.tables.specs.Rows.{wordAt, HasRow, word-same, word-other, word-length, row-same, row-length, sets-at, sets-behind}
+use Rattle.tables.specs.Layout.{countWords, clientWidth, clientWord, serverPlaces, versionWord, putVersionWord, heldField, entryWidth, entryMask, clientsField, countField, entriesField, maskField, methodField, readsField, receivedField, serversField, stateField, stepField, tagField, writesField}
+use Rattle.tables.specs.Tables.{Tables, methodOf, serversOf, clientsOf, stepOf, entriesOf, writesOf, readsOf, heldOf, countOf}
+use Rattle.tables.specs.Links.{linkWidth, linkRow}
+use Rattle.rules.specs.Open.{cleared, holdOne, openedCounts, allServers, opened}
+use Rattle.soundness.specs.Sound.{keyInRange, isOpen}
+use Rattle.soundness.specs.Facts.{Long, Press, ServerFacts, LogFacts, ClientFacts, Sound}
 use Rattle.store.specs.Refusals.{openRefusal}
-use Rattle.keeping.specs.Refused.{has}
-use Rattle.keeping.specs.Links.{linkWord, asks-link}
+use Rattle.keeping.specs.Accepted.{Openable, openable}
+use Rattle.keeping.specs.Links.{linkWord}
+use Rattle.keeping.specs.Rounds.{idle-client}
 use Rattle.keeping.specs.Records.{facts-none}
 
 -- a cleared table has its length, and holds 0 everywhere
@@ -70,127 +70,133 @@ module _ (m k p : ℕ) (counts : List ℕ) (long : countWords ≤ length counts)
       (λ j n xs l d. getD-set-other xs (heldField + j) (heldField + n) 1 0 (λ z. d (omega arith)))
       (λ j. true) start (rw start-length long) k i (omega arith) h refl
 
--- the first versions that an opening leaves
-module _ (k : ℕ) (keys : List ℕ) (long : serverPlaces * k ≤ length keys) where
-  opened-key : (i : ℕ) → i < k → versionWord (turns openKey k keys) i 0 ≡ 0
-  opened-key i h =
-      is-picked (λ xs j. versionWord xs j 0) openKey (λ j. 0) (λ xs. serverPlaces * k ≤ length xs) k
-      (λ j xs r. rw (word-length serverPlaces xs j 0 0) r)
-      (λ j xs l r. word-same serverPlaces xs j 0 0 (omega arith) (omega arith))
-      (λ j n xs l d. word-other serverPlaces xs j 0 0 n 0 (omega arith) (omega arith) (λ z. d (z .0)))
-      (λ j. true) keys long k i (omega arith) h refl
+-- the first word of each server's versions, keys or setpoints
+module _ (k : ℕ) (value : ℕ → ℕ) (words : List ℕ) (long : serverPlaces * k ≤ length words) where
+  abbrev first : ℕ → List ℕ → List ℕ
+  first i xs = putVersionWord xs i 0 (value i)
 
-module _ (m k p : ℕ) (setpoints : List ℕ) (t : Tables) (press : Press m k p) (long : Long k p t) where
-  abbrev left : Tables
-  left = opened m k p setpoints t
+  first-put : (i : ℕ) → i < k → versionWord (turns first k words) i 0 ≡ value i
+  first-put i h =
+      is-picked (λ xs j. versionWord xs j 0) first value (λ xs. serverPlaces * k ≤ length xs) k
+      (λ j xs r. rw (word-length serverPlaces xs j 0 (value j)) r)
+      (λ j xs l r. word-same serverPlaces xs j 0 (value j) (omega arith) (omega arith))
+      (λ j n xs l d. word-other serverPlaces xs j 0 (value j) n 0 (omega arith) (omega arith) (λ z. d (z .0)))
+      (λ j. true) words long k i (omega arith) h refl
 
-  abbrev at : ℕ → ℕ
-  at f = getD (left .counts) f 0
+  first-length : length (turns first k words) ≡ length words
+  first-length = turns-keep first (λ xs. length xs ≡ length words) (λ i xs e. word-length serverPlaces xs i 0 (value i) ∙ e) k words refl
 
-  known : (f : ℕ) → f < 5 → at f ≡ getD (m ∷ k ∷ p ∷ 1 ∷ 1 ∷ []) f 0
-  known f h = scalar m k p (t .counts) (long .counts) f h
+-- What an opening leaves, word by word.
+pub record Opened (m k p : ℕ) (setpoints : List ℕ) (t : Tables) : Type 0 where
+  pub long : Long k p t
+  pub method : methodOf t ≡ m
+  pub servers : serversOf t ≡ k
+  pub clients : clientsOf t ≡ p
+  pub step : stepOf t ≡ 1
+  pub entries : entriesOf t ≡ 1
+  pub writes : writesOf t ≡ 0
+  pub reads : readsOf t ≡ 0
+  pub held : (i : ℕ) → i < k → heldOf t i ≡ 1
+  pub key : (i : ℕ) → i < k → versionWord (t .keys) i 0 ≡ 0
+  pub value : (i : ℕ) → i < k → versionWord (t .values) i 0 ≡ getD setpoints i 0
+  pub entrykey : wordAt entryWidth (t .log) 0 0 ≡ 0
+  pub entrymask : entryMask (t .log) 0 ≡ allServers k
+  pub word : (q f : ℕ) → clientWord (t .clients) q f ≡ 0
+  pub link : (q i f : ℕ) → linkWord (t .links) q i f ≡ 0
 
-  begun : (f : ℕ) → 5 ≤ f → f < 7 → at f ≡ 0
-  begun f h g = none-begun m k p (t .counts) (long .counts) f h g
+pub opened-words : (m k p : ℕ) (setpoints : List ℕ) (t : Tables) → Openable m k p setpoints t → Opened m k p setpoints (opened m k p setpoints t)
+opened-words m k p setpoints t a =
+    let l = a .long in
+    let entry : HasRow entryWidth (t .log) 0 = omega (arith, l .log) in
+    record {
+      long = record {
+        counts = rw (opened-length m k p (t .counts) (l .counts)) (l .counts);
+        clients = rw (cleared-length (t .clients)) (l .clients);
+        links = rw (cleared-length (t .links)) (l .links);
+        keys = rw (first-length k (λ i. 0) (t .keys) (l .keys)) (l .keys);
+        values = rw (first-length k (λ i. getD setpoints i 0) (t .values) (l .values)) (l .values);
+        log = rw (row-length entryWidth (t .log) 0 (0 ∷ allServers k ∷ [])) (l .log);
+        writes = l .writes;
+        reads = l .reads;
+      };
+      method = scalar m k p (t .counts) (l .counts) methodField (omega arith);
+      servers = scalar m k p (t .counts) (l .counts) serversField (omega arith);
+      clients = scalar m k p (t .counts) (l .counts) clientsField (omega arith);
+      step = scalar m k p (t .counts) (l .counts) stepField (omega arith);
+      entries = scalar m k p (t .counts) (l .counts) entriesField (omega arith);
+      writes = none-begun m k p (t .counts) (l .counts) writesField (omega arith) (omega arith);
+      reads = none-begun m k p (t .counts) (l .counts) readsField (omega arith) (omega arith);
+      held = λ i h. one-held m k p (t .counts) (l .counts) i (a .press .servers .most) h;
+      key = first-put k (λ i. 0) (t .keys) (l .keys);
+      value = first-put k (λ i. getD setpoints i 0) (t .values) (l .values);
+      entrykey = row-same entryWidth (t .log) 0 (0 ∷ allServers k ∷ []) 0 entry (omega arith) (omega arith);
+      entrymask = row-same entryWidth (t .log) 0 (0 ∷ allServers k ∷ []) 1 entry (omega arith) (omega arith);
+      word = λ q f. cleared-word (t .clients) (clientWidth * q + f);
+      link = λ q i f. cleared-word (t .links) (linkWidth * linkRow q i + f);
+    }
 
-  word : (q f : ℕ) → clientWord (left .clients) q f ≡ 0
-  word q f = cleared-word (t .clients) (clientWidth * q + f)
-
-  empty : (q i f : ℕ) → linkWord (left .links) q i f ≡ 0
-  empty q i f = cleared-word (t .links) _
-
-  opened-long : Long k p left
-  opened-long =
-      record {
-        counts = rw (opened-length m k p (t .counts) (long .counts)) (long .counts);
-        clients = rw (cleared-length (t .clients)) (long .clients);
-        links = rw (cleared-length (t .links)) (long .links);
-        keys = rw (turns-keep openKey (λ xs. length xs ≡ length (t .keys)) (λ i xs e. length-set xs _ _ ∙ e) k (t .keys) refl) (long .keys);
-        values = rw (turns-keep (openValue setpoints) (λ xs. length xs ≡ length (t .values)) (λ i xs e. length-set xs _ _ ∙ e) k (t .values) refl) (long .values);
-        log = rw (row-length entryWidth (t .log) 0 (0 ∷ allServers k ∷ [])) (long .log);
-        writes = long .writes;
-        reads = long .reads;
-      }
-
-  opened-server : (i : ℕ) → i < k → ServerFacts left i
+-- Tables opened so are sound.
+module _ (m k p : ℕ) (setpoints : List ℕ) (t : Tables) (press : Press m k p) (o : Opened m k p setpoints t) where
+  opened-server : (i : ℕ) → i < k → ServerFacts t i
   unfolding keyInRange
   opened-server i h =
-      let one-there = one-held m k p (t .counts) (long .counts) i (press .servers .most) h in
-      let first = opened-key k (t .keys) (long .keys) i h in
       record {
-        held = rw one-there (record { least = omega arith; most = omega arith });
-        first = first;
-        key = λ place l. let z : place ≡ 0 = omega (arith, rw one-there at l) in rw (z, first);
+        held = rw (o .held i h) (record { least = omega arith; most = omega arith });
+        first = o .key i h;
+        key = λ place l. let z : place ≡ 0 = omega (arith, o .held i h) in rw (z, o .key i h);
       }
+
+  two : 2 ^ 1 ≤ 2 ^ k
+  two = pow-mono (press .servers .least)
 
   all-servers : Within (allServers k) k
-  all-servers = let two : 2 ^ 1 ≤ 2 ^ k = pow-mono (press .servers .least) in record { some = omega arith; below = omega arith }
+  all-servers = record { some = omega (arith, two); below = omega (arith, two) }
 
-  opened-log : LogFacts left
+  opened-log : LogFacts t
   unfolding keyInRange
   opened-log =
-      let first = row-same entryWidth (t .log) 0 (0 ∷ allServers k ∷ []) 0 (omega (arith, long .log)) (omega arith) (omega arith) in
-      let mask = row-same entryWidth (t .log) 0 (0 ∷ allServers k ∷ []) 1 (omega (arith, long .log)) (omega arith) (omega arith) in
       record {
-        firstkey = first;
-        firstmask = rw (known 1 (omega arith)) mask;
-        entry = λ tag h. let z : tag ≡ 0 = omega (arith, known 4 (omega arith)) in rw z (record { key = rw first; mask = rw (known 1 (omega arith), mask) all-servers });
+        firstkey = o .entrykey;
+        firstmask = rw (o .servers) (o .entrymask);
+        entry = λ tag h. let z : tag ≡ 0 = omega (arith, o .entries) in rw z (record { key = rw (o .entrykey); mask = rw (o .servers, o .entrymask) all-servers });
       }
 
-  opened-client : (q : ℕ) → ClientFacts left q
-  unfolding receivedSound stateAllowed
+  opened-client : (q : ℕ) → ClientFacts t q
   opened-client q =
-      let two : 2 ^ 1 ≤ 2 ^ k = pow-mono (press .servers .least) in
-      record {
-        allowed = rw (word q 0);
-        count = rw (word q 0, word q 1) (record { least = omega arith; most = omega arith });
-        mask = rw (word q 2, known 1 (omega arith)) (omega arith);
-        masked = λ d. absurd (d (word q 0));
-        tag = rw (word q 3, known 4 (omega arith)) (omega arith);
-        link = λ i h. asks-link left q i (record {
-          kind = rw (empty q i 0) (omega arith);
-          used = λ d. absurd (d (empty q i 0));
-          request = λ e. let z : ⊥ = omega (arith, empty q i 0) in absurd z;
-          reply = λ e. let z : ⊥ = omega (arith, empty q i 0) in absurd z;
-        });
-        received = λ i h. rw (word q 0, word q (21 + i));
-        busy = λ d. absurd (d (word q 0));
-      }
+      idle-client t q (record {
+        state = o .word q stateField;
+        count = rw (o .word q countField) (omega arith);
+        mask = rw (o .word q maskField, o .servers) (omega (arith, two));
+        tag = rw (o .word q tagField, o .entries) (omega arith);
+        link = λ i h. o .link q i 0;
+        received = λ i h. o .word q (receivedField + i);
+      })
 
-  opened-facts : Sound left
+  opened-facts : Sound t
   opened-facts =
-      let method = known 0 (omega arith) in
-      let servers = known 1 (omega arith) in
-      let clients = known 2 (omega arith) in
-      let step = known 3 (omega arith) in
-      let entries = known 4 (omega arith) in
-      let writes = begun 5 (omega arith) (omega arith) in
-      let reads = begun 6 (omega arith) (omega arith) in
       record {
-        long = rw (servers, clients) opened-long;
+        long = rw (o .servers, o .clients) (o .long);
         scalars = record {
-          press = rw (method, servers, clients) press;
-          step = rw step (record { least = omega arith; most = omega arith });
-          entries = rw entries (record { least = omega arith; most = omega arith });
-          writes = rw writes (omega arith);
-          reads = rw reads (omega arith);
+          press = rw (o .method, o .servers, o .clients) press;
+          step = rw (o .step) (record { least = omega arith; most = omega arith });
+          entries = rw (o .entries) (record { least = omega arith; most = omega arith });
+          writes = rw (o .writes) (omega arith);
+          reads = rw (o .reads) (omega arith);
         };
-        server = λ i h. opened-server i (rw servers at h);
+        server = λ i h. opened-server i (rw (o .servers) at h);
         log = opened-log;
         client = λ q h. opened-client q;
-        counts = let z : sumBelow (countOf left) (clientsOf left) ≤ clientsOf left * 0 = sum-most (countOf left) 0 (clientsOf left) (λ q l. rw (word q 1) (omega arith)) in omega arith;
-        write = λ n h. let z : ⊥ = omega (arith, writes) in absurd z;
-        read = λ n h. let z : ⊥ = omega (arith, reads) in absurd z;
+        counts = let z : sumBelow (countOf t) (clientsOf t) ≤ clientsOf t * 0 = sum-most (countOf t) 0 (clientsOf t) (λ q l. rw (o .word q countField) (omega arith)) in omega (arith, o .writes);
+        write = λ n h. let z : ⊥ = omega (arith, o .writes) in absurd z;
+        read = λ n h. let z : ⊥ = omega (arith, o .reads) in absurd z;
         records = λ q h. record {
-          write = rw (word q 0, writes) (facts-none (t .writes) 0 q _ (count-zero (isOpen (t .writes) q)));
-          read = rw (word q 0, reads) (facts-none (t .reads) 0 q _ (count-zero (isOpen (t .reads) q)));
+          write = rw (o .word q stateField, o .writes) (facts-none (t .writes) 0 q _ (count-zero (isOpen (t .writes) q)));
+          read = rw (o .word q stateField, o .reads) (facts-none (t .reads) 0 q _ (count-zero (isOpen (t .reads) q)));
         };
       }
 
 -- "Open" on tables that are long enough, accepted, leaves sound tables.
 pub opened-sound : (m k p : ℕ) (setpoints : List ℕ) (t : Tables) → openRefusal m k p setpoints t ≡ 0 → Sound (opened m k p setpoints t)
-unfolding openRefusal
 opened-sound m k p setpoints t e =
-    let a = has (pressFits m k p && eqb (length setpoints) k) 0 (cond (not (longEnough k p t)) 2 0) e in
-    let b = has (longEnough k p t) 1 0 (a .1) in
-    opened-facts m k p setpoints t (press-facts m k p (both-left (pressFits m k p) (eqb (length setpoints) k) (a .0))) (long-facts k p t (b .0))
+    let a = openable m k p setpoints t e in
+    opened-facts m k p setpoints (opened m k p setpoints t) (a .press) (opened-words m k p setpoints t a)

@@ -1,16 +1,17 @@
 -- The records: a client's record in progress, over a record begun, tagged or ended.
-use Prim.Native.Nat.{ℕ, zero, suc, _+_, _*_, _≤_, _<_}
+use Prim.Native.Nat.{ℕ, _+_, _<_}
 use mathlib.Core.Path.{_≡_, refl, sym, _∙_, ap}
-use mathlib.Core.Bool.{Bool, true, false, cond, _&&_, and-false}
+use mathlib.Core.Bool.{Bool, true, false, _&&_, and-false}
 use mathlib.Core.List.{List, [], _∷_}
 use native.Mathlib.Omega.{arith}
 use lib.ListN.{getD, length}
 use lib.Dec.{eqb, ltb}
 use borrow.Author.Tests.{eq-eqb, ne-eqb, eqb-true, ltb-true, lt-ltb}
-use Rattle.ranges.specs.Tests.{by-test, by-equal, both, both-left, both-right, not-both}
-use Rattle.ranges.specs.Sum.{sumBelow, countBelow, one, sum-same, sum-set, sum-more, one-true, one-false}
-use Rattle.tables.specs.Rows.{HasRow, row-same, row-other, word-same, word-other}
-use Rattle.tables.specs.Layout.{recordWidth, recordWord, putRecordWord, putBegun, clientOfRecord, numberOfRecord, tagOfRecord, beginOfRecord, endOfRecord}
+use Rattle.ranges.specs.Tests.{by-equal, both, both-left, both-right}
+use Rattle.ranges.specs.Sum.{countBelow, one, sum-same, sum-set, sum-more, one-true, one-false}
+use Rattle.tables.specs.Rows.{HasRow, row-same, row-other, row-length, word-same, word-other}
+use Rattle.tables.specs.Layout.{recordWidth, recordWord, putBegun, clientOfRecord, tagOfRecord, endOfRecord}
+use Rattle.tables.specs.Tables.{Tables, clientsOf, stateOf, recordOf}
 use Rattle.rules.specs.Common.{endedRecord, taggedRecord}
 use Rattle.soundness.specs.Sound.{isOpen, openSound}
 
@@ -100,7 +101,8 @@ pub open-client : (records : List ℕ) (q n : ℕ) → isOpen records q n ≡ tr
 open-client records q n e = eqb-true _ _ (both-left (eqb (recordWord records n clientOfRecord) q) (eqb (recordWord records n endOfRecord) 0) e)
 
 -- whether a record is open goes by two of its words
-pub open-words : (records records′ : List ℕ) (q n : ℕ) → recordWord records′ n clientOfRecord ≡ recordWord records n clientOfRecord → recordWord records′ n endOfRecord ≡ recordWord records n endOfRecord → isOpen records′ q n ≡ isOpen records q n
+pub open-words : (records records′ : List ℕ) (q n : ℕ) → recordWord records′ n clientOfRecord ≡ recordWord records n clientOfRecord →
+    recordWord records′ n endOfRecord ≡ recordWord records n endOfRecord → isOpen records′ q n ≡ isOpen records q n
 open-words records records′ q n c e = rw (c, e)
 
 -- A tag put into a record: no record in progress comes or goes.
@@ -152,6 +154,9 @@ module _ (records : List ℕ) (begun q number step : ℕ) where
   pub begun-here : (f : ℕ) → f < recordWidth → HasRow recordWidth records begun → recordWord (putBegun records begun q number step) begun f ≡ getD row f 0
   begun-here f h r = row-same recordWidth records begun row f r (omega arith) h
 
+  pub begun-places : length (putBegun records begun q number step) ≡ length records
+  begun-places = row-length recordWidth records begun row
+
   pub begun-open : (p n : ℕ) → n < begun → isOpen (putBegun records begun q number step) p n ≡ isOpen records p n
   begun-open p n h = open-words records (putBegun records begun q number step) p n (begun-word n clientOfRecord (omega arith) (λ e. omega arith)) (begun-word n endOfRecord (omega arith) (λ e. omega arith))
 
@@ -165,3 +170,36 @@ module _ (records : List ℕ) (begun q number step : ℕ) where
     begun-own place e =
         open-own records (putBegun records begun q number step) begun q place (begun-open q)
         (rw (begun-here clientOfRecord (omega arith) r, begun-here endOfRecord (omega arith) r, eq-eqb q q refl)) e
+
+-- Over all clients, for one kind of transaction: `kind` tells the states that do it. A step of client q leaves the others their states and places.
+module _ (kind : ℕ → Bool) (q : ℕ) (t t′ : Tables) (records : List ℕ) (begun : ℕ)
+    (state : (p : ℕ) → (p ≡ q → ⊥) → stateOf t′ p ≡ stateOf t p) (place : (p : ℕ) → (p ≡ q → ⊥) → recordOf t′ p ≡ recordOf t p)
+    (before : (p : ℕ) → p < clientsOf t → openSound (kind (stateOf t p)) records begun p (recordOf t p) ≡ true) where
+  abbrev Records : List ℕ → ℕ → Type 0
+  Records records′ begun′ = (p : ℕ) → p < clientsOf t → openSound (kind (stateOf t′ p)) records′ begun′ p (recordOf t′ p) ≡ true
+
+  -- the client goes on as before
+  pub records-same : kind (stateOf t′ q) ≡ kind (stateOf t q) → recordOf t′ q ≡ recordOf t q → Records records begun
+  records-same k l p h = by-equal p q (λ e. rw (e, k, l) (before q (rw e at h))) (λ d. rw (state p d, place p d) (before p h))
+
+  -- the client did nothing of the kind, and does nothing of it now
+  pub records-idle : kind (stateOf t q) ≡ false → kind (stateOf t′ q) ≡ false → Records records begun
+  records-idle k l p h =
+      by-equal p q
+      (λ e. rw (e, l) (open-idle records begun q (recordOf t q) (recordOf t′ q) (rw k at (before q (rw e at h)))))
+      (λ d. rw (state p d, place p d) (before p h))
+
+  -- the client begins one
+  pub records-begun : (number step : ℕ) → HasRow recordWidth records begun → kind (stateOf t q) ≡ false → kind (stateOf t′ q) ≡ true → recordOf t′ q ≡ begun → Records (putBegun records begun q number step) (begun + 1)
+  records-begun number step room k l here p h =
+      by-equal p q
+      (λ e. rw (e, l, here) (begun-own records begun q number step room (recordOf t q) (rw k at (before q (rw e at h)))))
+      (λ d. rw (state p d, place p d) (begun-others records begun q number step room p (recordOf t p) d (kind (stateOf t p)) (before p h)))
+
+  -- the client ends its own
+  pub records-ended : (step : ℕ) → Doing records begun q (recordOf t q) → HasRow recordWidth records (recordOf t q) → 0 < step → kind (stateOf t′ q) ≡ false → Records (endedRecord (recordOf t q) step records) begun
+  records-ended step own room late l p h =
+      by-equal p q
+      (λ e. rw (e, l) (ended-own records (recordOf t q) step begun q own (recordOf t′ q) room late))
+      (λ d. rw (state p d, place p d)
+      (open-kept records (endedRecord (recordOf t q) step records) begun p (recordOf t p) (λ n g. ended-others records (recordOf t q) step begun q own p n d) (kind (stateOf t p)) (before p h)))

@@ -1,69 +1,35 @@
 -- The delivery of a request keeps sound tables sound: first what it appends, then the reply that takes the request's place.
-use Prim.Native.Nat.{ℕ, zero, suc, _+_, _*_, _≤_, _<_}
-use mathlib.Core.Path.{_≡_, refl, sym, _∙_, ap, subst}
-use mathlib.Core.Bool.{Bool, true, false, cond, not, _&&_, _||_}
-use mathlib.Core.List.{List, [], _∷_}
+use Prim.Native.Nat.{ℕ, _+_, _<_}
+use mathlib.Core.Path.{_≡_, refl, subst}
+use mathlib.Core.Bool.{true}
+use mathlib.Core.List.{[], _∷_}
 use native.Mathlib.Omega.{arith}
-use lib.ListN.{getD, set, length, length-set}
-use lib.Seq.{getD-set-same, getD-set-other}
-use lib.Dec.{eqb, leb, ltb}
-use borrow.Author.Tests.{eq-eqb, ne-eqb, eqb-true, ltb-true, leb-false, lt-ltb, le-leb, not-false}
-use Rattle.ranges.specs.Tests.{by-test, by-equal, both, both-left, both-right, not-both}
+use lib.ListN.{getD, set}
+use lib.Dec.{leb, ltb}
+use borrow.Author.Tests.{eq-eqb, eqb-true, ltb-true, lt-ltb, le-leb}
+use Rattle.ranges.specs.Tests.{by-test, by-equal, both, both-left, both-right}
 use Rattle.keys.specs.Keys.{keyWord, keyAtWord, key-back}
 use Rattle.keys.specs.Masks.{maskWithin, within-true}
-use Rattle.tables.specs.Rows.{wordAt, HasRow}
-use Rattle.tables.specs.Layout.{countWords, countAt, stepField, entriesField, heldField, serverPlaces, logPlaces, putEntry, versionWord}
-use Rattle.tables.specs.Links.{targets, linkWidth, linkRow, putLink, link-length, isEmpty, contentsOf}
-use Rattle.tables.specs.Tables.{Tables, methodOf, serversOf, clientsOf, stepOf, entriesOf, writesOf, readsOf, heldOf, stateOf, maskOf, recordOf, contentAt}
+use Rattle.tables.specs.Rows.{HasRow}
+use Rattle.tables.specs.Layout.{countAt, stepField, entriesField, serverPlaces, logPlaces, putEntry, methodField, readsField, serversField, writesField}
+use Rattle.tables.specs.Links.{targets, linkWidth, linkRow, link-length, contentsOf}
+use Rattle.tables.specs.Tables.{Tables, serversOf, clientsOf, stepOf, entriesOf, heldOf, stateOf, maskOf, contentAt}
 use Rattle.server.specs.Held.{stored, appended, firstBearing}
 use Rattle.coordinator.specs.Log.{entered, enterLeft}
-use Rattle.rules.specs.Common.{writing, entering, askingKeys, askingSetpoints, askingAll, coordinator, reply, counted}
+use Rattle.rules.specs.Common.{writing, entering, askingKeys, askingSetpoints, askingAll, coordinator, reply}
 use Rattle.rules.specs.Request.{answered, storedBy, enteredBy, onSet, onEnter, onWhichKeys, onGet, onGetAll, onRequestIn, onRequest, requestDelivered}
 use Rattle.soundness.specs.Sound.{uses, requestSound, replySound, receivedSound, holding, keyOn, ownKey, keyInRange, sound}
 use Rattle.tables.specs.declared.links.Contents.{Contents}
 use Rattle.tables.specs.declared.links.Content.{Content}
 use Rattle.tables.specs.declared.links.Content.the-variants.{Nothing, Request, Reply}
-use Rattle.soundness.specs.Facts.{Between, facts-between, ClientFacts, LinkFacts, WriteFacts, ReadFacts, Sound}
-use Rattle.store.specs.Refusals.{isTarget, deliveryRefusal, atLastStep}
-use Rattle.keeping.specs.Refused.{has, lacks, neither}
+use Rattle.soundness.specs.Facts.{facts-between, ClientFacts, LinkFacts, Sound}
+use Rattle.store.specs.Refusals.{deliveryRefusal}
+use Rattle.keeping.specs.Accepted.{Deliverable, deliverable, target-below, holding-some}
 use Rattle.keeping.specs.Links.{linkWord, kindOn, numberOn, kind-full, pending-at, LinkAsks, request-kind, request-words, put-same, put-other, link-asks, asks-link}
 use Rattle.keeping.specs.States.{received-none, none-received, not-empty, by-state, masked-below, own-key, own-in-range, uses-writing, uses-keys, request-writing, request-entering, reply-writing, reply-entering, reply-keys, reply-setpoints, reply-all}
-use Rattle.keeping.specs.Appends.{stored-grows, stored-step, stored-sound, entered-grows, entered-step, entry-more, entered-sound}
-use Rattle.keeping.specs.Moves.{Moves, Anew, moves-numbers, moved-sound, counted-other, counted-step, counted-length}
-use Rattle.keeping.specs.Frame.{Numbers, reply-kept, link-kept, received-kept, write-kept, read-kept}
-
--- What number 0 of a delivery's refusal says.
-pub record Deliverable (q i : ℕ) (t : Tables) : Type 0 where
-  pub client : q < clientsOf t
-  pub target : isTarget t i ≡ true
-  pub early : stepOf t < 4294967295
-
-pub deliverable : (q i : ℕ) (t : Tables) → deliveryRefusal q i t ≡ 0 → Deliverable q i t
-unfolding deliveryRefusal
-deliverable q i t e =
-    let a = has (sound t) 1 (cond (leb (clientsOf t) q || not (isTarget t i)) 3 (cond (atLastStep t) 7 0)) e in
-    let b = lacks (leb (clientsOf t) q || not (isTarget t i)) 2 (cond (atLastStep t) 7 0) (a .1) in
-    let c = lacks (atLastStep t) 6 0 (b .1) in
-    let n = neither (leb (clientsOf t) q) (not (isTarget t i)) (b .0) in
-    record { client = leb-false _ _ (n .0); target = not-false _ (n .1); early = leb-false _ _ (c .0) }
-
--- a target is a server or the coordinator
-pub by-target : {C : Type 0} (q i : ℕ) (t : Tables) → Deliverable q i t → (i < serversOf t → C) → (i ≡ coordinator → C) → C
-by-target q i t d server head =
-    by-test (ltb i (serversOf t))
-    (λ b. server (ltb-true _ _ b))
-    (λ b. head (eqb-true i coordinator (rw b at (d .target))))
-
-module _ (q i : ℕ) (t : Tables) (s : Sound t) (d : Deliverable q i t) where
-  pub target-below : i < targets
-  target-below = by-target q i t d (λ h. omega (arith, s .scalars .press .servers .most)) (λ e. omega arith)
-
-  -- a target holds something, the opening's at least
-  pub holding-some : 1 ≤ holding t i
-  holding-some =
-      by-target q i t d
-      (λ h. let few : i < 16 = omega (arith, s .scalars .press .servers .most) in rw (ne-eqb i coordinator (λ e. omega arith)) (s .server i h .held .least))
-      (λ e. rw (eq-eqb i coordinator e) (s .scalars .entries .least))
+use Rattle.keeping.specs.Appends.{stored-step, stored-kept, entered-step, entry-more, entered-kept}
+use Rattle.keeping.specs.Moves.{Moves, Anew, moves-numbers, moved-kept, counted-other, counted-step, counted-length}
+use Rattle.keeping.specs.Frame.{Numbers, Kept, kept-same, kept-then, reply-kept, link-kept, received-kept, write-kept, read-kept}
 
 -- a link of a client has its row
 pub link-row : (t : Tables) (q i : ℕ) → Sound t → q < clientsOf t → i < targets → HasRow linkWidth (t .links) (linkRow q i)
@@ -81,7 +47,7 @@ module _ (q i number : ℕ) (t : Tables) (s : Sound t) (client : q < clientsOf t
   other : (p j f : ℕ) → ((p ≡ q) × (j ≡ i) → ⊥) → j < targets → f < linkWidth → linkWord (after .links) p j f ≡ linkWord (t .links) p j f
   other p j f d h l = put-other (t .links) q i (reply number) p j f target h d l
 
-  pub answered-moves : Moves q t after
+  answered-moves : Moves q t after
   answered-moves =
       record {
         count = λ f d e g. same f d;
@@ -123,11 +89,11 @@ module _ (q i number : ℕ) (t : Tables) (s : Sound t) (client : q < clientsOf t
   answered-client =
       let c = s .client q client in
       record {
-        allowed = rw (same 0 (λ e. omega arith)) (c .allowed);
+        allowed = rw (same methodField (λ e. omega arith)) (c .allowed);
         count = c .count;
-        mask = rw (same 1 (λ e. omega arith)) (c .mask);
+        mask = rw (same serversField (λ e. omega arith)) (c .mask);
         masked = c .masked;
-        tag = rw (same 4 (λ e. omega arith)) (c .tag);
+        tag = rw (same entriesField (λ e. omega arith)) (c .tag);
         link = λ j h. by-equal j i (λ e. rw e answered-link) (λ d. link-kept t after answered-numbers q j h refl refl (λ f l. other q j f (λ e. d (e .1)) h l) (c .link j h));
         received = λ j h. by-equal j i (λ e. rw e answered-received) (λ d. received-kept t after answered-numbers q j h refl refl (λ f l. other q j f (λ e. d (e .1)) h l) refl (c .received j h));
         busy = λ d. pending-at (after .links) q i target (answered-link .kind) answered-full;
@@ -135,9 +101,9 @@ module _ (q i number : ℕ) (t : Tables) (s : Sound t) (client : q < clientsOf t
 
   answered-anew : Anew q t after
   answered-anew =
-      let entries = same 4 (λ e. omega arith) in
-      let writes = same 5 (λ e. omega arith) in
-      let reads = same 6 (λ e. omega arith) in
+      let entries = same entriesField (λ e. omega arith) in
+      let writes = same writesField (λ e. omega arith) in
+      let reads = same readsField (λ e. omega arith) in
       record {
         step = rw (counted-step (t .counts) (s .long .counts)) (record { least = omega arith; most = omega arith });
         writes = rw writes (s .scalars .writes);
@@ -149,8 +115,8 @@ module _ (q i number : ℕ) (t : Tables) (s : Sound t) (client : q < clientsOf t
         records = λ p h. record { write = rw writes (s .records p h .write); read = rw reads (s .records p h .read) };
       }
 
-  pub answered-sound : Sound after
-  answered-sound = moved-sound q t after s answered-moves answered-anew
+  pub answered-kept : Kept q t after
+  answered-kept = moved-kept q t after s answered-moves answered-anew
 
 -- The delivery, by the state of the client. The request's words are those of the link.
 module _ (q i : ℕ) (t : Tables) (s : Sound t) (d : Deliverable q i t) (asked : kindOn t q i ≡ 1) where
@@ -166,8 +132,8 @@ module _ (q i : ℕ) (t : Tables) (s : Sound t) (d : Deliverable q i t) (asked :
   used : uses (stateOf t q) (maskOf t q) i ≡ true
   used = asks .used (λ e. omega arith)
 
-  reply-in : (number : ℕ) → replySound (stateOf t q) i number t ≡ true → Sound (answered q i number t .tables)
-  reply-in number good = answered-sound q i number t s (d .client) (target-below q i t s d) (d .early) asked good
+  reply-in : (number : ℕ) → replySound (stateOf t q) i number t ≡ true → Kept q t (answered q i number t .tables)
+  reply-in number good = answered-kept q i number t s (d .client) (target-below q i t s d) (d .early) asked good
 
   -- the key of a WRITE's request is the client's own
   own : (state : ℕ) → stateOf t q ≡ state → (requestSound state q (keyOn t q i) (numberOn t q i) t ≡ true → ownKey q (keyOn t q i) ≡ true) → keyInRange (clientsOf t) (keyWord (keyAtWord (keyOn t q i))) ≡ true
@@ -176,7 +142,7 @@ module _ (q i : ℕ) (t : Tables) (s : Sound t) (d : Deliverable q i t) (asked :
       let b = own-key (clientsOf t) q (keyOn t q i) o .0 .most in
       rw (key-back (keyOn t q i) (omega arith)) (own-in-range (clientsOf t) q (keyOn t q i) (d .client) o)
 
-  set-delivered : stateOf t q ≡ writing → Sound (onSet w q i t .tables)
+  set-delivered : stateOf t q ≡ writing → Kept q t (onSet w q i t .tables)
   unfolding onSet appended
   set-delivered e =
       let server = masked-below (maskOf t q) (serversOf t) i (c .mask) (rw (e, uses-writing) at used) in
@@ -184,13 +150,13 @@ module _ (q i : ℕ) (t : Tables) (s : Sound t) (d : Deliverable q i t) (asked :
       by-test (ltb (heldOf t i) serverPlaces)
       (λ b.
       let room = ltb-true _ _ b in
-      let s₁ = stored-sound q i (w .key) (w .number) t s (d .client) server room good in
-      let n = stored-grows q i (w .key) (w .number) t s (d .client) server room good .numbers in
+      let after = storedBy (stored (t .counts) (t .keys) (t .values) i (w .key) (w .number)) t in
+      let k = stored-kept q i (w .key) (w .number) t s (d .client) server room good in
       let step = stored-step q i (w .key) (w .number) t s (d .client) server room good in
-      rw b (answered-sound q i 0 (storedBy (stored (t .counts) (t .keys) (t .values) i (w .key) (w .number)) t) s₁ (rw (n .clients) (d .client)) (target-below q i t s d) (rw step (d .early)) asked (rw e (reply-writing _ i 0))))
-      (λ b. rw b s)
+      rw b (kept-then q t after (answered q i 0 after .tables) s k (answered-kept q i 0 after (k .sound) (rw (k .grows .numbers .clients) (d .client)) (target-below q i t s d) (rw step (d .early)) asked (rw e (reply-writing after i 0)))))
+      (λ b. rw b (kept-same q t s))
 
-  enter-delivered : stateOf t q ≡ entering → Sound (onEnter w q i t .tables)
+  enter-delivered : stateOf t q ≡ entering → Kept q t (onEnter w q i t .tables)
   unfolding onEnter entered
   enter-delivered e =
       let r = rw (e, request-entering) at (asks .request asked) in
@@ -199,35 +165,34 @@ module _ (q i : ℕ) (t : Tables) (s : Sound t) (d : Deliverable q i t) (asked :
       by-test (ltb (entriesOf t) logPlaces)
       (λ b.
       let room = ltb-true _ _ b in
-      let s₁ = entered-sound q (w .key) (w .number) t s (d .client) room good mask in
-      let n = entered-grows q (w .key) (w .number) t s (d .client) room good mask .numbers in
+      let k = entered-kept q (w .key) (w .number) t s (d .client) room good mask in
       let step = entered-step q (w .key) (w .number) t s (d .client) room good mask in
       let more = entry-more q (w .key) (w .number) t s (d .client) room good mask in
       let after = enteredBy (enterLeft true (set (t .counts) entriesField (entriesOf t + 1)) (putEntry (t .log) (entriesOf t) (w .key) (w .number))) q t in
       let tagged : replySound (stateOf after q) i (entriesOf t) after ≡ true =
-          rw (e, reply-entering after i (entriesOf t)) (both (leb 1 (entriesOf t)) (ltb (entriesOf t) (entriesOf after)) (le-leb _ _ (s .scalars .entries .least)) (lt-ltb (entriesOf t) (entriesOf after) (rw more (omega arith)))) in
-      rw b (answered-sound q i (entriesOf t) after s₁ (rw (n .clients) (d .client)) (target-below q i t s d) (rw step (d .early)) asked tagged))
-      (λ b. rw b s)
+      rw (e, reply-entering after i (entriesOf t)) (both (leb 1 (entriesOf t)) (ltb (entriesOf t) (entriesOf after)) (le-leb _ _ (s .scalars .entries .least)) (lt-ltb (entriesOf t) (entriesOf after) (rw more (omega arith)))) in
+      rw b (kept-then q t after (answered q i (entriesOf t) after .tables) s k (answered-kept q i (entriesOf t) after (k .sound) (rw (k .grows .numbers .clients) (d .client)) (target-below q i t s d) (rw step (d .early)) asked tagged)))
+      (λ b. rw b (kept-same q t s))
 
-  keys-delivered : stateOf t q ≡ askingKeys → Sound (onWhichKeys q i t .tables)
+  keys-delivered : stateOf t q ≡ askingKeys → Kept q t (onWhichKeys q i t .tables)
   unfolding onWhichKeys
   keys-delivered e =
       let head : i ≡ coordinator = eqb-true i coordinator (rw (e, uses-keys) at used) in
       let all : holding t i ≡ entriesOf t = rw (eq-eqb i coordinator head) in
       reply-in (entriesOf t) (rw (e, reply-keys t i (entriesOf t)) (facts-between 1 (entriesOf t) (holding t i) (record { least = s .scalars .entries .least; most = omega arith })))
 
-  get-delivered : stateOf t q ≡ askingSetpoints → Sound (onGet w q i t .tables)
+  get-delivered : stateOf t q ≡ askingSetpoints → Kept q t (onGet w q i t .tables)
   unfolding onGet
   get-delivered e =
       by-test (ltb (firstBearing (t .keys) i (w .key) (heldOf t i)) (heldOf t i))
       (λ b. rw b (reply-in _ (rw e (reply-setpoints t i _))))
-      (λ b. rw b s)
+      (λ b. rw b (kept-same q t s))
 
-  all-delivered : stateOf t q ≡ askingAll → Sound (onGetAll q i t .tables)
+  all-delivered : stateOf t q ≡ askingAll → Kept q t (onGetAll q i t .tables)
   unfolding onGetAll
   all-delivered e = reply-in (holding t i) (rw (e, reply-all t i (holding t i)) (facts-between 1 (holding t i) (holding t i) (record { least = holding-some q i t s d; most = omega arith })))
 
-  in-state : Sound (onRequestIn (stateOf t q) w q i t .tables)
+  in-state : Kept q t (onRequestIn (stateOf t q) w q i t .tables)
   unfolding onRequestIn
   in-state =
       by-state (maskOf t q) i (stateOf t q) used
@@ -239,14 +204,17 @@ module _ (q i : ℕ) (t : Tables) (s : Sound t) (d : Deliverable q i t) (asked :
 
 -- The delivery of a request, accepted or refused by 8 or 9, leaves sound tables.
 module _ (q i : ℕ) (t : Tables) (s : Sound t) (e : deliveryRefusal q i t ≡ 0) where
-  by-content : (c : Content) → contentAt t q i ≡ c → Sound (onRequest c q i t .tables)
-  by-content Nothing h = s
+  by-content : (c : Content) → contentAt t q i ≡ c → Kept q t (onRequest c q i t .tables)
+  by-content Nothing h = kept-same q t s
   by-content (Request w) h =
       let d = deliverable q i t e in
       let kind = s .client q (d .client) .link i (target-below q i t s d) .kind in
-      subst (λ (w : Contents). Sound (onRequestIn (stateOf t q) w q i t .tables)) (request-words (t .links) q i w kind h) (in-state q i t s d (request-kind (t .links) q i w kind h))
-  by-content (Reply w) h = s
+      subst (λ (w : Contents). Kept q t (onRequestIn (stateOf t q) w q i t .tables)) (request-words (t .links) q i w kind h) (in-state q i t s d (request-kind (t .links) q i w kind h))
+  by-content (Reply w) h = kept-same q t s
+
+  pub requestDelivered-kept : Kept q t (requestDelivered q i t .tables)
+  unfolding requestDelivered
+  requestDelivered-kept = by-content (contentAt t q i) refl
 
   pub requestDelivered-sound : Sound (requestDelivered q i t .tables)
-  unfolding requestDelivered
-  requestDelivered-sound = by-content (contentAt t q i) refl
+  requestDelivered-sound = requestDelivered-kept .sound

@@ -1,15 +1,14 @@
 -- What each state of a client asks: the links it uses, the states its method allows, the n it has received.
-use Prim.Native.Nat.{ℕ, _+_, _*_, _%_, _^_, _≤_, _<_}
-use mathlib.Core.Path.{_≡_, refl, sym, _∙_}
+use Prim.Native.Nat.{ℕ, _%_, _^_, _<_}
+use mathlib.Core.Path.{_≡_, refl, sym}
 use mathlib.Core.Bool.{Bool, true, false, cond, not, _&&_, _||_, and-false, or-true, true≢false}
 use native.Mathlib.Omega.{arith}
 use lib.Dec.{eqb, leb, ltb}
-use borrow.Author.Tests.{eq-eqb, ne-eqb, eqb-true, eqb-false, ltb-true, ltb-false, lt-ltb}
+use borrow.Author.Tests.{eq-eqb, ne-eqb, eqb-true, ltb-true, ltb-false, lt-ltb}
 use Rattle.ranges.specs.Tests.{by-test, by-equal, both, both-left, both-right, not-both}
-use Rattle.keys.specs.Keys.{keyWord, keyAtWord, key-back}
 use Rattle.keys.specs.Masks.{hasServer, maskWithin, no-server}
 use Rattle.tables.specs.Tables.{Tables, serversOf, clientsOf, entriesOf, stateOf, maskOf, receivedOf, contentAt}
-use Rattle.tables.specs.Links.{targets, isEmpty}
+use Rattle.tables.specs.Links.{isEmpty}
 use Rattle.rules.specs.Common.{idle, writing, entering, askingKeys, askingSetpoints, askingAll, coordinator}
 use Rattle.soundness.specs.Sound.{uses, stateAllowed, receivedSound, requestSound, replySound, between, holding, ownKey, keyInRange}
 use Rattle.soundness.specs.Facts.{Between, between-facts, facts-between}
@@ -49,7 +48,7 @@ module _ (mask i : ℕ) where
       (λ nb. by-equal state askingKeys c
       (λ nc. by-equal state askingSetpoints d
       (λ nd. by-equal state askingAll e
-      (λ ne. absurd (true≢false (sym (rw (ne-eqb state 1 na, ne-eqb state 4 nd, ne-eqb state 2 nb, ne-eqb state 3 nc, ne-eqb state 5 ne) at u)))))))) 
+      (λ ne. absurd (true≢false (sym (rw (ne-eqb state 1 na, ne-eqb state 4 nd, ne-eqb state 2 nb, ne-eqb state 3 nc, ne-eqb state 5 ne) at u))))))))
 
 -- a server of the mask is below k
 pub masked-below : (mask k i : ℕ) → mask < 2 ^ k → hasServer mask i ≡ true → i < k

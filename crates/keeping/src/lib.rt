@@ -1,11 +1,10 @@
 // Sound tables stay sound: the theorems stand in specs/, one for each step.
 ghost use mathlib.Core.Path.{_≡_};
-ghost use mathlib.Core.Bool.{not};
 ghost use Rattle.keeping.specs.Steps.{mayStep};
 
-// Whether another step may follow a step number: "any step but an opening at step number 2^32 − 1" is refused.
+// Whether a step may follow a step number: "any step but an opening at step number 2^32 − 1" is refused.
 pub fn may_step(step: u32) -> bool
     ensures { λ r. ⌜ r ≡ mayStep step ⌝ }
 {
-    step < 4294967295
+    !(4294967295 <= step)
 }

@@ -1,9 +1,7 @@
 -- A conjunction of several tests, as the list of them: one law for every length takes it apart, and one puts it together.
-use Prim.Native.Nat.{ℕ, zero, suc}
 use mathlib.Core.Path.{_≡_, refl}
-use mathlib.Core.Bool.{Bool, true, false, _&&_}
+use mathlib.Core.Bool.{Bool, true, _&&_}
 use mathlib.Core.List.{List, [], _∷_}
-use lib.ListN.{getD}
 use Rattle.ranges.specs.Tests.{both, both-left, both-right}
 
 -- `a && b && c` for the list of a, b and c

@@ -1,13 +1,13 @@
 -- Sound tables as records of facts, for proofs: the conditions of `sound`, each conjunction a record and each `allBelow` a function.
 -- `sound-facts` and `facts-sound` tie the two, component by component.
-use Prim.Native.Nat.{ℕ, _+_, _*_, _^_, _≤_, _<_}
-use mathlib.Core.Path.{_≡_, refl}
-use mathlib.Core.Bool.{Bool, true, false, cond, not, _&&_, _||_, or-true}
+use Prim.Native.Nat.{ℕ, _*_, _^_, _≤_, _<_}
+use mathlib.Core.Path.{_≡_}
+use mathlib.Core.Bool.{Bool, true, cond, _||_}
 use mathlib.Core.List.{List, [], _∷_}
 use lib.ListN.{length}
 use lib.Dec.{eqb, leb, ltb}
-use borrow.Author.Tests.{leb-true, le-leb, ltb-true, lt-ltb, eqb-true, eq-eqb, ne-eqb, eqb-false}
-use Rattle.ranges.specs.Tests.{by-test, by-equal, both, both-left, both-right}
+use borrow.Author.Tests.{leb-true, le-leb, ltb-true, lt-ltb, eqb-true, eq-eqb, ne-eqb}
+use Rattle.ranges.specs.Tests.{by-equal, both, both-left, both-right}
 use Rattle.ranges.specs.All.{allBelow, all-at, all-of}
 use Rattle.ranges.specs.Sum.{sumBelow}
 use Rattle.keys.specs.Masks.{maskWithin, Within, within-true, within-test}
@@ -277,10 +277,11 @@ module _ (t : Tables) (q : ℕ) where
   pub facts-client : ClientFacts t q → clientSound t q ≡ true
   unfolding clientSound
   facts-client f =
-      every-passed clientTests (
-        f .allowed,
-        (facts-between _ _ _ (f .count), (two-ways (stateOf t q) below within (λ d. lt-ltb _ _ (f .mask)) (λ d. within-test _ _ (record { some = f .masked d; below = f .mask })), (lt-ltb _ _ (f .tag), (all-of (linkSound t q) targets (λ i h. facts-link t q i (f .link i h)), (all-of (receivedSound t q) targets (f .received), (busy-or (stateOf t q) true (pending (t .links) q) (f .busy), tt)))))),
-      )
+      let mask = two-ways (stateOf t q) below within (λ d. lt-ltb _ _ (f .mask)) (λ d. within-test _ _ (record { some = f .masked d; below = f .mask })) in
+      let links = all-of (linkSound t q) targets (λ i h. facts-link t q i (f .link i h)) in
+      let received = all-of (receivedSound t q) targets (f .received) in
+      let busy = busy-or (stateOf t q) true (pending (t .links) q) (f .busy) in
+      every-passed clientTests (f .allowed, (facts-between _ _ _ (f .count), (mask, (lt-ltb _ _ (f .tag), (links, (received, (busy, tt)))))))
 
 -- The records.
 pub record WriteFacts (t : Tables) (n : ℕ) : Type 0 where
@@ -378,7 +379,9 @@ module _ (t : Tables) where
   pub facts-sound : Sound t → sound t ≡ true
   unfolding sound
   facts-sound f =
-      every-passed soundTests (
-        facts-long _ _ t (f .long),
-        (facts-scalars t (f .scalars), (all-of (serverSound t) (serversOf t) (λ i h. facts-server t i (f .server i h)), (facts-log t (f .log), (all-of (clientSound t) (clientsOf t) (λ q h. facts-client t q (f .client q h)), (eq-eqb _ _ (f .counts), (all-of (writeSound t) (writesOf t) (λ n h. facts-write t n (f .write n h)), (all-of (readSound t) (readsOf t) (λ n h. facts-read t n (f .read n h)), (all-of (recordsSound t) (clientsOf t) (λ q h. facts-records t q (f .records q h)), tt)))))))),
-      )
+      let servers = all-of (serverSound t) (serversOf t) (λ i h. facts-server t i (f .server i h)) in
+      let clients = all-of (clientSound t) (clientsOf t) (λ q h. facts-client t q (f .client q h)) in
+      let writes = all-of (writeSound t) (writesOf t) (λ n h. facts-write t n (f .write n h)) in
+      let reads = all-of (readSound t) (readsOf t) (λ n h. facts-read t n (f .read n h)) in
+      let records = all-of (recordsSound t) (clientsOf t) (λ q h. facts-records t q (f .records q h)) in
+      every-passed soundTests (facts-long _ _ t (f .long), (facts-scalars t (f .scalars), (servers, (facts-log t (f .log), (clients, (eq-eqb _ _ (f .counts), (writes, (reads, (records, tt)))))))))

@@ -1,0 +1,171 @@
+-- What number 0 of a refusal says: no cause refuses, so the step has these facts at hand. One law for each kind of step turns the number into them.
+use Prim.Native.Nat.{ℕ, suc, _≤_, _<_}
+use mathlib.Core.Path.{_≡_, refl}
+use mathlib.Core.Bool.{Bool, true, false, cond, not, _&&_, _||_, true≢false}
+use mathlib.Core.List.{List}
+use native.Mathlib.Omega.{arith}
+use lib.ListN.{length}
+use lib.Dec.{eqb, leb, ltb}
+use borrow.Author.Tests.{eq-eqb, ne-eqb, eqb-true, ltb-true, leb-false, not-false}
+use Rattle.ranges.specs.Tests.{by-test, both-left, both-right}
+use Rattle.keys.specs.Masks.{maskWithin, Within, within-true}
+use Rattle.tables.specs.Layout.{recordPlaces}
+use Rattle.tables.specs.Links.{targets}
+use Rattle.tables.specs.Tables.{Tables, methodOf, serversOf, clientsOf, stepOf, writesOf, readsOf, stateOf}
+use Rattle.rules.specs.Common.{idle, coordinator}
+use Rattle.soundness.specs.Sound.{longEnough, pressFits, holding, sound}
+use Rattle.soundness.specs.Facts.{Long, long-facts, Press, press-facts, Sound}
+use Rattle.store.specs.Refusals.{openRefusal, writeRefusal, readRefusal, deliveryRefusal, isTarget, atLastStep}
+
+-- a cause that is a failed test is absent: the test passed, and no later cause refuses
+has : (b : Bool) (n rest : ℕ) → cond (not b) (suc n) rest ≡ 0 → (b ≡ true) × (rest ≡ 0)
+has true n rest e = (refl, e)
+has false n rest e = let z : ⊥ = omega arith in absurd z
+
+-- a cause that is a passed test is absent
+lacks : (b : Bool) (n rest : ℕ) → cond b (suc n) rest ≡ 0 → (b ≡ false) × (rest ≡ 0)
+lacks true n rest e = let z : ⊥ = omega arith in absurd z
+lacks false n rest e = (refl, e)
+
+-- neither of two tests passed
+pub neither : (a b : Bool) → (a || b) ≡ false → (a ≡ false) × (b ≡ false)
+neither false b e = (refl, e)
+neither true b e = absurd (true≢false e)
+
+-- An opening.
+pub record Openable (m k p : ℕ) (values : List ℕ) (t : Tables) : Type 0 where
+  pub press : Press m k p
+  pub setpoints : length values ≡ k
+  pub long : Long k p t
+
+-- A begin.
+pub record Beginnable (q mask : ℕ) (t : Tables) : Type 0 where
+  pub client : q < clientsOf t
+  pub free : stateOf t q ≡ idle
+  pub masked : Within mask (serversOf t)
+  pub early : stepOf t < 4294967295
+
+pub record Writable (q mask : ℕ) (setpoints : List ℕ) (t : Tables) : Type 0 where
+  pub begin : Beginnable q mask t
+  pub part : (eqb (methodOf t) 1 && eqb q 0) ≡ false
+  pub values : length setpoints ≡ serversOf t
+  pub few : writesOf t < recordPlaces
+
+pub record Readable (q mask : ℕ) (t : Tables) : Type 0 where
+  pub begin : Beginnable q mask t
+  pub part : (eqb (methodOf t) 1 && not (eqb q 0)) ≡ false
+  pub few : readsOf t < recordPlaces
+
+-- A delivery.
+pub record Deliverable (q i : ℕ) (t : Tables) : Type 0 where
+  pub client : q < clientsOf t
+  pub target : isTarget t i ≡ true
+  pub early : stepOf t < 4294967295
+
+module _ (m k p : ℕ) (values : List ℕ) (t : Tables) where
+  abbrev opens : Bool
+  opens = pressFits m k p && eqb (length values) k
+
+  pub openable : openRefusal m k p values t ≡ 0 → Openable m k p values t
+  unfolding openRefusal
+  openable e =
+      let a = has opens 0 (cond (not (longEnough k p t)) 2 0) e in
+      let b = has (longEnough k p t) 1 0 (a .1) in
+      record {
+        press = press-facts m k p (both-left (pressFits m k p) (eqb (length values) k) (a .0));
+        setpoints = eqb-true _ _ (both-right (pressFits m k p) (eqb (length values) k) (a .0));
+        long = long-facts k p t (b .0);
+      }
+
+module _ (q mask : ℕ) (setpoints : List ℕ) (t : Tables) where
+  abbrev fits : Bool
+  fits = maskWithin mask (serversOf t) && eqb (length setpoints) (serversOf t)
+
+  abbrev full : Bool
+  full = leb recordPlaces (writesOf t) || atLastStep t
+
+  -- the refusal from each number on
+  abbrev from6 : ℕ
+  from6 = cond (not fits) 6 (cond full 7 0)
+
+  abbrev from5 : ℕ
+  from5 = cond (not (eqb (stateOf t q) idle)) 5 from6
+
+  abbrev from4 : ℕ
+  from4 = cond (eqb (methodOf t) 1 && eqb q 0) 4 from5
+
+  pub writable : writeRefusal q mask setpoints t ≡ 0 → Writable q mask setpoints t
+  unfolding writeRefusal
+  writable e =
+      let r₂ = has (sound t) 1 (cond (leb (clientsOf t) q) 3 from4) e in
+      let r₃ = lacks (leb (clientsOf t) q) 2 from4 (r₂ .1) in
+      let r₄ = lacks (eqb (methodOf t) 1 && eqb q 0) 3 from5 (r₃ .1) in
+      let r₅ = has (eqb (stateOf t q) idle) 4 from6 (r₄ .1) in
+      let r₆ = has fits 5 (cond full 7 0) (r₅ .1) in
+      let r₇ = neither (leb recordPlaces (writesOf t)) (atLastStep t) (lacks full 6 0 (r₆ .1) .0) in
+      record {
+        begin = record {
+          client = leb-false _ _ (r₃ .0);
+          free = eqb-true _ _ (r₅ .0);
+          masked = within-true _ _ (both-left (maskWithin mask (serversOf t)) (eqb (length setpoints) (serversOf t)) (r₆ .0));
+          early = leb-false _ _ (r₇ .1);
+        };
+        part = r₄ .0;
+        values = eqb-true _ _ (both-right (maskWithin mask (serversOf t)) (eqb (length setpoints) (serversOf t)) (r₆ .0));
+        few = leb-false _ _ (r₇ .0);
+      }
+
+module _ (q mask : ℕ) (t : Tables) where
+  abbrev allBegun : Bool
+  allBegun = leb recordPlaces (readsOf t) || atLastStep t
+
+  abbrev readFrom6 : ℕ
+  readFrom6 = cond (not (maskWithin mask (serversOf t))) 6 (cond allBegun 7 0)
+
+  abbrev readFrom5 : ℕ
+  readFrom5 = cond (not (eqb (stateOf t q) idle)) 5 readFrom6
+
+  abbrev readFrom4 : ℕ
+  readFrom4 = cond (eqb (methodOf t) 1 && not (eqb q 0)) 4 readFrom5
+
+  pub readable : readRefusal q mask t ≡ 0 → Readable q mask t
+  unfolding readRefusal
+  readable e =
+      let r₂ = has (sound t) 1 (cond (leb (clientsOf t) q) 3 readFrom4) e in
+      let r₃ = lacks (leb (clientsOf t) q) 2 readFrom4 (r₂ .1) in
+      let r₄ = lacks (eqb (methodOf t) 1 && not (eqb q 0)) 3 readFrom5 (r₃ .1) in
+      let r₅ = has (eqb (stateOf t q) idle) 4 readFrom6 (r₄ .1) in
+      let r₆ = has (maskWithin mask (serversOf t)) 5 (cond allBegun 7 0) (r₅ .1) in
+      let r₇ = neither (leb recordPlaces (readsOf t)) (atLastStep t) (lacks allBegun 6 0 (r₆ .1) .0) in
+      record {
+        begin = record { client = leb-false _ _ (r₃ .0); free = eqb-true _ _ (r₅ .0); masked = within-true _ _ (r₆ .0); early = leb-false _ _ (r₇ .1) };
+        part = r₄ .0;
+        few = leb-false _ _ (r₇ .0);
+      }
+
+module _ (q i : ℕ) (t : Tables) where
+  pub deliverable : deliveryRefusal q i t ≡ 0 → Deliverable q i t
+  unfolding deliveryRefusal
+  deliverable e =
+      let a = has (sound t) 1 (cond (leb (clientsOf t) q || not (isTarget t i)) 3 (cond (atLastStep t) 7 0)) e in
+      let b = lacks (leb (clientsOf t) q || not (isTarget t i)) 2 (cond (atLastStep t) 7 0) (a .1) in
+      let n = neither (leb (clientsOf t) q) (not (isTarget t i)) (b .0) in
+      record { client = leb-false _ _ (n .0); target = not-false _ (n .1); early = leb-false _ _ (lacks (atLastStep t) 6 0 (b .1) .0) }
+
+  -- a target is a server or the coordinator
+  by-target : {C : Type 0} → Deliverable q i t → (i < serversOf t → C) → (i ≡ coordinator → C) → C
+  by-target d server head =
+      by-test (ltb i (serversOf t))
+      (λ b. server (ltb-true _ _ b))
+      (λ b. head (eqb-true i coordinator (rw b at (d .target))))
+
+  module _ (s : Sound t) (d : Deliverable q i t) where
+    pub target-below : i < targets
+    target-below = by-target d (λ h. omega (arith, s .scalars .press .servers .most)) (λ e. omega arith)
+
+    -- a target holds something, the opening's at least
+    pub holding-some : 1 ≤ holding t i
+    holding-some =
+        by-target d
+        (λ h. let few : i < 16 = omega (arith, s .scalars .press .servers .most) in rw (ne-eqb i coordinator (λ e. omega arith)) (s .server i h .held .least))
+        (λ e. rw (eq-eqb i coordinator e) (s .scalars .entries .least))

@@ -1,0 +1,167 @@
+-- C: "when all replies are in", the tag is chosen, and the setpoint of each masked station at that tag is stored
+use Prim.Native.Nat.{ℕ, _+_, _≤_, _<_}
+use mathlib.Core.Path.{_≡_, refl, sym, _∙_, ap}
+use mathlib.Core.Bool.{true, false, _&&_, or-true}
+use mathlib.Core.List.{List, [], _∷_}
+use native.Mathlib.Omega.{arith}
+use lib.ListN.{length}
+use lib.Dec.{eqb, ltb}
+use borrow.Author.Tests.{eq-eqb, lt-ltb}
+use Rattle.ranges.specs.Tests.{by-test, by-equal, both}
+use Rattle.ranges.specs.Turns.{turns}
+use Rattle.ranges.specs.Picked.{picked}
+use Rattle.ranges.specs.Last.{last-below}
+use Rattle.keys.specs.Masks.{hasServer}
+use Rattle.tables.specs.Rows.{word-same}
+use Rattle.tables.specs.Layout.{clientWidth, clientWord, setpointsField, receivedField, countField, maskField, stateField, tagField}
+use Rattle.tables.specs.Links.{targets, isEmpty, contentsOf}
+use Rattle.tables.specs.Tables.{Tables, serversOf, entriesOf, stateOf, maskOf, receivedOf, contentAt}
+use Rattle.tables.specs.declared.links.Contents.{Contents}
+use Rattle.rules.specs.Common.{idle, askingAll, coordinator, pending}
+use Rattle.rules.specs.Choice.{qualifies}
+use Rattle.rules.specs.Reply.{emptied, receivedIn, setpointAt, keepSetpoint, forget, tagChosen, endedByC, onAll}
+use Rattle.soundness.specs.Sound.{uses, holding, keyOn}
+use Rattle.soundness.specs.Facts.{Between, between-facts}
+use Rattle.keeping.specs.Links.{kindOn, numberOn, kind-empty, none-pending}
+use Rattle.keeping.specs.States.{arrived, received-some, some-received, uses-all, reply-all}
+use Rattle.keeping.specs.Frame.{Kept}
+use Rattle.keeping.specs.Moves.{moves-numbers, same-entries, same-holding}
+use Rattle.keeping.specs.Rows.{put, Put, putAll, lastPut, put-read, put-before, put-skip, put-elsewhere, put-length, loop-other, loop-there, loop-length}
+use Rattle.keeping.specs.Rounds.{idle-client}
+use Rattle.keeping.specs.Replied.{repliedTables, Moving, going-moves, finished-moves, ended-read-kept}
+use Rattle.keeping.specs.Came.{Came, facts, asks, used, row-room, gone, beside, kinds, elsewhere, rest-long, waiting-kept}
+
+module _ (q i : ℕ) (t : Tables) (a : Came q i t) (state : stateOf t q ≡ askingAll) where
+  abbrev w : Contents
+  w = contentsOf (keyOn t q i) (numberOn t q i)
+
+  abbrev number : ℕ
+  number = numberOn t q i
+
+  abbrev rest : List ℕ
+  rest = emptied q i t
+
+  abbrev gotN : List Put
+  gotN = put (receivedField + i) number ∷ []
+
+  abbrev row : List ℕ
+  row = putAll gotN q (t .clients)
+
+  n-inside : ltb (receivedField + i) clientWidth ≡ true
+  n-inside = lt-ltb (receivedField + i) clientWidth (omega (arith, a .target))
+
+  n-between : Between 1 number (holding t i)
+  n-between = between-facts 1 number (holding t i) (rw (state, reply-all) at (asks a .reply (a .kind)))
+
+  n-low : (f : ℕ) → f < receivedField → clientWord row q f ≡ clientWord (t .clients) q f
+  n-low f h = put-skip q gotN (t .clients) f (λ e. omega arith, tt)
+
+  n-here : receivedIn row q i ≡ number
+  n-here = word-same clientWidth (t .clients) q (receivedField + i) number (row-room a) (omega (arith, a .target))
+
+  n-beside : (j : ℕ) → (j ≡ i → ⊥) → receivedIn row q j ≡ receivedOf t q j
+  n-beside j e = put-skip q gotN (t .clients) (receivedField + j) (λ z. e (omega arith), tt)
+
+  n-moving : Moving q row rest t
+  n-moving = record { row = λ p f e h. put-elsewhere q gotN (t .clients) p f (rw n-inside) h e; link = elsewhere a; clients = put-length q gotN (t .clients); links = rest-long a }
+
+  all-waits : pending rest q ≡ true → Kept q t (repliedTables row rest (t .writes) (t .reads) t)
+  all-waits more =
+      let after = repliedTables row rest (t .writes) (t .reads) t in
+      let m = going-moves q row rest t (a .sound) (a .client) (a .early) n-moving in
+      let here : arrived after q i ≡ true =
+      both (eqb (stateOf after q) askingAll) (uses (stateOf after q) (maskOf after q) i && isEmpty (contentAt after q i))
+      (eq-eqb (stateOf after q) askingAll (n-low stateField (omega arith) ∙ state))
+      (both (uses (stateOf after q) (maskOf after q) i) (isEmpty (contentAt after q i)) (rw (n-low stateField (omega arith), n-low maskField (omega arith)) (used a)) (kind-empty rest q i (gone a))) in
+      let held : holding after i ≡ holding t i = same-holding q t after m i in
+      waiting-kept a row n-moving (λ f h. n-low f (omega arith)) (λ j h e. n-beside j e) more
+      (some-received after q i here (rw (n-here, held) n-between))
+
+  -- all replies are in: the number of log entries received is that of the head's reply, now or before
+  module _ (none : pending rest q ≡ false) where
+    log-received : Between 1 (receivedIn row q coordinator) (entriesOf t)
+    log-received =
+        by-equal i coordinator
+        (λ e.
+        let all : holding t i ≡ entriesOf t = rw (eq-eqb i coordinator e) in
+        rw (sym (ap (receivedIn row q) e) ∙ n-here) (record { least = n-between .least; most = omega (arith, n-between .most) }))
+        (λ d′.
+        let e : coordinator ≡ i → ⊥ = λ z. d′ (sym z) in
+        let empty : kindOn t q coordinator ≡ 0 = sym (beside a coordinator 0 e (omega arith)) ∙ none-pending rest q coordinator (omega arith) (kinds a coordinator (omega arith)) none in
+        let in′ : arrived t q coordinator ≡ true =
+        both (eqb (stateOf t q) askingAll) (uses (stateOf t q) (maskOf t q) coordinator && isEmpty (contentAt t q coordinator)) (eq-eqb (stateOf t q) askingAll state)
+        (both (uses (stateOf t q) (maskOf t q) coordinator) (isEmpty (contentAt t q coordinator)) (rw (state, uses-all (maskOf t q) coordinator) (or-true (hasServer (maskOf t q) coordinator))) (kind-empty (t .links) q coordinator empty)) in
+        rw (n-beside coordinator e) (received-some t q coordinator in′ (facts a .received coordinator (omega arith))))
+
+    abbrev chosen : ℕ
+    chosen = tagChosen row q t
+
+    chosen-within : chosen < entriesOf t
+    chosen-within =
+        let n = receivedIn row q coordinator in
+        let below : chosen < n = last-below (qualifies (t .keys) (t .log) (maskOf t q) (receivedIn row q) (serversOf t)) n (log-received .least) in
+        omega (arith, log-received .most)
+
+    servers-few : serversOf t ≤ 16
+    servers-few = a .sound .scalars .press .servers .most
+
+    -- the row: setpoints stored, the n forgotten, then tag and state
+    abbrev shown : List ℕ
+    shown = turns (picked (hasServer (maskOf t q)) (keepSetpoint (setpointAt chosen row q t) q)) (serversOf t) row
+
+    abbrev forgotten : List ℕ
+    forgotten = turns (forget q) targets shown
+
+    abbrev putsEnd : List Put
+    putsEnd = put tagField chosen ∷ put stateField idle ∷ []
+
+    abbrev endRow : List ℕ
+    endRow = putAll putsEnd q forgotten
+
+    shown-other : (p f : ℕ) → f < clientWidth → ((p ≡ q) × (setpointsField ≤ f) × (f < setpointsField + serversOf t) → ⊥) → clientWord shown p f ≡ clientWord row p f
+    shown-other p f h e = loop-other q setpointsField (serversOf t) (omega (arith, servers-few)) (hasServer (maskOf t q)) (setpointAt chosen row q t) row p f h e
+
+    forgotten-other : (p f : ℕ) → f < clientWidth → ((p ≡ q) × (receivedField ≤ f) × (f < receivedField + targets) → ⊥) → clientWord forgotten p f ≡ clientWord shown p f
+    forgotten-other p f h e = loop-other q receivedField targets (omega arith) (λ j. true) (λ j. 0) shown p f h e
+
+    shown-long : length shown ≡ length (t .clients)
+    shown-long = loop-length q setpointsField (serversOf t) (omega (arith, servers-few)) (hasServer (maskOf t q)) (setpointAt chosen row q t) row ∙ put-length q gotN (t .clients)
+
+    forgotten-long : length forgotten ≡ length (t .clients)
+    forgotten-long = loop-length q receivedField targets (omega arith) (λ j. true) (λ j. 0) shown ∙ shown-long
+
+    end-moving : Moving q endRow rest t
+    end-moving =
+        record {
+          row = λ p f e h. put-elsewhere q putsEnd forgotten p f refl h e ∙ (forgotten-other p f h (λ z. e (z .0)) ∙ (shown-other p f h (λ z. e (z .0)) ∙ n-moving .row p f e h));
+          link = elsewhere a;
+          clients = put-length q putsEnd forgotten ∙ forgotten-long;
+          links = rest-long a;
+        }
+
+    end-word : (g : ℕ) → g < clientWidth → clientWord endRow q g ≡ lastPut putsEnd (clientWord forgotten q g) g
+    end-word g h = put-read q putsEnd forgotten g (clientWord forgotten q g) (rw forgotten-long (row-room a)) refl h refl
+
+    low-word : (g : ℕ) → g < setpointsField → clientWord forgotten q g ≡ clientWord (t .clients) q g
+    low-word g h = forgotten-other q g (omega arith) (λ z. omega (arith, z .1)) ∙ (shown-other q g (omega arith) (λ z. omega (arith, z .1)) ∙ n-low g (omega arith))
+
+    end-received : (j : ℕ) → j < targets → receivedIn endRow q j ≡ 0
+    end-received j h = put-before q putsEnd forgotten setpointsField (receivedField + j) refl (omega arith) ∙ loop-there q receivedField targets (omega arith) (λ x. true) (λ x. 0) shown j (rw shown-long (row-room a)) h refl
+
+    all-ends : Kept q t (endedByC chosen row q rest t .tables)
+    all-ends =
+        let m = finished-moves q chosen endRow rest t (a .sound) (a .client) (a .early) end-moving (rw state) (rw state) chosen-within in
+        let count = end-word countField (omega arith) ∙ low-word countField (omega arith) in
+        ended-read-kept q chosen endRow rest t (a .sound) (a .client) (a .early) end-moving (rw state) (rw state) chosen-within (end-word stateField (omega arith)) count
+        (idle-client _ q (record {
+          state = end-word stateField (omega arith);
+          count = rw count (facts a .count .most);
+          mask = rw (end-word maskField (omega arith) ∙ low-word maskField (omega arith), moves-numbers q t _ m .servers) (facts a .mask);
+          tag = rw (end-word tagField (omega arith), same-entries q t _ m) chosen-within;
+          link = λ j h. none-pending rest q j h (kinds a j h) none;
+          received = end-received;
+        }))
+
+  pub all-delivered : Kept q t (onAll w q i t .tables)
+  unfolding onAll
+  all-delivered = by-test (pending rest q) (λ b. rw b (all-waits b)) (λ b. rw b (all-ends b))
