@@ -20,5 +20,5 @@ pub mod RequestSteps
 pub mod ReplySteps
 pub mod BeginSteps
 pub mod OpeningStep
-pub mod Accepted
+pub mod Numbers
 pub mod Theorem

@@ -3,7 +3,7 @@ use Prim.Native.Nat.{ℕ, zero, suc, _≤_, _<_}
 use mathlib.Core.Path.{_≡_, refl, sym}
 use mathlib.Core.List.{List, [], _∷_}
 use native.Mathlib.Omega.{arith}
-use Rattle.tables.specs.Tables.{Tables, stepOf}
+use Rattle.tables.specs.Tables.{Tables, clientsOf, stepOf}
 use Rattle.rules.specs.Answers.{Left, left, Arrived}
 use Rattle.rules.specs.Open.{opened}
 use Rattle.rules.specs.Begin.{begunWrite, begunRead}
@@ -13,6 +13,10 @@ use Rattle.rules.specs.declared.Answer.{Answer}
 use Rattle.rules.specs.declared.Answer.the-variants.{Ok}
 use Rattle.rules.specs.declared.Arrival.the-variants as arrival
 use Rattle.store.specs.Refusals.{openRefusal, writeRefusal, readRefusal, deliveryRefusal}
+use Rattle.soundness.specs.Facts.{Sound, facts-sound}
+use Rattle.keeping.specs.Accepted.{openable, writable, readable, deliverable, target-below}
+use Rattle.keeping.specs.Opening.{opened-sound}
+use Rattle.keeping.specs.Steps.{open-keeps, beginWrite-sound, beginRead-sound, deliverRequest-sound, deliverReply-sound}
 use Rattle.store.specs.Steps.{unless, unlessArrived, open′, beginWrite, beginRead, deliverRequest, deliverReply}
 use Rattle.serial.specs.Steps.{Step, opening, beginning-write, beginning-read, request, reply, begun-write, begun-read, Played, play, run}
 use Rattle.serial.specs.Steps as event
@@ -27,7 +31,8 @@ use Rattle.serial.proofs.Press.{view}
 use Rattle.serial.proofs.Invariant.{Tied}
 use Rattle.serial.proofs.Kept.{Kept, passed-tied}
 use Rattle.serial.proofs.Budget.{Budget, taken-most}
-use Rattle.serial.proofs.Accepted.{Opens, open-ready, Begins, write-ready, read-ready, delivery-ready, delivery-target, NotEight, open-number, write-number, read-number, delivery-number}
+use Rattle.serial.proofs.Ready.{Ready}
+use Rattle.serial.proofs.Numbers.{NotEight, open-number, write-number, read-number, delivery-number}
 use Rattle.serial.proofs.OpeningStep.{opened-tied, opened-budget}
 use Rattle.serial.proofs.BeginSteps.{write-fair, read-fair}
 use Rattle.serial.proofs.RequestSteps.{FairRequest, request-fair, refused-fair}
@@ -52,39 +57,53 @@ pub record Fair (floor : ℕ → ℕ) (h : History) (x : Played) : Type 0 where
 abbrev after-left : (Answer → event.Event) → Left → Played
 after-left event x = record { event = event (x .answer); tables = x .tables }
 
-module _ (floor : ℕ → ℕ) (t : Tables) (h : History) (tied : Tied floor (view t) h) (budget : Budget (view t)) where
+module _ (floor : ℕ → ℕ) (t : Tables) (h : History) (sound : Sound t) (tied : Tied floor (view t) h) (budget : Budget (view t)) where
+  -- a step that is refused leaves all as before
   abbrev stays : Tied floor (view t) (passed h)
   stays = passed-tied floor (view t) h tied
+
+  ready : (q : ℕ) → q < clientsOf t → Ready t q
+  ready q l = record { sound = sound; client = l }
 
   pub step-fair : (step : Step) → Fair floor h (play step t)
   unfolding open′ beginWrite beginRead deliverRequest deliverReply
   step-fair (opening method k p setpoints) =
       by-refusal (λ x. Fair floor h (after-left (event.opened method k p setpoints) x)) (openRefusal method k p setpoints t) (left Ok (opened method k p setpoints t)) t
       (λ m e. record { kept = (tt, stays); budget = budget; answers = tt; room = rw (← e) (open-number method k p setpoints t) })
-      (λ e. let o = open-ready method k p setpoints t e in
-      record { kept = (tt, opened-tied method k p setpoints t (o .press) (o .long) floor); budget = opened-budget method k p setpoints t (o .press) (o .long); answers = tt; room = λ z. omega arith })
+      (λ e. let o = openable method k p setpoints t e in
+      record { kept = (tt, opened-tied method k p setpoints t o floor); budget = opened-budget method k p setpoints t o; answers = tt; room = λ z. omega arith })
   step-fair (beginning-write q mask setpoints) =
       by-refusal (λ x. Fair floor h (after-left (begun-write q mask setpoints) x)) (writeRefusal q mask setpoints t) (left Ok (begunWrite q mask setpoints t)) t
       (λ m e. record { kept = (tt, stays); budget = budget; answers = tt; room = rw (← e) (write-number t q mask setpoints) })
-      (λ e. let b = write-ready t q mask setpoints e in
-      let f = write-fair floor t h tied budget q (b .0 .ready) (b .0 .rest) mask (b .0 .masked) setpoints (b .1) in
+      (λ e. let a = writable q mask setpoints t e in
+      let b = a .begin in
+      let f = write-fair floor t h tied budget q (ready q (b .client)) (b .free) mask (b .masked) setpoints (a .few) in
       record { kept = f .0; budget = f .1; answers = tt; room = λ z. omega arith })
   step-fair (beginning-read q mask) =
       by-refusal (λ x. Fair floor h (after-left (begun-read q mask) x)) (readRefusal q mask t) (left Ok (begunRead q mask t)) t
       (λ m e. record { kept = (tt, stays); budget = budget; answers = tt; room = rw (← e) (read-number t q mask) })
-      (λ e. let b = read-ready t q mask e in
-      let f = read-fair floor t h tied budget q (b .0 .ready) (b .0 .rest) mask (b .0 .masked) (b .1) in
+      (λ e. let a = readable q mask t e in
+      let b = a .begin in
+      let f = read-fair floor t h tied budget q (ready q (b .client)) (b .free) mask (b .masked) (a .few) in
       record { kept = f .0; budget = f .1; answers = tt; room = λ z. omega arith })
   step-fair (request q i) =
       let f = by-refusal (FairRequest floor h q i) (deliveryRefusal q i t) (requestDelivered q i t) t
-      (λ m e. refused-fair floor t h tied budget q i m (rw (← e) (delivery-number t q i)))
-      (λ e. request-fair floor t h tied budget q (delivery-ready t q i e) i (delivery-target t q i e)) in
+          (λ m e. refused-fair floor t h tied budget q i m (rw (← e) (delivery-number t q i)))
+          (λ e. let a = deliverable q i t e in request-fair floor t h tied budget q (ready q (a .client)) i (target-below q i t sound a)) in
       record { kept = f .kept; budget = f .budget; answers = f .answers; room = f .room }
   step-fair (reply q i) =
       let f = by-refusal-arrived (FairReply floor h q i) (deliveryRefusal q i t) (replyDelivered q i t) t
-      (λ m e. refused-reply floor t h tied budget q i m (rw (← e) (delivery-number t q i)))
-      (λ e. reply-fair floor t h tied budget q (delivery-ready t q i e) i (delivery-target t q i e)) in
+          (λ m e. refused-reply floor t h tied budget q i m (rw (← e) (delivery-number t q i)))
+          (λ e. let a = deliverable q i t e in reply-fair floor t h tied budget q (ready q (a .client)) i (target-below q i t sound a)) in
       record { kept = f .kept; budget = f .budget; answers = tt; room = f .room }
+
+  -- and leaves sound tables
+  pub step-sound : (step : Step) → Sound (play step t .tables)
+  step-sound (opening method k p setpoints) = open-keeps method k p setpoints t sound
+  step-sound (beginning-write q mask setpoints) = beginWrite-sound q mask setpoints t sound
+  step-sound (beginning-read q mask) = beginRead-sound q mask t sound
+  step-sound (request q i) = deliverRequest-sound q i t sound
+  step-sound (reply q i) = deliverReply-sound q i t sound
 
 -- Along a whole list.
 pub record Ran (played : List Played) (h : History) : Type 0 where
@@ -94,19 +113,24 @@ pub record Ran (played : List Played) (h : History) : Type 0 where
   pub answered : Each Answers played
   pub consequences : Consequences played
 
-pub run-ok : (steps : List Step) (tagsAt floor : ℕ → ℕ) (t : Tables) (h : History) → Tied floor (view t) h → Budget (view t) → HistoryOk tagsAt floor h → Ran (run play steps t) (history (run play steps t) h)
-run-ok [] tagsAt floor t h tied budget ok = record { tagsAt = tagsAt; floor = floor; history = ok; answered = tt; consequences = record { room = tt; few = tt } }
-run-ok (step ∷ steps) tagsAt floor t h tied budget ok =
+pub run-ok : (steps : List Step) (tagsAt floor : ℕ → ℕ) (t : Tables) (h : History) → Sound t → Tied floor (view t) h → Budget (view t) → HistoryOk tagsAt floor h → Ran (run play steps t) (history (run play steps t) h)
+run-ok [] tagsAt floor t h sound tied budget ok = record { tagsAt = tagsAt; floor = floor; history = ok; answered = tt; consequences = record { room = tt; few = tt; sound = tt } }
+run-ok (step ∷ steps) tagsAt floor t h sound tied budget ok =
     let x = play step t in
-    let fair = step-fair floor t h tied budget step in
+    let fair = step-fair floor t h sound tied budget step in
+    let kept = step-sound floor t h sound tied budget step in
     let next = after-ok tagsAt floor h ok (x .event) (fair .kept .0) in
-    let rest = run-ok steps (next .0) (floorAfter (x .event) h floor) (x .tables) (after (x .event) h) (fair .kept .1) (fair .budget) (next .1) in
+    let rest = run-ok steps (next .0) (floorAfter (x .event) h floor) (x .tables) (after (x .event) h) kept (fair .kept .1) (fair .budget) (next .1) in
     record {
       tagsAt = rest .tagsAt;
       floor = rest .floor;
       history = rest .history;
       answered = (fair .answers, rest .answered);
-      consequences = record { room = (fair .room, rest .consequences .room); few = (taken-most (view (x .tables)) (fair .budget), rest .consequences .few) };
+      consequences = record {
+        room = (fair .room, rest .consequences .room);
+        few = (taken-most (view (x .tables)) (fair .budget), rest .consequences .few);
+        sound = (facts-sound (x .tables) kept, rest .consequences .sound);
+      };
     }
 
 -- an accepted opening was stopped by no number
@@ -120,9 +144,9 @@ module _ (method k p : ℕ) (setpoints : List ℕ) (t : Tables) (steps : List St
 
   opened-ran : openRefusal method k p setpoints t ≡ 0 → Ran (from (opened method k p setpoints t)) (history (from (opened method k p setpoints t)) (openedWith method setpoints))
   opened-ran e =
-      let o = open-ready method k p setpoints t e in
-      run-ok steps (λ c. 0) (λ q. 0) (opened method k p setpoints t) (openedWith method setpoints) (opened-tied method k p setpoints t (o .press) (o .long) (λ q. 0))
-      (opened-budget method k p setpoints t (o .press) (o .long)) (fresh-ok (λ q. 0) _ _)
+      let o = openable method k p setpoints t e in
+      run-ok steps (λ c. 0) (λ q. 0) (opened method k p setpoints t) (openedWith method setpoints)
+      (opened-sound method k p setpoints t e) (opened-tied method k p setpoints t o (λ q. 0)) (opened-budget method k p setpoints t o) (fresh-ok (λ q. 0) _ _)
 
   pub ran : open′ method k p setpoints t .answer ≡ Ok → Ran (from (open′ method k p setpoints t .tables)) (history (from (open′ method k p setpoints t .tables)) (openedWith method setpoints))
   unfolding open′

@@ -1,12 +1,14 @@
 -- What follows beside demand 3 for the same lists of steps.
 use Prim.Native.Nat.{ℕ, zero, suc, _≤_}
 use mathlib.Core.Path.{_≡_}
+use mathlib.Core.Bool.{true}
 use mathlib.Core.List.{List}
 use Rattle.tables.specs.Tables.{stepOf}
 use Rattle.rules.specs.declared.Answer.{Answer}
 use Rattle.rules.specs.declared.Answer.the-variants as answer
 use Rattle.rules.specs.declared.Arrival.{Arrival}
 use Rattle.rules.specs.declared.Arrival.the-variants as arrival
+use Rattle.soundness.specs.Sound.{sound}
 use Rattle.serial.specs.Steps.{Event, opened, begun-write, begun-read, requested, replied, Played}
 use Rattle.serial.specs.Row.{Each}
 
@@ -34,3 +36,5 @@ pub record Consequences (played : List Played) : Type 0 where
   pub room : Each (λ x. number (x .event) ≡ 8 → ⊥) played
   -- "The opening is step 1; each accepted step adds 1": 255 WRITEs and 255 READs of at most 35 steps each, and the opening
   pub few : Each (λ x. stepOf (x .tables) ≤ 17851) played
+  -- the tables are sound after every step, so that number 2 never arises either
+  pub sound : Each (λ x. sound (x .tables) ≡ true) played
