@@ -1,86 +1,63 @@
 -- Begins, on the tables.
-use Prim.Native.Nat.{ℕ, zero, suc, _+_, _-_, _*_, _≤_, _<_}
+use Prim.Native.Nat.{ℕ, suc, _+_, _≤_, _<_}
 use mathlib.Core.Path.{_≡_, refl, sym, ap, _∙_, subst}
-use mathlib.Core.Bool.{Bool, true, false, cond}
-use mathlib.Core.List.{List}
+use mathlib.Core.Bool.{true, false}
+use mathlib.Core.List.{List, [], _∷_}
 use native.Mathlib.Omega.{arith}
 use native.Mathlib.Numerals.{add-one}
 use lib.ListN.{getD, set, length, length-set}
 use lib.Dec.{eqb, ltb}
 use borrow.Author.Tests.{ltb-true, ltb-false}
-use Rattle.ranges.specs.Tests.{by-equal, by-test, not-both}
+use Rattle.ranges.specs.Tests.{by-test, not-both}
 use Rattle.ranges.specs.Sum.{one, sum-part, one-true}
 use Rattle.keys.specs.Keys.{keyOf, opening, FitsByte, at-word-fits}
 use Rattle.keys.specs.Masks.{hasServer, serversIn, Within, no-server, some-server}
 use Rattle.coordinator.specs.Latest.{latestKey}
-use Rattle.tables.specs.Rows.{HasRow, word-same, word-other, word-length}
-use Rattle.tables.specs.Layout.{clientWidth, clientWord, putClientWord, stateField, countField, maskField, tagField, recordField, setpointsField, stepField, writesField, readsField, recordPlaces, countAt, countWords}
-use Rattle.tables.specs.Links.{targets, linkWidth, linkRow, linkAt, putLink, link-length}
-use Rattle.tables.specs.Tables.{Tables, tablesOf, methodOf, serversOf, clientsOf, stepOf, entriesOf, writesOf, readsOf, stateOf, countOf, contentAt}
+use Rattle.tables.specs.Rows.{HasRow, word-same, word-other}
+use Rattle.tables.specs.Layout.{clientWidth, clientWord, putClientWord, stateField, countField, maskField, tagField, recordField, setpointsField, writesField, readsField, recordPlaces, countWords}
+use Rattle.tables.specs.Links.{targets, linkAt}
+use Rattle.tables.specs.Tables.{Tables, methodOf, serversOf, clientsOf, stepOf, writesOf, readsOf, stateOf, countOf}
 use Rattle.tables.specs.declared.links.Content.{Content}
-use Rattle.tables.specs.declared.links.Content.the-variants.{Nothing, Request, Reply}
-use Rattle.rules.specs.Answers.{Left, left}
-use Rattle.rules.specs.Common.{idle, askingKeys, askingSetpoints, askingAll, coordinator, request, begunCounts, begunRecords, startedClient}
+use Rattle.tables.specs.declared.links.Content.the-variants.{Nothing}
+use Rattle.rules.specs.Answers.{left}
+use Rattle.rules.specs.Common.{idle, askingKeys, askingSetpoints, askingAll, coordinator, request, begunCounts, startedClient}
 use Rattle.rules.specs.Common as rules
-use Rattle.rules.specs.Begin.{storedSetpoints, sentSets, nextCount, begunWrite, sentGets, sendAsk, sentAsks, Asking, asking, lastTag, askingByA, askingByB, askingByC, askingBy, begunReadWith, begunRead}
-use Rattle.rules.specs.declared.Answer.the-variants.{Ok, Refused}
-use Rattle.soundness.specs.Facts.{Sound}
+use Rattle.rules.specs.Begin.{storedSetpoints, nextCount, begunWrite, sentGets, sendAsk, sentAsks, asking, lastTag, askingByA, askingByB, askingByC, begunReadWith, begunRead}
+use Rattle.rules.specs.declared.Answer.the-variants.{Ok}
+use Rattle.keeping.specs.Rows.{Put, put, putAll, put-read, put-elsewhere, put-length, loop-other}
+use Rattle.keeping.specs.Rounds.{sent-length}
 use Rattle.serial.specs.Steps.{Event, begun-write, begun-read}
 use Rattle.serial.specs.History.{changed, History, extraOf}
-use Rattle.serial.proofs.Places.{changed-same, changed-other}
-use Rattle.serial.proofs.Press.{Shared, renumbered, Client, clientOf, Press, pressOf, stateIn, countIn, rowOf, linksOf, sharedOf, view, sends, World, world}
-use Rattle.serial.proofs.View.{within-at, row-put-other, link-put, link-put-other, view-is, sharedIn, shared-step, shared-writes, shared-reads}
-use Rattle.serial.proofs.Loops.{HasLinks, sent-links, sent-others, sent-length, stored-others, stored-word}
+use Rattle.serial.proofs.Press.{Shared, renumbered, Client, clientOf, Press, pressOf, stateIn, countIn, rowOf, linksOf, sharedOf, view, sends, world}
+use Rattle.serial.proofs.View.{within-at, within-same, row-put-other, link-put, link-put-other, view-is, sharedIn, shared-step, shared-writes, shared-reads}
+use Rattle.serial.proofs.Loops.{HasLinks, sent-links, sent-others, loop-rows}
 use Rattle.serial.proofs.Ready.{Ready, few, in-range, has-row, has-link, row-at, link-at}
-use Rattle.serial.proofs.Invariant.{Idle, ClientOk, Tied}
+use Rattle.serial.proofs.Invariant.{Idle, Tied}
 use Rattle.serial.proofs.Kept.{Kept, resting}
 use Rattle.serial.proofs.Links.{come-changed, come-none, sends-come}
 use Rattle.serial.proofs.Budget.{Budget, no-rest, few-servers}
 use Rattle.serial.proofs.Spending.{write-budget, read-budget}
 use Rattle.serial.proofs.Begins.{write-kept, read-a-kept, read-b-kept, read-c-kept}
 
--- a begin's state, mask and place of its record
+-- a begin's state, mask and place of its record, as words put one behind the other
 module _ (state mask place q : ℕ) (clients : List ℕ) (has : HasRow clientWidth clients q) where
-  abbrev first : List ℕ
-  first = putClientWord clients q stateField state
+  abbrev puts : List Put
+  puts = put stateField state ∷ put maskField mask ∷ put recordField place ∷ []
 
-  abbrev second : List ℕ
-  second = putClientWord first q maskField mask
+  started-has : HasRow clientWidth (startedClient state mask place q clients) q
+  started-has = rw (put-length q puts clients) has
 
-  abbrev started : List ℕ
-  started = startedClient state mask place q clients
+  started-others : (r : ℕ) → (r ≡ q → ⊥) → rowOf (startedClient state mask place q clients) r ≡ rowOf clients r
+  started-others r d = within-same clientWidth 0 (clientWord (putAll puts q clients) r) (clientWord clients r) (λ g l. put-elsewhere q puts clients r g refl l d)
 
-  first-has : HasRow clientWidth first q
-  first-has = rw (word-length clientWidth clients q stateField state) has
+  started-state : clientWord (startedClient state mask place q clients) q stateField ≡ state
+  started-state = put-read q puts clients stateField _ has refl (omega arith) refl
 
-  second-has : HasRow clientWidth second q
-  second-has = rw (word-length clientWidth first q maskField mask) first-has
+  started-mask : clientWord (startedClient state mask place q clients) q maskField ≡ mask
+  started-mask = put-read q puts clients maskField _ has refl (omega arith) refl
 
-  started-has : HasRow clientWidth started q
-  started-has = rw (word-length clientWidth second q recordField place) second-has
-
-  started-others : (r : ℕ) → (r ≡ q → ⊥) → rowOf started r ≡ rowOf clients r
-  started-others r d =
-      row-put-other second q recordField place (omega arith) r d
-      ∙ row-put-other first q maskField mask (omega arith) r d
-      ∙ row-put-other clients q stateField state (omega arith) r d
-
-  started-state : clientWord started q stateField ≡ state
-  started-state =
-      word-other clientWidth second q recordField place q stateField (omega arith) (omega arith) (λ e. omega (arith, e .1))
-      ∙ word-other clientWidth first q maskField mask q stateField (omega arith) (omega arith) (λ e. omega (arith, e .1))
-      ∙ word-same clientWidth clients q stateField state has (omega arith)
-
-  started-mask : clientWord started q maskField ≡ mask
-  started-mask =
-      word-other clientWidth second q recordField place q maskField (omega arith) (omega arith) (λ e. omega (arith, e .1))
-      ∙ word-same clientWidth first q maskField mask first-has (omega arith)
-
-  started-count : clientWord started q countField ≡ clientWord clients q countField
-  started-count =
-      word-other clientWidth second q recordField place q countField (omega arith) (omega arith) (λ e. omega (arith, e .1))
-      ∙ word-other clientWidth first q maskField mask q countField (omega arith) (omega arith) (λ e. omega (arith, e .1))
-      ∙ word-other clientWidth clients q stateField state q countField (omega arith) (omega arith) (λ e. omega (arith, e .1))
+  started-count : clientWord (startedClient state mask place q clients) q countField ≡ clientWord clients q countField
+  started-count = put-read q puts clients countField _ has refl (omega arith) refl
 
 -- a mask that is accepted has servers, all of them below k
 pub mask-bound : (mask k : ℕ) → Within mask k → (i : ℕ) → hasServer mask i ≡ true → i < k
@@ -160,7 +137,7 @@ module _ (floor : ℕ → ℕ) (t : Tables) (h : History) (tied : Tied floor (vi
     begun-word : (f : ℕ) → f < setpointsField → rowOf clients′ q f ≡ clientWord begunClients q f
     begun-word f l =
         within-at clientWidth 0 (clientWord clients′ q) f (omega arith)
-        ∙ stored-word q setpointsField value (λ i. true) (serversOf t) room begunClients f (omega arith) (λ i m e. omega arith)
+        ∙ loop-other q setpointsField (serversOf t) room (λ i. true) value begunClients q f (omega arith) (λ e. omega (arith, e .1))
 
     other-word : (f : ℕ) → f < setpointsField → (f ≡ countField → ⊥) → rowOf clients′ q f ≡ clientWord (startedClient rules.writing mask (writesOf t) q (t .clients)) q f
     other-word f l d = begun-word f l ∙ word-other clientWidth (startedClient rules.writing mask (writesOf t) q (t .clients)) q countField (nextCount t q) q f (omega arith) (omega arith) (λ e. d (e .1))
@@ -188,7 +165,7 @@ module _ (floor : ℕ → ℕ) (t : Tables) (h : History) (tied : Tied floor (vi
     seen =
         view-is t (begunWrite q mask setpoints t) q writes-shared refl
         (sent-links q (sets (nextCount t q)) fits mask (serversOf t) small bound (t .links) long empty ∙ ap (λ (n : ℕ). sends mask (sets n)) next-count)
-        (λ r d. stored-others q setpointsField value (λ i. true) (serversOf t) room begunClients r d
+        (λ r d. loop-rows q setpointsField (serversOf t) room (λ i. true) value begunClients r d
         ∙ row-put-other (startedClient rules.writing mask (writesOf t) q (t .clients)) q countField (nextCount t q) (omega arith) r d
         ∙ started-others rules.writing mask (writesOf t) q (t .clients) (has-row t q ready) r d)
         (λ r d. sent-others q (sets (nextCount t q)) fits mask (serversOf t) small bound (t .links) long empty r d)
@@ -296,7 +273,7 @@ module _ (floor : ℕ → ℕ) (t : Tables) (h : History) (tied : Tied floor (vi
   c-fair free extra =
       read-left (with-state askingAll) (sendAsk q coordinator sent)
       (started-others askingAll mask (readsOf t) q (t .clients) (has-row t q ready))
-      (link-put sent q coordinator ask (omega arith) (rw (sent-length q (λ i. ask) (λ i. ask-fits) mask (serversOf t) small bound (t .links) long empty) (has-link t q ready coordinator (omega arith))) ask-fits
+      (link-put sent q coordinator ask (omega arith) (rw (sent-length q (serversOf t) (hasServer mask) (λ i. ask) (t .links) small long) (has-link t q ready coordinator (omega arith))) ask-fits
       ∙ ap (λ (l : ℕ → Content). changed l coordinator ask) (sent-links q (λ i. ask) (λ i. ask-fits) mask (serversOf t) small bound (t .links) long empty))
       (λ r d. link-put-other sent q coordinator ask (omega arith) r d ∙ sent-others q (λ i. ask) (λ i. ask-fits) mask (serversOf t) small bound (t .links) long empty r d)
       (read-c-kept floor (view t) h tied (few t q ready) q (in-range t q ready) resting-state mask bound some-masked (rowOf (with-state askingAll) q)

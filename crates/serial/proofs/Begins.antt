@@ -1,28 +1,26 @@
 -- An accepted begin keeps the tie and pays what it owes.
-use Prim.Native.Nat.{ℕ, zero, suc, _+_, _*_, _≤_, _<_}
-use mathlib.Core.Path.{_≡_, refl, sym, ap, _∙_}
-use mathlib.Core.Bool.{Bool, true, false, cond}
+use Prim.Native.Nat.{ℕ, suc, _+_, _*_, _≤_, _<_}
+use mathlib.Core.Path.{_≡_, refl, ap, _∙_}
+use mathlib.Core.Bool.{true, false}
 use mathlib.Core.Option.{Option, none, some}
 use mathlib.Core.List.{List}
 use native.Mathlib.Omega.{arith}
 use lib.ListN.{getD}
-use Rattle.ranges.specs.Tests.{by-equal, by-test, not-both}
+use Rattle.ranges.specs.Tests.{by-test, not-both}
 use Rattle.keys.specs.Keys.{keyOf, opening}
 use Rattle.keys.specs.Masks.{hasServer, serversIn}
 use Rattle.coordinator.specs.Latest.{latestKey}
 use Rattle.tables.specs.Layout.{stateField, countField, maskField, tagField}
-use Rattle.tables.specs.Links.{targets}
 use Rattle.tables.specs.declared.links.Content.{Content}
-use Rattle.tables.specs.declared.links.Content.the-variants.{Nothing, Request, Reply}
 use Rattle.rules.specs.Common.{idle, askingKeys, askingSetpoints, askingAll, coordinator, request}
 use Rattle.rules.specs.Common as rules
 use Rattle.rules.specs.declared.Answer.the-variants.{Ok}
 use Rattle.serial.specs.Steps.{begun-write, begun-read}
-use Rattle.serial.specs.History.{changed, Doing, nothing, writing, reading, History}
+use Rattle.serial.specs.History.{changed, writing, reading, History}
 use Rattle.serial.proofs.Places.{changed-same, changed-other, changed-all}
-use Rattle.serial.proofs.Press.{renumbered, Client, clientOf, Press, pressOf, stateIn, countIn, maskIn, tagIn, weight, toCome, sends, World, world}
-use Rattle.serial.proofs.Links.{come-changed, come-some, sends-masked, sends-other, sends-come}
-use Rattle.serial.proofs.Invariant.{WriteLink, KeysLink, GetLink, AllLink, Idle, at-writing, at-keys, at-getting, at-all, ClientOk, Tied}
+use Rattle.serial.proofs.Press.{renumbered, Client, clientOf, Press, pressOf, stateIn, countIn, weight, toCome, sends, World, world}
+use Rattle.serial.proofs.Links.{come-changed, sends-masked, sends-other, sends-come}
+use Rattle.serial.proofs.Invariant.{AllLink, Idle, at-writing, at-keys, at-getting, at-all, ClientOk, Tied}
 use Rattle.serial.proofs.Kept.{Kept, begun-tied, resting}
 
 -- The client's new row has the state and the mask of the begin; `row` is any row that has them.

@@ -1,21 +1,19 @@
 -- There is always room: what is stored, entered and taken in steps stays within what the begun transactions pay for.
-use Prim.Native.Nat.{ℕ, zero, suc, _+_, _*_, _≤_, _<_}
-use mathlib.Core.Path.{_≡_, refl, sym, ap, _∙_}
-use mathlib.Core.Bool.{Bool, true, false, cond}
+use Prim.Native.Nat.{ℕ, suc, _+_, _*_, _≤_, _<_}
+use mathlib.Core.Path.{_≡_, ap, _∙_}
+use mathlib.Core.Bool.{cond}
 use native.Mathlib.Omega.{arith}
 use lib.Dec.{eqb}
 use borrow.Author.Tests.{ne-eqb}
-use Rattle.ranges.specs.Tests.{by-equal, by-test}
-use Rattle.ranges.specs.Sum.{sumBelow, sum-set, sum-part, sum-most, count-most}
+use Rattle.ranges.specs.Sum.{sumBelow, sum-set, sum-part, count-most}
 use Rattle.keys.specs.Masks.{hasServer, serversIn}
 use Rattle.tables.specs.Layout.{recordPlaces}
-use Rattle.tables.specs.Links.{targets}
 use Rattle.tables.specs.declared.links.Content.{Content}
 use Rattle.tables.specs.declared.links.Content.the-variants.{Nothing, Request, Reply}
-use Rattle.rules.specs.Common.{idle, writing, entering, askingKeys, coordinator}
+use Rattle.rules.specs.Common.{writing, entering, askingKeys, coordinator}
 use Rattle.serial.specs.History.{changed}
 use Rattle.serial.proofs.Places.{changed-same, changed-other}
-use Rattle.serial.proofs.Press.{Shared, Client, Press, pressOf, stateIn, maskIn, weight, toCome}
+use Rattle.serial.proofs.Press.{Shared, Client, Press, pressOf, stateIn, maskIn, toCome}
 
 abbrev pub asks : Content → ℕ
 asks Nothing = 0

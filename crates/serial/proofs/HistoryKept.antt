@@ -1,26 +1,22 @@
 -- A step that pays what it owes keeps what is true of a history.
-use Prim.Native.Nat.{ℕ, zero, suc, _+_, _≤_, _<_}
+use Prim.Native.Nat.{ℕ, zero, suc, _≤_, _<_}
 use mathlib.Core.Path.{_≡_, refl, sym, ap, _∙_}
 use mathlib.Core.Bool.{Bool, true, false, cond, false≢true}
-use mathlib.Core.Option.{Option, none, some, Option·none-ne-some, Option·some-injective}
-use mathlib.Core.List.{List, [], _∷_, _++_}
+use mathlib.Core.Option.{none, some, Option·none-ne-some, Option·some-injective}
+use mathlib.Core.List.{List, [], _∷_}
 use native.Mathlib.Omega.{arith}
 use lib.ListN.{getD}
-use lib.Dec.{eqb}
-use Rattle.ranges.specs.Tests.{by-equal, by-test}
-use Rattle.keys.specs.Masks.{hasServer}
-use Rattle.rules.specs.Common.{coordinator}
-use Rattle.rules.specs.declared.Answer.{Answer}
+use Rattle.ranges.specs.Tests.{by-equal}
 use Rattle.rules.specs.declared.Answer.the-variants.{Ok, Refused}
 use Rattle.rules.specs.declared.Arrival.{Arrival}
 use Rattle.rules.specs.declared.Arrival.the-variants as arrival
 use Rattle.serial.specs.Steps.{Event, opened, begun-write, begun-read, requested, replied}
-use Rattle.serial.specs.History.{changed, Transaction, Doing, nothing, writing, tagged, reading, History, historyOf, passed, turned, begun, delivered, writeOf, given, entered, ended, wrote, readOf, showed, arrived, fresh, extraOf, openedWith, atHead, after}
+use Rattle.serial.specs.History.{changed, Transaction, Doing, nothing, writing, tagged, reading, History, historyOf, passed, turned, begun, delivered, writeOf, given, entered, ended, wrote, readOf, showed, arrived, fresh, extraOf, atHead, after}
 use Rattle.serial.specs.Row.{Each}
-use Rattle.serial.specs.Claim.{enough, EndsAt, Unfinished}
+use Rattle.serial.specs.Claim.{EndsAt, Unfinished}
 use Rattle.serial.proofs.Places.{changed-same, changed-other, changed-all, changed-both}
 use Rattle.serial.proofs.Lists.{each-append, each-map, pairs-append}
-use Rattle.serial.proofs.Owed.{valueAt, valueIn, More, OwedRead, OwedArrival, Owed, floorAfter}
+use Rattle.serial.proofs.Owed.{valueAt, More, OwedRead, OwedArrival, Owed, floorAfter}
 use Rattle.serial.proofs.HistoryOk.{Timed, Rising, DoingOk, Later, Shown, WriteOk, HistoryOk}
 
 -- Values behind a tag go by masks and setpoints of the WRITEs up to it.

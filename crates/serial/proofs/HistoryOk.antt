@@ -1,18 +1,18 @@
 -- What is true of every history whose steps paid what they owed, and that the claim follows from it.
-use Prim.Native.Nat.{ℕ, zero, suc, _+_, _≤_, _<_}
-use mathlib.Core.Path.{_≡_, refl, sym, ap, _∙_, fun-ext}
-use mathlib.Core.Bool.{Bool, true, false, cond, true≢false}
-use mathlib.Core.Option.{Option, none, some}
+use Prim.Native.Nat.{ℕ, zero, suc, _≤_, _<_}
+use mathlib.Core.Path.{_≡_, refl, ap, _∙_, fun-ext}
+use mathlib.Core.Bool.{true, false}
+use mathlib.Core.Option.{some}
 use mathlib.Core.List.{List, [], _∷_, _++_}
 use native.Mathlib.Omega.{arith}
-use lib.ListN.{length, getD}
-use lib.Dec.{eqb, leb, ltb}
+use lib.ListN.{getD}
+use lib.Dec.{leb, ltb}
 use borrow.Author.Tests.{leb-true, leb-false, ltb-true, ltb-false}
 use Rattle.ranges.specs.Tests.{by-equal, by-test, not-both}
 use Rattle.keys.specs.Masks.{hasServer}
 use Rattle.serial.specs.Steps.{Played}
 use Rattle.serial.specs.History.{Transaction, noWrite, Doing, nothing, writing, tagged, reading, History}
-use Rattle.serial.specs.Row.{Each, readsOf, rowTo, row, walked, Shows, Walk, at, RealTime}
+use Rattle.serial.specs.Row.{Each, readsOf, rowTo, row, walked, Walk, at, RealTime}
 use Rattle.serial.specs.Claim.{EndsAt, Unfinished, Answers, Claim}
 use Rattle.serial.proofs.Lists.{Pairs, each-append, each-map, each-at, pairs-append, pairs-map, pairs-at, OfTag, reads-each, reads-only, reads-pairs}
 use Rattle.serial.proofs.Owed.{valueAt, valueIn}

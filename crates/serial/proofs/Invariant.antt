@@ -1,8 +1,8 @@
 -- What ties the tables to the history, by client, and what another client's step leaves of it.
-use Prim.Native.Nat.{ℕ, zero, suc, _+_, _*_, _≤_, _<_}
-use mathlib.Core.Path.{_≡_, refl, sym, ap, _∙_}
-use mathlib.Core.Bool.{Bool, true, false, cond}
-use mathlib.Core.Option.{Option, none, some}
+use Prim.Native.Nat.{ℕ, suc, _+_, _≤_, _<_}
+use mathlib.Core.Path.{_≡_, sym, _∙_}
+use mathlib.Core.Bool.{true}
+use mathlib.Core.Option.{none, some}
 use mathlib.Core.List.{List}
 use native.Mathlib.Omega.{arith}
 use lib.ListN.{getD}
@@ -11,14 +11,13 @@ use Rattle.keys.specs.Keys.{keyOf}
 use Rattle.keys.specs.Masks.{hasServer, serversIn}
 use Rattle.tables.specs.Layout.{serverPlaces}
 use Rattle.tables.specs.Links.{targets}
-use Rattle.tables.specs.declared.links.Contents.{Contents}
 use Rattle.tables.specs.declared.links.Content.{Content}
 use Rattle.tables.specs.declared.links.Content.the-variants.{Nothing, Request, Reply}
 use Rattle.rules.specs.Common.{idle, entering, askingKeys, askingSetpoints, askingAll, coordinator}
 use Rattle.rules.specs.Common as rules
 use Rattle.serial.specs.History.{Doing, nothing, writing, tagged, reading, History, extraOf}
 use Rattle.serial.specs.Claim.{enough}
-use Rattle.serial.proofs.Press.{Shared, Client, Press, stateIn, countIn, maskIn, tagIn, setpointIn, receivedIn, toCome, World, world}
+use Rattle.serial.proofs.Press.{Client, Press, stateIn, countIn, maskIn, tagIn, setpointIn, receivedIn, toCome, World, world}
 
 module _ (extra : ℕ) (x : World) (floor q : ℕ) (c : Client) (doing : Doing) where
   -- the key of the client's WRITE

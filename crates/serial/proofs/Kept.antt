@@ -1,12 +1,10 @@
 -- A step keeps the tie between tables and history, and pays what it owes. What every step shares.
-use Prim.Native.Nat.{ℕ, zero, suc, _+_, _*_, _≤_, _<_}
-use mathlib.Core.Path.{_≡_, refl, sym, ap, _∙_}
-use mathlib.Core.Bool.{Bool, true, false, cond}
+use Prim.Native.Nat.{ℕ, _<_}
+use mathlib.Core.Path.{_≡_}
 use native.Mathlib.Omega.{arith}
 use Rattle.rules.specs.Common.{idle}
 use Rattle.serial.specs.Steps.{Event}
-use Rattle.serial.specs.History.{changed, Doing, nothing, History, passed, turned, after}
-use Rattle.tables.specs.Links.{targets}
+use Rattle.serial.specs.History.{changed, Doing, History, passed, turned, after}
 use Rattle.serial.proofs.Places.{changed-all, changed-both, changed-three}
 use Rattle.serial.proofs.Owed.{Owed, floorAfter}
 use Rattle.serial.proofs.Press.{renumbered, Client, Press, pressOf, stateIn, World, world}

@@ -1,17 +1,17 @@
 -- What the links of a client have still to bring, as they change.
-use Prim.Native.Nat.{ℕ, zero, suc, _+_, _*_, _≤_, _<_}
-use mathlib.Core.Path.{_≡_, refl, sym, ap, _∙_}
-use mathlib.Core.Bool.{Bool, true, false, cond}
+use Prim.Native.Nat.{ℕ, zero, suc, _+_, _*_, _<_}
+use mathlib.Core.Path.{_≡_, refl, ap, _∙_}
+use mathlib.Core.Bool.{true, false}
 use native.Mathlib.Omega.{arith}
-use Rattle.ranges.specs.Tests.{by-test, not-both}
-use Rattle.ranges.specs.Sum.{sumBelow, one, countBelow, sum-more, sum-none, sum-same, sum-set, sum-part, sum-most, sum-zero, one-true, one-false}
+use Rattle.ranges.specs.Tests.{by-test}
+use Rattle.ranges.specs.Sum.{sumBelow, countBelow, sum-more, sum-set, sum-part, sum-most, sum-zero}
 use Rattle.keys.specs.Masks.{hasServer, serversIn}
 use Rattle.tables.specs.Links.{targets}
 use Rattle.tables.specs.declared.links.Content.{Content}
 use Rattle.tables.specs.declared.links.Content.the-variants.{Nothing, Request, Reply}
 use Rattle.rules.specs.Common.{coordinator}
 use Rattle.serial.specs.History.{changed}
-use Rattle.serial.proofs.Places.{changed-same, changed-other, changed-all}
+use Rattle.serial.proofs.Places.{changed-same, changed-other}
 use Rattle.serial.proofs.Press.{weight, toCome, sends}
 
 -- one link changed

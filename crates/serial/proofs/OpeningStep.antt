@@ -1,34 +1,29 @@
 -- An accepted opening ties its tables to a history in which nothing has happened yet.
-use Prim.Native.Nat.{ℕ, zero, suc, _+_, _*_, _≤_, _<_}
-use mathlib.Core.Path.{_≡_, refl, sym, ap, _∙_}
-use mathlib.Core.Bool.{Bool, true, false, cond, not, _&&_}
-use mathlib.Core.Option.{Option, none, some}
+use Prim.Native.Nat.{ℕ, _+_, _*_, _≤_, _<_}
+use mathlib.Core.Path.{_≡_, refl, ap, _∙_}
+use mathlib.Core.Option.{some}
 use mathlib.Core.List.{List, [], _∷_}
-use native.Mathlib.Nat.{zero-add}
 use native.Mathlib.Omega.{arith}
-use lib.ListN.{getD, set, length, length-set, replicate, length-replicate, getD-replicate, List·getD-eq-default}
-use lib.Seq.{getD-set-same, getD-set-other, sets, length-sets}
-use lib.Dec.{eqb, ltb}
+use lib.ListN.{getD, length, length-replicate, getD-replicate, List·getD-eq-default}
+use lib.Seq.{getD-set-other, sets}
+use lib.Dec.{ltb}
 use borrow.Author.Tests.{ltb-true, ltb-false, eq-eqb, eqb-true}
-use Rattle.ranges.specs.Tests.{by-equal, by-test, both-left}
+use Rattle.ranges.specs.Tests.{by-test}
 use Rattle.ranges.specs.Sum.{sumBelow, sum-most}
-use Rattle.ranges.specs.Turns.{turns, turns-keep}
-use Rattle.ranges.specs.Picked.{is-picked, not-reached}
-use Rattle.keys.specs.Keys.{keyOf, keyWord, keyAtWord, opening}
+use Rattle.keys.specs.Keys.{keyOf, keyAtWord, opening}
 use Rattle.coordinator.specs.Latest.{latestKey, latestTag}
 use Rattle.coordinator.specs.LatestLaws.{latest-within}
-use Rattle.tables.specs.Rows.{HasRow, word-same, word-other, word-length, sets-at, sets-behind}
-use Rattle.tables.specs.Layout.{countAt, countWords, clientWidth, clientWord, heldField, serverPlaces, versionWord, entryWidth, entryKey}
-use Rattle.tables.specs.Entries.{entry-key-same}
-use Rattle.tables.specs.Links.{targets, linkWidth, linkRow, linkAt}
+use Rattle.tables.specs.Rows.{sets-behind}
+use Rattle.tables.specs.Layout.{clientWidth, clientWord, heldField, versionWord, entryKey}
+use Rattle.tables.specs.Links.{targets, linkAt}
 use Rattle.tables.specs.Tables.{Tables, heldOf}
 use Rattle.tables.specs.declared.links.Content.the-variants.{Nothing}
 use Rattle.rules.specs.Common.{idle}
-use Rattle.rules.specs.Open.{cleared, holdOne, openedCounts, openKey, openValue, allServers, opened}
+use Rattle.rules.specs.Open.{cleared, holdOne, opened}
 use Rattle.keeping.specs.Accepted.{Openable}
 use Rattle.keeping.specs.Rows.{turns-keep-below}
 use Rattle.keeping.specs.Opening.{Opened, opened-words}
-use Rattle.serial.specs.History.{History, extraOf, openedWith}
+use Rattle.serial.specs.History.{openedWith}
 use Rattle.serial.proofs.Owed.{valueAt}
 use Rattle.serial.proofs.Versions.{find, is-found, found-is}
 use Rattle.serial.proofs.Press.{Client, stateIn, view}

@@ -1,16 +1,15 @@
 -- What a step that no refusal stops finds: sound tables, a client and its row and links.
-use Prim.Native.Nat.{ℕ, zero, suc, _+_, _*_, _≤_, _<_}
-use mathlib.Core.Path.{_≡_, refl, sym, ap, _∙_}
-use mathlib.Core.List.{List}
+use Prim.Native.Nat.{ℕ, _≤_, _<_}
+use mathlib.Core.Path.{_≡_, ap}
 use native.Mathlib.Omega.{arith}
 use Rattle.tables.specs.Rows.{HasRow}
 use Rattle.tables.specs.Layout.{clientWidth, clientWord, serverPlaces}
 use Rattle.tables.specs.Links.{targets, linkWidth, linkRow}
 use Rattle.tables.specs.Tables.{Tables, serversOf, clientsOf, contentAt}
 use Rattle.tables.specs.declared.links.Content.{Content}
-use Rattle.tables.specs.declared.links.Content.the-variants.{Nothing, Request, Reply}
+use Rattle.tables.specs.declared.links.Content.the-variants.{Nothing}
 use Rattle.soundness.specs.Facts.{Sound}
-use Rattle.serial.proofs.Press.{Client, weight, view}
+use Rattle.serial.proofs.Press.{weight, view}
 use Rattle.serial.proofs.View.{within-at}
 
 pub record Ready (t : Tables) (q : ℕ) : Type 0 where

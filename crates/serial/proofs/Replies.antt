@@ -1,16 +1,15 @@
 -- The delivery of a reply keeps the tie and pays what it owes.
-use Prim.Native.Nat.{ℕ, zero, suc, _+_, _-_, _*_, _≤_, _<_}
+use Prim.Native.Nat.{ℕ, suc, _+_, _-_, _*_, _≤_, _<_}
 use mathlib.Core.Path.{_≡_, refl, sym, ap, _∙_}
 use mathlib.Core.Bool.{Bool, true, false, cond}
-use mathlib.Core.Option.{Option, none, some, Option·some-injective}
+use mathlib.Core.Option.{some, Option·some-injective}
 use mathlib.Core.List.{List}
 use native.Mathlib.Omega.{arith}
 use lib.ListN.{getD}
-use lib.Dec.{eqb, ltb}
 use borrow.Author.Tests.{lt-ltb, ltb-true}
-use Rattle.ranges.specs.Tests.{by-equal, by-test, not-both}
-use Rattle.ranges.specs.All.{allBelow, all-of, all-at}
-use Rattle.ranges.specs.Last.{lastBelow, last-below, last-passes, last-most}
+use Rattle.ranges.specs.Tests.{by-test, not-both}
+use Rattle.ranges.specs.All.{all-of, all-at}
+use Rattle.ranges.specs.Last.{last-below, last-passes, last-most}
 use Rattle.keys.specs.Keys.{keyOf}
 use Rattle.keys.specs.Masks.{hasServer, serversIn}
 use Rattle.coordinator.specs.Latest.{latestKey}
@@ -20,19 +19,18 @@ use Rattle.tables.specs.declared.links.Contents.{Contents}
 use Rattle.tables.specs.declared.links.Content.{Content}
 use Rattle.tables.specs.declared.links.Content.the-variants.{Nothing, Request, Reply}
 use Rattle.rules.specs.Answers.{nothingShown}
-use Rattle.rules.specs.Common.{idle, entering, askingKeys, askingSetpoints, askingAll, coordinator, request}
+use Rattle.rules.specs.Common.{idle, entering, askingSetpoints, askingAll, coordinator, request}
 use Rattle.rules.specs.Common as rules
 use Rattle.rules.specs.Choice.{versionAt, hasVersion, qualifies, chosenTag}
 use Rattle.rules.specs.declared.Arrival.the-variants as arrival
 use Rattle.serial.specs.Steps.{replied}
-use Rattle.serial.specs.History.{changed, Doing, nothing, writing, tagged, reading, History, ended, after}
-use Rattle.serial.specs.Claim.{enough}
+use Rattle.serial.specs.History.{changed, Doing, nothing, writing, tagged, reading, History, ended}
 use Rattle.serial.proofs.Places.{changed-same, changed-other, changed-all, changed-both}
-use Rattle.serial.proofs.Owed.{valueAt, valueIn}
+use Rattle.serial.proofs.Owed.{valueAt}
 use Rattle.serial.proofs.HistoryKept.{value-ended}
 use Rattle.serial.proofs.Versions.{found-place, place-found, found-more}
 use Rattle.serial.proofs.Press.{Shared, renumbered, Client, clientOf, Press, pressOf, stateIn, countIn, maskIn, tagIn, setpointIn, receivedIn, weight, toCome, sends, World, worldOf, world}
-use Rattle.serial.proofs.Links.{come-changed, come-some, all-empty, sends-masked, sends-other, sends-come}
+use Rattle.serial.proofs.Links.{come-changed, all-empty, sends-masked, sends-other, sends-come}
 use Rattle.serial.proofs.Invariant.{Holds, WriteLink, Writing, Entering, AskingKeys, GetLink, Getting, Snapshot, AllLink, AskingAll, at-rest, at-writing, at-entering, at-getting, at-all, ClientOk, Tied, Grown, client-frame}
 use Rattle.serial.proofs.Kept.{Kept, turned-tied, moved-tied}
 use Rattle.serial.proofs.Requests.{withLink}

@@ -1,12 +1,11 @@
 -- The delivery of a reply, on the tables.
-use Prim.Native.Nat.{ℕ, zero, suc, _+_, _-_, _*_, _≤_, _<_}
+use Prim.Native.Nat.{ℕ, _+_, _-_, _≤_, _<_}
 use mathlib.Core.Path.{_≡_, refl, sym, ap, ap₂, _∙_, subst}
-use mathlib.Core.Bool.{Bool, true, false, cond}
+use mathlib.Core.Bool.{true, false}
 use mathlib.Core.List.{List}
 use native.Mathlib.Omega.{arith}
-use lib.ListN.{getD, set, length, length-set, replicate}
+use lib.ListN.{getD, length, length-set, replicate}
 use lib.Seq.{getD-set-same, getD-set-other}
-use lib.Dec.{eqb, ltb}
 use Rattle.ranges.specs.Tests.{by-equal, by-test}
 use Rattle.ranges.specs.Turns.{turns}
 use Rattle.ranges.specs.Picked.{picked, is-picked}
@@ -14,9 +13,9 @@ use Rattle.keys.specs.Keys.{keyOf, FitsByte, at-word-fits}
 use Rattle.keys.specs.Masks.{hasServer}
 use Rattle.coordinator.specs.Latest.{latestKey}
 use Rattle.tables.specs.Rows.{HasRow, word-same, word-other, word-length}
-use Rattle.tables.specs.Layout.{clientWidth, clientWord, putClientWord, stateField, countField, maskField, tagField, setpointsField, receivedField, stepField, versionWord}
-use Rattle.tables.specs.Links.{targets, linkWidth, linkRow, linkAt, putLink, link-length}
-use Rattle.tables.specs.Tables.{Tables, tablesOf, serversOf, stepOf, writesOf, readsOf, stateOf, countOf, maskOf, tagOf, recordOf, contentAt}
+use Rattle.tables.specs.Layout.{clientWidth, clientWord, putClientWord, stateField, countField, maskField, tagField, setpointsField, receivedField}
+use Rattle.tables.specs.Links.{targets, linkAt, putLink, link-length}
+use Rattle.tables.specs.Tables.{Tables, tablesOf, serversOf, stepOf, writesOf, readsOf, stateOf, countOf, maskOf, recordOf, contentAt}
 use Rattle.tables.specs.declared.links.Contents.{Contents}
 use Rattle.tables.specs.declared.links.Content.{Content}
 use Rattle.tables.specs.declared.links.Content.the-variants.{Nothing, Request, Reply}
@@ -24,25 +23,23 @@ use Rattle.rules.specs.Answers.{Arrived, arrived, nothingShown}
 use Rattle.rules.specs.Common.{idle, entering, askingKeys, askingSetpoints, askingAll, coordinator, request, counted, nextStep, pending, endedRecord, taggedRecord}
 use Rattle.rules.specs.Common as rules
 use Rattle.rules.specs.Begin.{sentGets}
-use Rattle.rules.specs.Choice.{versionAt}
-use Rattle.rules.specs.Reply.{said, emptied, showSetpoint, shownSetpoints, readShown, endedRead, onSetDone, onEntered, onKeys, gotSetpoint, onGot, gotNumber, receivedIn, setpointAt, keepSetpoint, forget, tagChosen, concluded, onAll, onReplyIn, onReply, replyDelivered}
+use Rattle.rules.specs.Reply.{said, emptied, showSetpoint, shownSetpoints, readShown, onSetDone, onEntered, onKeys, gotSetpoint, onGot, gotNumber, receivedIn, setpointAt, keepSetpoint, forget, tagChosen, concluded, onAll, onReplyIn, onReply, replyDelivered}
 use Rattle.rules.specs.declared.Delivered.{Delivered}
 use Rattle.rules.specs.declared.Arrival.the-variants as arrival
-use Rattle.soundness.specs.Facts.{Sound}
+use Rattle.keeping.specs.Rows.{loop-other, loop-length, loop-there}
 use Rattle.serial.specs.Steps.{replied}
 use Rattle.serial.specs.History.{changed, History}
 use Rattle.serial.specs.Consequences.{numberOfArrival}
 use Rattle.serial.proofs.Places.{changed-same, changed-other}
-use Rattle.serial.proofs.Press.{within, Shared, renumbered, Client, clientOf, Press, pressOf, stateIn, countIn, maskIn, tagIn, setpointIn, rowOf, linksOf, sharedOf, view, weight, toCome, sends, World, world}
+use Rattle.serial.proofs.Press.{within, renumbered, Client, clientOf, Press, pressOf, stateIn, countIn, maskIn, tagIn, rowOf, linksOf, sharedOf, view, weight, toCome, sends, world}
 use Rattle.serial.proofs.View.{within-at, row-put, row-put-other, link-put, link-put-other, view-is, shared-step}
 use Rattle.serial.proofs.Links.{come-changed, all-empty, sends-come}
 use Rattle.serial.proofs.Budget.{Budget, no-rest}
 use Rattle.serial.proofs.Spending.{further, done-budget, last-budget}
-use Rattle.serial.proofs.Loops.{HasLinks, sent-links, sent-others, stored-length, stored-others, stored-word, stored-at, pending-come, none-come}
+use Rattle.serial.proofs.Loops.{HasLinks, sent-links, sent-others, loop-rows, pending-come, none-come}
 use Rattle.serial.proofs.Ready.{Ready, few, in-range, has-row, has-link, row-at, link-at, not-empty}
-use Rattle.serial.proofs.Invariant.{Writing, Entering, AskingKeys, Getting, AskingAll, Activity, at-rest, at-writing, at-entering, at-keys, at-getting, at-all, ClientOk, Tied}
+use Rattle.serial.proofs.Invariant.{Writing, Entering, AskingKeys, Getting, AskingAll, Activity, at-rest, at-writing, at-entering, at-keys, at-getting, at-all, Tied}
 use Rattle.serial.proofs.Kept.{Kept, passed-tied}
-use Rattle.serial.proofs.Requests.{withLink}
 use Rattle.serial.proofs.Replies.{done-wait-kept, done-next-kept, got-wait-kept, got-end-kept, told-wait-kept, told-end-kept, entered-kept, keys-kept}
 
 -- the step keeps the tie and the budget, and pays what it owes
@@ -356,10 +353,10 @@ module _ (floor : ℕ → ℕ) (t : Tables) (h : History) (tied : Tied floor (vi
         told-has = rw (word-length clientWidth (t .clients) q (receivedField + i) (w .number)) (has-row t q ready)
 
         kept-has : HasRow clientWidth kept q
-        kept-has = rw (stored-length q setpointsField value (hasServer (maskOf t q)) (serversOf t) room told) told-has
+        kept-has = rw (loop-length q setpointsField (serversOf t) room (hasServer (maskOf t q)) value told) told-has
 
         forgotten-has : HasRow clientWidth forgotten q
-        forgotten-has = rw (stored-length q receivedField (λ j. 0) (λ j. true) targets (omega arith) kept) kept-has
+        forgotten-has = rw (loop-length q receivedField targets (omega arith) (λ j. true) (λ j. 0) kept) kept-has
 
         concluded-has : HasRow clientWidth (concluded tag told q t) q
         concluded-has = rw (word-length clientWidth forgotten q tagField tag) forgotten-has
@@ -368,8 +365,8 @@ module _ (floor : ℕ → ℕ) (t : Tables) (h : History) (tied : Tied floor (vi
         ended-others r d =
             row-put-other (concluded tag told q t) q stateField idle (omega arith) r d
             ∙ row-put-other forgotten q tagField tag (omega arith) r d
-            ∙ stored-others q receivedField (λ j. 0) (λ j. true) targets (omega arith) kept r d
-            ∙ stored-others q setpointsField value (hasServer (maskOf t q)) (serversOf t) room told r d
+            ∙ loop-rows q receivedField targets (omega arith) (λ j. true) (λ j. 0) kept r d
+            ∙ loop-rows q setpointsField (serversOf t) room (hasServer (maskOf t q)) value told r d
             ∙ one-others (receivedField + i) (w .number) (omega arith) r d
 
         ended-state : rowOf (putClientWord (concluded tag told q t) q stateField idle) q stateField ≡ idle
@@ -379,14 +376,14 @@ module _ (floor : ℕ → ℕ) (t : Tables) (h : History) (tied : Tied floor (vi
         concluded-word : (f : ℕ) → f < receivedField → (f ≡ tagField → ⊥) → clientWord (concluded tag told q t) q f ≡ clientWord kept q f
         concluded-word f l d =
             word-other clientWidth forgotten q tagField tag q f (omega arith) (omega arith) (λ e. d (e .1))
-            ∙ stored-word q receivedField (λ j. 0) (λ j. true) targets (omega arith) kept f (omega arith) (λ j m e. omega arith)
+            ∙ loop-other q receivedField targets (omega arith) (λ j. true) (λ j. 0) kept q f (omega arith) (λ e. omega (arith, e .1))
 
         ended-count : rowOf (putClientWord (concluded tag told q t) q stateField idle) q countField ≡ countIn c
         ended-count =
             within-at clientWidth 0 (clientWord (putClientWord (concluded tag told q t) q stateField idle) q) countField (omega arith)
             ∙ word-other clientWidth (concluded tag told q t) q stateField idle q countField (omega arith) (omega arith) (λ e. omega (arith, e .1))
             ∙ concluded-word countField (omega arith) (λ e. omega arith)
-            ∙ stored-word q setpointsField value (hasServer (maskOf t q)) (serversOf t) room told countField (omega arith) (λ j m e. omega arith)
+            ∙ loop-other q setpointsField (serversOf t) room (hasServer (maskOf t q)) value told q countField (omega arith) (λ e. omega (arith, e .1))
             ∙ word-other clientWidth (t .clients) q (receivedField + i) (w .number) q countField (omega arith) (omega arith) (λ e. omega (arith, e .1))
             ∙ sym (row-at t q countField (omega arith))
 
@@ -395,7 +392,7 @@ module _ (floor : ℕ → ℕ) (t : Tables) (h : History) (tied : Tied floor (vi
             let l : j < serversOf t = a .bound j m in
             shown-at (concluded tag told q t) q (maskOf t q) j (omega (arith, few t q ready)) (rw mask-at at m)
             ∙ concluded-word (setpointsField + j) (omega (arith, few t q ready)) (λ e. omega arith)
-            ∙ stored-at q setpointsField value (hasServer (maskOf t q)) (serversOf t) room told told-has j l (rw mask-at at m)
+            ∙ loop-there q setpointsField (serversOf t) room (hasServer (maskOf t q)) value told j told-has l (rw mask-at at m)
 
     in-activity : Activity (h .extra) (world (view t) h) (floor q) q c (h .doing q) → FairReply floor h q i (replyDelivered q i t)
     in-activity (at-rest e a) = not-empty (Reply w) (omega arith) (sym link ∙ a .links i hi)

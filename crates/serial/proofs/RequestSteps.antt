@@ -1,20 +1,18 @@
 -- The delivery of a request, on the tables.
-use Prim.Native.Nat.{ℕ, zero, suc, _+_, _-_, _*_, _≤_, _<_}
+use Prim.Native.Nat.{ℕ, _+_, _≤_, _<_}
 use mathlib.Core.Path.{_≡_, refl, sym, ap, _∙_, subst}
-use mathlib.Core.Bool.{Bool, true, false, cond}
+use mathlib.Core.Bool.{cond}
 use mathlib.Core.List.{List}
 use native.Mathlib.Omega.{arith}
 use native.Mathlib.Numerals.{add-one}
-use lib.ListN.{getD, set, length, length-set}
+use lib.ListN.{set, length, length-set}
 use lib.Seq.{getD-set-other}
-use lib.Dec.{eqb, ltb}
-use borrow.Author.Tests.{lt-ltb, le-ltb, ltb-true, ltb-false}
-use Rattle.ranges.specs.Tests.{by-equal, by-test}
-use Rattle.keys.specs.declared.Key.{Key}
-use Rattle.keys.specs.Keys.{keyWord, opening}
-use Rattle.tables.specs.Rows.{HasRow}
-use Rattle.tables.specs.Layout.{countAt, countWords, heldField, stepField, entriesField, serverPlaces, logPlaces, entryWidth, versionWord, putVersionWord, putEntry, stateField}
-use Rattle.tables.specs.Links.{targets, linkWidth, linkRow, putLink, link-same}
+use lib.Dec.{eqb}
+use borrow.Author.Tests.{lt-ltb}
+use Rattle.ranges.specs.Tests.{by-equal}
+use Rattle.keys.specs.Keys.{keyWord}
+use Rattle.tables.specs.Layout.{countAt, countWords, heldField, stepField, entriesField, serverPlaces, logPlaces, putVersionWord, putEntry, stateField}
+use Rattle.tables.specs.Links.{targets, putLink, link-same}
 use Rattle.tables.specs.Tables.{Tables, tablesOf, stepOf, entriesOf, writesOf, readsOf, heldOf, stateOf, recordOf, contentAt, serversOf}
 use Rattle.tables.specs.declared.links.Contents.{Contents}
 use Rattle.tables.specs.declared.links.Content.{Content}
@@ -22,21 +20,20 @@ use Rattle.tables.specs.declared.links.Content.the-variants.{Nothing, Request, 
 use Rattle.server.specs.Held.{appended, firstBearing}
 use Rattle.coordinator.specs.Log as log
 use Rattle.rules.specs.Answers.{Left, left}
-use Rattle.rules.specs.Common.{idle, entering, askingKeys, askingSetpoints, askingAll, coordinator, reply, counted, taggedRecord}
+use Rattle.rules.specs.Common.{entering, askingKeys, askingSetpoints, askingAll, coordinator, reply, counted, taggedRecord}
 use Rattle.rules.specs.Common as rules
-use Rattle.rules.specs.Request.{refused, answered, onSet, onEnter, onWhichKeys, onGet, onGetAll, onRequestIn, onRequest, requestDelivered}
-use Rattle.rules.specs.declared.Answer.the-variants.{Ok, Refused}
-use Rattle.soundness.specs.Facts.{Sound}
+use Rattle.rules.specs.Request.{refused, onSet, onEnter, onWhichKeys, onGet, onGetAll, onRequestIn, onRequest, requestDelivered}
+use Rattle.rules.specs.declared.Answer.the-variants.{Ok}
 use Rattle.serial.specs.Steps.{requested}
 use Rattle.serial.specs.History.{changed, History}
 use Rattle.serial.specs.Claim.{IsReply, LeavesReply}
 use Rattle.serial.specs.Consequences.{numberOf}
-use Rattle.serial.proofs.Press.{Shared, renumbered, Client, clientOf, Press, pressOf, stateIn, maskIn, sharedOf, view, weight, World, world}
-use Rattle.serial.proofs.View.{within-at, link-put, link-put-other, view-is, sharedIn, shared-step, shared-held, shared-entries}
+use Rattle.serial.proofs.Press.{Shared, renumbered, Press, pressOf, stateIn, sharedOf, view, weight, world}
+use Rattle.serial.proofs.View.{link-put, link-put-other, view-is, sharedIn, shared-step, shared-held, shared-entries}
 use Rattle.serial.proofs.Links.{come-changed}
 use Rattle.serial.proofs.Versions.{found-place}
 use Rattle.serial.proofs.Ready.{Ready, few, in-range, has-link, has-keys, has-values, row-at, link-at, not-empty}
-use Rattle.serial.proofs.Invariant.{Writing, Stored, Entering, AskingKeys, Getting, AskingAll, Idle, Activity, at-rest, at-writing, at-entering, at-keys, at-getting, at-all, ClientOk, Tied}
+use Rattle.serial.proofs.Invariant.{Writing, Entering, AskingKeys, Getting, AskingAll, Activity, at-rest, at-writing, at-entering, at-keys, at-getting, at-all, Tied}
 use Rattle.serial.proofs.Kept.{Kept, passed-tied}
 use Rattle.serial.proofs.Budget.{waits, due, Budget, waiting-room, entry-room}
 use Rattle.serial.proofs.Spending.{further, set-budget, enter-budget}

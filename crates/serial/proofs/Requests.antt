@@ -1,40 +1,39 @@
 -- The delivery of a request keeps the tie and pays what it owes.
-use Prim.Native.Nat.{ℕ, zero, suc, _+_, _-_, _*_, _≤_, _<_}
+use Prim.Native.Nat.{ℕ, suc, _+_, _-_, _*_, _≤_, _<_}
 use mathlib.Core.Path.{_≡_, refl, sym, ap, _∙_}
-use mathlib.Core.Bool.{Bool, true, false, cond}
-use mathlib.Core.Option.{Option, none, some}
-use mathlib.Core.List.{List}
+use mathlib.Core.Bool.{true, false, cond}
+use mathlib.Core.Option.{none, some}
 use native.Mathlib.Omega.{arith}
 use lib.ListN.{getD}
 use lib.Dec.{eqb}
-use borrow.Author.Tests.{eqb-true, eqb-false, eq-eqb, ne-eqb}
-use Rattle.ranges.specs.Tests.{by-equal, by-test, not-both}
+use borrow.Author.Tests.{eqb-true, eqb-false, ne-eqb}
+use Rattle.ranges.specs.Tests.{by-equal, by-test}
 use Rattle.keys.specs.declared.Key.{Key}
 use Rattle.keys.specs.Keys.{keyOf, keyWord, FitsByte}
-use Rattle.keys.specs.Masks.{hasServer, serversIn}
+use Rattle.keys.specs.Masks.{hasServer}
 use Rattle.coordinator.specs.Latest.{latestKey}
 use Rattle.coordinator.specs.LatestLaws.{latest-here, latest-before, latest-key-kept}
 use Rattle.tables.specs.Rows.{HasRow}
-use Rattle.tables.specs.Layout.{serverPlaces, putVersionWord, entryWidth, entryKey, entryMask, putEntry}
+use Rattle.tables.specs.Layout.{serverPlaces, putVersionWord, entryWidth, entryMask, putEntry}
 use Rattle.tables.specs.Entries.{entry-key-same, entry-mask-same}
 use Rattle.tables.specs.Links.{targets}
 use Rattle.tables.specs.declared.links.Contents.{Contents}
 use Rattle.tables.specs.declared.links.Content.{Content}
 use Rattle.tables.specs.declared.links.Content.the-variants.{Nothing, Request, Reply}
-use Rattle.rules.specs.Common.{idle, entering, askingKeys, askingSetpoints, askingAll, coordinator, reply}
+use Rattle.rules.specs.Common.{entering, askingKeys, askingSetpoints, askingAll, coordinator, reply}
 use Rattle.rules.specs.Common as rules
 use Rattle.rules.specs.declared.Answer.the-variants.{Ok}
 use Rattle.serial.specs.Steps.{requested}
-use Rattle.serial.specs.History.{changed, Transaction, writeOf, Doing, nothing, writing, tagged, reading, History, passed, turned, delivered, given, entered, after}
+use Rattle.serial.specs.History.{changed, Transaction, writeOf, writing, tagged, reading, History}
 use Rattle.serial.specs.Claim.{enough}
 use Rattle.serial.proofs.Places.{changed-same, changed-other, changed-all, changed-both}
-use Rattle.serial.proofs.Owed.{valueAt, valueIn, More, floorAfter}
+use Rattle.serial.proofs.Owed.{valueAt, valueIn}
 use Rattle.serial.proofs.HistoryKept.{value-before}
-use Rattle.serial.proofs.Versions.{find, find-before, find-more, find-new, find-other}
+use Rattle.serial.proofs.Versions.{find-before, find-more, find-new, find-other}
 use Rattle.serial.proofs.Press.{Shared, renumbered, Client, clientOf, Press, pressOf, stateIn, countIn, maskIn, tagIn, weight, toCome, World, worldOf, world}
 use Rattle.serial.proofs.Links.{come-changed, come-some}
-use Rattle.serial.proofs.Invariant.{own, WriteLink, Writing, Stored, Entering, AskingKeys, KeysLink, GetLink, Getting, Snapshot, AllLink, AskingAll, at-writing, at-entering, at-keys, at-getting, at-all, ClientOk, Tied, Grown, client-frame}
-use Rattle.serial.proofs.Kept.{Kept, turned-tied, moved-tied}
+use Rattle.serial.proofs.Invariant.{own, WriteLink, Writing, Stored, Entering, AskingKeys, GetLink, Getting, Snapshot, AllLink, AskingAll, at-writing, at-entering, at-keys, at-getting, at-all, ClientOk, Tied, Grown, client-frame}
+use Rattle.serial.proofs.Kept.{Kept, turned-tied}
 
 -- one version more of server i
 abbrev pub versionMore : Shared → ℕ → ℕ → ℕ → Shared

@@ -1,6 +1,6 @@
 -- Each step keeps the budget: what it takes was paid for, or its begin pays.
-use Prim.Native.Nat.{ℕ, zero, suc, _+_, _*_, _≤_, _<_}
-use mathlib.Core.Path.{_≡_, refl, sym, ap, _∙_}
+use Prim.Native.Nat.{ℕ, suc, _+_, _≤_, _<_}
+use mathlib.Core.Path.{_≡_, ap}
 use mathlib.Core.Bool.{Bool, true, false, cond}
 use native.Mathlib.Omega.{arith}
 use lib.Dec.{eqb}
@@ -11,12 +11,12 @@ use Rattle.tables.specs.declared.links.Contents.{Contents}
 use Rattle.tables.specs.declared.links.Content.{Content}
 use Rattle.tables.specs.declared.links.Content.the-variants.{Nothing, Request, Reply}
 use Rattle.keys.specs.declared.Key.{Key}
-use Rattle.rules.specs.Common.{idle, writing, entering, askingKeys, coordinator, reply}
+use Rattle.rules.specs.Common.{writing, entering, coordinator, reply}
 use Rattle.serial.specs.History.{changed}
-use Rattle.serial.proofs.Places.{changed-same, changed-other, changed-all}
-use Rattle.serial.proofs.Press.{Shared, renumbered, Client, clientOf, Press, pressOf, stateIn, maskIn, weight, toCome}
+use Rattle.serial.proofs.Places.{changed-same, changed-other}
+use Rattle.serial.proofs.Press.{Shared, renumbered, Client, Press, pressOf, stateIn, weight, toCome}
 use Rattle.serial.proofs.Links.{come-changed}
-use Rattle.serial.proofs.Budget.{asks, waits, due, rest, ahead, perTransaction, Budget, budget-kept, no-waits, no-due}
+use Rattle.serial.proofs.Budget.{asks, waits, ahead, Budget, budget-kept, no-waits, no-due}
 use Rattle.serial.proofs.Requests.{versionMore, entryMore, withLink}
 
 asks-most : (l : Content) → asks l ≤ 1

@@ -1,9 +1,9 @@
 -- Demand 3: the one theorem, over every list of steps behind every accepted opening, and what follows beside it.
-use Prim.Native.Nat.{ℕ, zero, suc, _≤_, _<_}
-use mathlib.Core.Path.{_≡_, refl, sym}
+use Prim.Native.Nat.{ℕ, zero, suc, _<_}
+use mathlib.Core.Path.{_≡_, refl}
 use mathlib.Core.List.{List, [], _∷_}
 use native.Mathlib.Omega.{arith}
-use Rattle.tables.specs.Tables.{Tables, clientsOf, stepOf}
+use Rattle.tables.specs.Tables.{Tables, clientsOf}
 use Rattle.rules.specs.Answers.{Left, left, Arrived}
 use Rattle.rules.specs.Open.{opened}
 use Rattle.rules.specs.Begin.{begunWrite, begunRead}
@@ -22,7 +22,7 @@ use Rattle.serial.specs.Steps.{Step, opening, beginning-write, beginning
 use Rattle.serial.specs.Steps as event
 use Rattle.serial.specs.History.{History, passed, openedWith, after, history}
 use Rattle.serial.specs.Row.{Each}
-use Rattle.serial.specs.Claim.{Answers, Claim, Demand3}
+use Rattle.serial.specs.Claim.{Answers, Demand3}
 use Rattle.serial.specs.Consequences.{number, Consequences}
 use Rattle.serial.proofs.Owed.{floorAfter}
 use Rattle.serial.proofs.HistoryOk.{HistoryOk, claimed}
@@ -32,7 +32,7 @@ use Rattle.serial.proofs.Invariant.{Tied}
 use Rattle.serial.proofs.Kept.{Kept, passed-tied}
 use Rattle.serial.proofs.Budget.{Budget, taken-most}
 use Rattle.serial.proofs.Ready.{Ready}
-use Rattle.serial.proofs.Numbers.{NotEight, open-number, write-number, read-number, delivery-number}
+use Rattle.serial.proofs.Numbers.{open-number, write-number, read-number, delivery-number}
 use Rattle.serial.proofs.OpeningStep.{opened-tied, opened-budget}
 use Rattle.serial.proofs.BeginSteps.{write-fair, read-fair}
 use Rattle.serial.proofs.RequestSteps.{FairRequest, request-fair, refused-fair}
@@ -88,13 +88,13 @@ module _ (floor : ℕ → ℕ) (t : Tables) (h : History) (sound : Sound t) (tie
       record { kept = f .0; budget = f .1; answers = tt; room = λ z. omega arith })
   step-fair (request q i) =
       let f = by-refusal (FairRequest floor h q i) (deliveryRefusal q i t) (requestDelivered q i t) t
-          (λ m e. refused-fair floor t h tied budget q i m (rw (← e) (delivery-number t q i)))
-          (λ e. let a = deliverable q i t e in request-fair floor t h tied budget q (ready q (a .client)) i (target-below q i t sound a)) in
+      (λ m e. refused-fair floor t h tied budget q i m (rw (← e) (delivery-number t q i)))
+      (λ e. let a = deliverable q i t e in request-fair floor t h tied budget q (ready q (a .client)) i (target-below q i t sound a)) in
       record { kept = f .kept; budget = f .budget; answers = f .answers; room = f .room }
   step-fair (reply q i) =
       let f = by-refusal-arrived (FairReply floor h q i) (deliveryRefusal q i t) (replyDelivered q i t) t
-          (λ m e. refused-reply floor t h tied budget q i m (rw (← e) (delivery-number t q i)))
-          (λ e. let a = deliverable q i t e in reply-fair floor t h tied budget q (ready q (a .client)) i (target-below q i t sound a)) in
+      (λ m e. refused-reply floor t h tied budget q i m (rw (← e) (delivery-number t q i)))
+      (λ e. let a = deliverable q i t e in reply-fair floor t h tied budget q (ready q (a .client)) i (target-below q i t sound a)) in
       record { kept = f .kept; budget = f .budget; answers = tt; room = f .room }
 
   -- and leaves sound tables

@@ -1,24 +1,23 @@
 -- What a word or a link put into the tables is in the view of them.
-use Prim.Native.Nat.{ℕ, zero, suc, _+_, _*_, _≤_, _<_}
+use Prim.Native.Nat.{ℕ, _+_, _≤_, _<_}
 use mathlib.Core.Path.{_≡_, refl, sym, ap, ap₂, _∙_, fun-ext}
-use mathlib.Core.Bool.{Bool, true, false, cond}
 use mathlib.Core.List.{List}
 use native.Mathlib.Omega.{arith}
-use lib.ListN.{getD, set, length}
+use lib.ListN.{set, length}
 use lib.Seq.{getD-set-same, getD-set-other}
-use lib.Dec.{eqb, ltb}
+use lib.Dec.{ltb}
 use borrow.Author.Tests.{lt-ltb, le-ltb, ltb-true, ltb-false}
-use Rattle.ranges.specs.Tests.{by-equal, by-test}
+use Rattle.ranges.specs.Tests.{by-test}
 use Rattle.tables.specs.Rows.{HasRow, word-same, word-other}
 use Rattle.tables.specs.Layout.{countAt, countWords, methodField, serversField, stepField, entriesField, writesField, readsField, heldField, clientWidth, clientWord, putClientWord}
 use Rattle.tables.specs.Links.{targets, linkWidth, linkRow, linkAt, putLink, ContentFits, link-same, link-other}
 use Rattle.tables.specs.Tables.{Tables}
 use Rattle.tables.specs.declared.links.Content.{Content}
-use Rattle.tables.specs.declared.links.Content.the-variants.{Nothing, Request, Reply}
+use Rattle.tables.specs.declared.links.Content.the-variants.{Nothing}
 use Rattle.tables.specs.declared.links.Link.{Link}
 use Rattle.serial.specs.History.{changed}
-use Rattle.serial.proofs.Places.{changed-same, changed-other, changed-all}
-use Rattle.serial.proofs.Press.{within, Shared, renumbered, Client, clientOf, Press, pressOf, rowOf, linksOf, sharedOf, view}
+use Rattle.serial.proofs.Places.{changed-all}
+use Rattle.serial.proofs.Press.{within, Shared, renumbered, clientOf, pressOf, rowOf, linksOf, sharedOf, view}
 
 module _ {A : Type 0} (n : ℕ) (default : A) where
   pub within-at : (f : ℕ → A) (i : ℕ) → i < n → within n default f i ≡ f i

@@ -1,8 +1,6 @@
 -- Document 01's sample, as a list of steps: played on `store`'s definitions, it computes to the row that document 01 prints.
-use Prim.Native.Nat.{ℕ}
 use mathlib.Core.Path.{_≡_, refl}
-use mathlib.Core.Bool.{Bool, true, false}
-use mathlib.Core.Option.{Option, none, some}
+use mathlib.Core.Option.{some}
 use mathlib.Core.List.{List, [], _∷_}
 use lib.ListN.{replicate}
 use Rattle.ranges.specs.All.{allBelow, anyBelow}
@@ -20,8 +18,8 @@ use Rattle.rules.specs.Reply.{onSetDone, onEntered, onKeys, onGot, onAll, onRep
 use Rattle.soundness.specs.Sound.{longEnough, pressFits, scalarsSound, keyInRange, serverSound, entrySound, logSound, stateAllowed, uses, requestSound, replySound, contentSound, linkSound, receivedSound, clientSound, writeSound, readSound, openSound, recordsSound, sound}
 use Rattle.store.specs.Refusals.{openRefusal, writeRefusal, readRefusal, deliveryRefusal}
 use Rattle.store.specs.Steps as store
-use Rattle.serial.specs.Steps.{Step, opening, beginning-write, beginning-read, request, reply, play, run}
-use Rattle.serial.specs.History.{changed, Transaction, writeOf, readOf, History, openedWith, history}
+use Rattle.serial.specs.Steps.{Step, beginning-write, beginning-read, request, reply, play, run}
+use Rattle.serial.specs.History.{changed, writeOf, readOf, openedWith, history}
 use Rattle.serial.specs.Row.{readsOf, rowTo, row}
 
 -- tables just long enough, all zero

@@ -1,9 +1,9 @@
 -- That the claim rules wrong stores out: machines that a reviewer would try, each refuted by one list of steps.
-use Prim.Native.Nat.{ℕ, zero, suc, _≤_, _<_}
-use mathlib.Core.Path.{_≡_, refl, sym, ap, subst}
-use mathlib.Core.Bool.{Bool, true, false, cond}
+use Prim.Native.Nat.{ℕ, suc, _<_}
+use mathlib.Core.Path.{_≡_, refl, subst}
+use mathlib.Core.Bool.{cond}
 use lib.Dec.{eqb}
-use mathlib.Core.Option.{Option, none, some}
+use mathlib.Core.Option.{some}
 use mathlib.Core.List.{List, [], _∷_}
 use native.Mathlib.Omega.{arith}
 use lib.ListN.{replicate}
@@ -19,7 +19,6 @@ use Rattle.tables.specs.Tables.{Tables, withClients, withLinks, stateOf, countO
 use Rattle.tables.specs.declared.links.Content.the-variants.{Nothing}
 use Rattle.server.specs.Held.{appended}
 use Rattle.coordinator.specs.Log.{entered}
-use Rattle.rules.specs.declared.Answer.{Answer}
 use Rattle.rules.specs.declared.Answer.the-variants.{Ok}
 use Rattle.rules.specs.declared.Arrival.{Arrival}
 use Rattle.rules.specs.declared.Arrival.the-variants.{Wait, Next, Write, Read, Refused}
@@ -34,7 +33,7 @@ use Rattle.soundness.specs.Sound.{longEnough, pressFits, scalarsSound, keyInRan
 use Rattle.store.specs.Refusals.{openRefusal, writeRefusal, readRefusal, deliveryRefusal}
 use Rattle.store.specs.Steps.{open′, beginWrite, beginRead, deliverRequest, deliverReply}
 use Rattle.serial.specs.Steps.{Step, opening, beginning-write, beginning-read, request, reply, Event, opened, begun-write, begun-read, requested, replied, Played, Machine, play, run}
-use Rattle.serial.specs.History.{changed, Transaction, writeOf, readOf, Doing, reading, History, openedWith, history}
+use Rattle.serial.specs.History.{changed, Transaction, writeOf, readOf, reading, History, openedWith, history}
 use Rattle.serial.specs.Row.{Each, readsOf, rowTo, row, RealTime}
 use Rattle.serial.specs.Claim.{EndsAt, Unfinished, IsReply, Claim, Demand3}
 use Rattle.serial.specs.Sample.{zeros}
