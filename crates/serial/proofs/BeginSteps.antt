@@ -95,7 +95,7 @@ module _ (floor : ℕ → ℕ) (t : Tables) (h : History) (tied : Tied floor (vi
 
   -- the begin keeps the tie and the budget, and pays what it owes
   abbrev pub Fair : Event → Tables → Type 0
-  Fair event left = Kept floor h event (view left) × Budget (view left)
+  Fair event left = Kept floor h event (view left) × Budget (view left) × (stepOf left ≡ suc (stepOf t))
 
   small : serversOf t ≤ targets
   small = omega (arith, few t q ready)
@@ -180,6 +180,7 @@ module _ (floor : ℕ → ℕ) (t : Tables) (h : History) (tied : Tied floor (vi
           few-counts),
       subst Budget (sym seen)
           (write-budget (view t) budget q (in-range t q ready) free begun begun-state (omega (arith, sends-come mask (sets (suc (countIn c))) (λ i. refl) no-head, few-servers mask))),
+      ap (λ (v : Press). v .shared .step) seen ∙ add-one (stepOf t),
     )
 
   -- a READ that leaves the client's row and links so
@@ -194,7 +195,7 @@ module _ (floor : ℕ → ℕ) (t : Tables) (h : History) (tied : Tied floor (vi
         Kept floor h (begun-read q mask Ok) (readPress link) → Budget (readPress link) → Fair (begun-read q mask Ok) readLeft
     read-left other-rows link-is other-links k b =
         let seen = view-is t readLeft q reads-shared refl link-is other-rows other-links in
-        (subst (λ (v : Press). Kept floor h (begun-read q mask Ok) v) (sym seen) k, subst Budget (sym seen) b)
+        (subst (λ (v : Press). Kept floor h (begun-read q mask Ok) v) (sym seen) k, subst Budget (sym seen) b, ap (λ (v : Press). v .shared .step) seen ∙ add-one (stepOf t))
 
   abbrev ask : Content
   ask = request opening 0

@@ -1,9 +1,10 @@
 -- The delivery of a reply, on the tables.
-use Prim.Native.Nat.{ℕ, _+_, _-_, _≤_, _<_}
+use Prim.Native.Nat.{ℕ, suc, _+_, _-_, _≤_, _<_}
 use mathlib.Core.Path.{_≡_, refl, sym, ap, ap₂, _∙_, subst}
 use mathlib.Core.Bool.{true, false}
 use mathlib.Core.List.{List}
 use native.Mathlib.Omega.{arith}
+use native.Mathlib.Numerals.{add-one}
 use lib.ListN.{getD, length, length-set, replicate}
 use lib.Seq.{getD-set-same, getD-set-other}
 use Rattle.ranges.specs.Tests.{by-equal, by-test}
@@ -29,7 +30,7 @@ use Rattle.rules.specs.declared.Arrival.the-variants as arrival
 use Rattle.keeping.specs.Rows.{loop-other, loop-length, loop-there}
 use Rattle.serial.specs.Steps.{replied}
 use Rattle.serial.specs.History.{changed, History}
-use Rattle.serial.specs.Consequences.{numberOfArrival}
+use Rattle.serial.specs.Consequences.{numberOfArrival, countedArrival}
 use Rattle.serial.proofs.Places.{changed-same, changed-other}
 use Rattle.serial.proofs.Press.{within, renumbered, Client, clientOf, Press, pressOf, stateIn, countIn, maskIn, tagIn, rowOf, linksOf, sharedOf, view, weight, toCome, sends, world}
 use Rattle.serial.proofs.View.{within-at, row-put, row-put-other, link-put, link-put-other, view-is, shared-step}
@@ -43,10 +44,11 @@ use Rattle.serial.proofs.Kept.{Kept, passed-tied}
 use Rattle.serial.proofs.Replies.{done-wait-kept, done-next-kept, got-wait-kept, got-end-kept, told-wait-kept, told-end-kept, entered-kept, keys-kept}
 
 -- the step keeps the tie and the budget, and pays what it owes
-pub record FairReply (floor : ℕ → ℕ) (h : History) (q i : ℕ) (x : Arrived) : Type 0 where
+pub record FairReply (floor : ℕ → ℕ) (h : History) (n q i : ℕ) (x : Arrived) : Type 0 where
   pub kept : Kept floor h (replied q i (x .delivered)) (view (x .tables))
   pub budget : Budget (view (x .tables))
   pub room : numberOfArrival (x .delivered .arrival) ≡ 8 → ⊥
+  pub step : stepOf (x .tables) ≡ countedArrival (x .delivered .arrival) n
 
 -- the setpoints shown are the words of the client's row
 pub shown-at : (clients : List ℕ) (q mask j : ℕ) → j < 16 → hasServer mask j ≡ true → getD (shownSetpoints clients q mask) j 0 ≡ clientWord clients q (setpointsField + j)
@@ -58,8 +60,8 @@ shown-at clients q mask j l e =
     (hasServer mask) (replicate 16 0) (omega arith) 16 j (omega arith) l e
 
 module _ (floor : ℕ → ℕ) (t : Tables) (h : History) (tied : Tied floor (view t) h) (budget : Budget (view t)) (q i : ℕ) where
-  pub refused-reply : (n : ℕ) → (n ≡ 8 → ⊥) → FairReply floor h q i (said (arrival.Refused n) t)
-  refused-reply n d = record { kept = (tt, passed-tied floor (view t) h tied); budget = budget; room = d }
+  pub refused-reply : (n : ℕ) → (n ≡ 8 → ⊥) → FairReply floor h (stepOf t) q i (said (arrival.Refused n) t)
+  refused-reply n d = record { kept = (tt, passed-tied floor (view t) h tied); budget = budget; room = d; step = refl }
 
 module _ (floor : ℕ → ℕ) (t : Tables) (h : History) (tied : Tied floor (view t) h) (budget : Budget (view t)) (q : ℕ) (ready : Ready t q) (i : ℕ) (hi : i < targets) where
   abbrev c : Client
@@ -84,11 +86,11 @@ module _ (floor : ℕ → ℕ) (t : Tables) (h : History) (tied : Tied floor (vi
   module _ (clients links writes reads : List ℕ) {row : ℕ → ℕ} {link : ℕ → Content} (d : Delivered) where
     moved-fair : rowOf clients q ≡ row → ((r : ℕ) → (r ≡ q → ⊥) → rowOf clients r ≡ rowOf (t .clients) r) →
         linksOf links q ≡ link → ((r : ℕ) → (r ≡ q → ⊥) → linksOf links r ≡ linksOf (t .links) r) →
-        (numberOfArrival (d .arrival) ≡ 8 → ⊥) →
-        Kept floor h (replied q i d) (movedPress row link) → Budget (movedPress row link) → FairReply floor h q i (arrived d (movedTo clients links writes reads))
-    moved-fair rows other-rows link-is other-links room k b =
+        (numberOfArrival (d .arrival) ≡ 8 → ⊥) → suc (stepOf t) ≡ countedArrival (d .arrival) (stepOf t) →
+        Kept floor h (replied q i d) (movedPress row link) → Budget (movedPress row link) → FairReply floor h (stepOf t) q i (arrived d (movedTo clients links writes reads))
+    moved-fair rows other-rows link-is other-links room step k b =
         let seen = view-is t (movedTo clients links writes reads) q (shared-step (t .counts) (stepOf t + 1) (t .keys) (t .values) (t .log) (ready .sound .long .counts)) rows link-is other-rows other-links in
-        record { kept = subst (λ (v : Press). Kept floor h (replied q i d) v) (sym seen) k; budget = subst Budget (sym seen) b; room = room }
+        record { kept = subst (λ (v : Press). Kept floor h (replied q i d) v) (sym seen) k; budget = subst Budget (sym seen) b; room = room; step = ap (λ (v : Press). v .shared .step) seen ∙ add-one (stepOf t) ∙ step }
 
   -- words of the row that a step puts one behind the other
   one-word : (f v : ℕ) → f < clientWidth → rowOf (putClientWord (t .clients) q f v) q ≡ changed (c .row) f v
@@ -154,12 +156,12 @@ module _ (floor : ℕ → ℕ) (t : Tables) (h : History) (tied : Tied floor (vi
     gone-budget : (row : ℕ → ℕ) (state : ℕ) → row stateField ≡ state → (state ≡ rules.writing → ⊥) → (state ≡ entering → ⊥) → (state ≡ askingKeys → ⊥) → Budget (movedPress row gone)
     gone-budget row state is a b d = further (view t) budget q (in-range t q ready) (clientOf row gone) state is a b (omega (arith, gone-come, no-rest (clientOf row gone) state is a d))
 
-    done-fair : stateIn c ≡ rules.writing → Writing (h .extra) (world (view t) h) (floor q) q c (h .doing q) → FairReply floor h q i (onSetDone q i t)
+    done-fair : stateIn c ≡ rules.writing → Writing (h .extra) (world (view t) h) (floor q) q c (h .doing q) → FairReply floor h (stepOf t) q i (onSetDone q i t)
     unfolding onSetDone
     done-fair state a =
         by-test (pending (emptied q i t) q)
         (λ b. rw b (
-        moved-fair (t .clients) (emptied q i t) (t .writes) (t .reads) (nothingShown arrival.Wait) refl (λ r d. refl) gone-links gone-others (λ z. omega arith)
+        moved-fair (t .clients) (emptied q i t) (t .writes) (t .reads) (nothingShown arrival.Wait) refl (λ r d. refl) gone-links gone-others (λ z. omega arith) refl
         (done-wait-kept floor (view t) h tied (few t q ready) q (in-range t q ready) (stepOf t + 1) (writesOf t) (readsOf t) i hi w link a state)
         (done-budget (view t) budget q (in-range t q ready) i hi w link state)
         ))
@@ -167,7 +169,7 @@ module _ (floor : ℕ → ℕ) (t : Tables) (h : History) (tied : Tied floor (vi
         moved-fair (putClientWord (t .clients) q stateField entering) (putLink (emptied q i t) q coordinator enter) (t .writes) (t .reads) (nothingShown arrival.Next)
         (one-word stateField entering (omega arith)) (one-others stateField entering (omega arith))
         (link-put (emptied q i t) q coordinator enter (omega arith) (rw (link-length (t .links) q i Nothing) (has-link t q ready coordinator (omega arith))) fits ∙ ap₂ (λ (l : ℕ → Content) (x : Content). changed l coordinator x) gone-links enter-is)
-        (λ r d. link-put-other (emptied q i t) q coordinator enter (omega arith) r d ∙ gone-others r d) (λ z. omega arith)
+        (λ r d. link-put-other (emptied q i t) q coordinator enter (omega arith) r d ∙ gone-others r d) (λ z. omega arith) refl
         (done-next-kept floor (view t) h tied (few t q ready) q (in-range t q ready) (stepOf t + 1) (writesOf t) (readsOf t) i hi w link a (none-left b) (changed (c .row) stateField entering)
         (changed-same (c .row) stateField entering) (changed-other (c .row) stateField entering countField (λ e. omega arith)) (changed-other (c .row) stateField entering maskField (λ e. omega arith)))
         (last-budget (view t) budget q (in-range t q ready) (clientOf (changed (c .row) stateField entering) (changed gone coordinator (request (keyOf (countIn c) q) (maskIn c)))) (changed-same (c .row) stateField entering) state
@@ -190,13 +192,13 @@ module _ (floor : ℕ → ℕ) (t : Tables) (h : History) (tied : Tied floor (vi
     at-head : ((j : ℕ) → j < coordinator → c .link j ≡ Nothing) → i ≡ coordinator
     at-head others = by-equal i coordinator (λ e. e) (λ d. not-empty (Reply w) (omega arith) (sym link ∙ others i (omega arith)))
 
-    entered-fair : Entering (h .extra) (world (view t) h) (floor q) q c (h .doing q) → FairReply floor h q i (onEntered w q i t)
+    entered-fair : Entering (h .extra) (world (view t) h) (floor q) q c (h .doing q) → FairReply floor h (stepOf t) q i (onEntered w q i t)
     unfolding onEntered
     entered-fair a =
         let at = at-head (a .others) in
         let there : c .link coordinator ≡ Reply w = ap (c .link) (sym at) ∙ link in
         moved-fair (putClientWord (putClientWord (t .clients) q tagField (w .number)) q stateField idle) (emptied q i t) (endedRecord (recordOf t q) (nextStep t) (t .writes)) (t .reads) (nothingShown (arrival.Write (w .number)))
-        (two-words tagField (w .number) stateField idle (omega arith) (omega arith)) (two-others tagField (w .number) stateField idle (omega arith) (omega arith)) gone-links gone-others (λ z. omega arith)
+        (two-words tagField (w .number) stateField idle (omega arith) (omega arith)) (two-others tagField (w .number) stateField idle (omega arith) (omega arith)) gone-links gone-others (λ z. omega arith) refl
         (rw at (entered-kept floor (view t) h tied (few t q ready) q (in-range t q ready) (stepOf t + 1) (writesOf t) (readsOf t) w there a (changed (changed (c .row) tagField (w .number)) stateField idle)
         (changed-same (changed (c .row) tagField (w .number)) stateField idle) (left-by tagField (w .number) stateField idle countField (λ e. omega arith) (λ e. omega arith))))
         (gone-budget (changed (changed (c .row) tagField (w .number)) stateField idle) idle (changed-same (changed (c .row) tagField (w .number)) stateField idle) (λ e. omega arith) (λ e. omega arith) (λ e. omega arith))
@@ -205,7 +207,7 @@ module _ (floor : ℕ → ℕ) (t : Tables) (h : History) (tied : Tied floor (vi
     mask-at = row-at t q maskField (omega arith)
 
     -- B: the keys arrived
-    keys-fair : stateIn c ≡ askingKeys → AskingKeys (h .extra) (world (view t) h) (floor q) q c (h .doing q) → FairReply floor h q i (onKeys w q i t)
+    keys-fair : stateIn c ≡ askingKeys → AskingKeys (h .extra) (world (view t) h) (floor q) q c (h .doing q) → FairReply floor h (stepOf t) q i (onKeys w q i t)
     unfolding onKeys
     keys-fair state a =
         let at = at-head (a .others) in
@@ -213,7 +215,7 @@ module _ (floor : ℕ → ℕ) (t : Tables) (h : History) (tied : Tied floor (vi
         moved-fair (putClientWord (putClientWord (t .clients) q tagField (w .number - 1)) q stateField askingSetpoints) (sentGets q (maskOf t q) (t .log) (w .number - 1) (serversOf t) (emptied q i t)) (t .writes) (t .reads) (nothingShown arrival.Next)
         (two-words tagField (w .number - 1) stateField askingSetpoints (omega arith) (omega arith)) (two-others tagField (w .number - 1) stateField askingSetpoints (omega arith) (omega arith))
         (sent-links q gets (λ j. at-word-fits _) (maskOf t q) (serversOf t) (omega (arith, few t q ready)) bound (emptied q i t) long (empty at) ∙ ap (λ (m : ℕ). sends m gets) (sym mask-at))
-        (λ r d. sent-others q gets (λ j. at-word-fits _) (maskOf t q) (serversOf t) (omega (arith, few t q ready)) bound (emptied q i t) long (empty at) r d ∙ gone-others r d) (λ z. omega arith)
+        (λ r d. sent-others q gets (λ j. at-word-fits _) (maskOf t q) (serversOf t) (omega (arith, few t q ready)) bound (emptied q i t) long (empty at) r d ∙ gone-others r d) (λ z. omega arith) refl
         (keys-kept floor (view t) h tied (few t q ready) q (in-range t q ready) (stepOf t + 1) (writesOf t) (readsOf t) w there a (changed (changed (c .row) tagField (w .number - 1)) stateField askingSetpoints)
         (changed-same (changed (c .row) tagField (w .number - 1)) stateField askingSetpoints)
         (left-by tagField (w .number - 1) stateField askingSetpoints countField (λ e. omega arith) (λ e. omega arith))
@@ -246,13 +248,13 @@ module _ (floor : ℕ → ℕ) (t : Tables) (h : History) (tied : Tied floor (vi
             ∙ by-equal j i (λ e. rw e (changed-same (c .link) i Nothing)) (λ d. changed-other (c .link) i Nothing j d ∙ a .others j (omega arith))
 
     -- a setpoint arrived
-    got-fair : stateIn c ≡ askingSetpoints → Getting (h .extra) (world (view t) h) (floor q) q c (h .doing q) → FairReply floor h q i (onGot w q i t)
+    got-fair : stateIn c ≡ askingSetpoints → Getting (h .extra) (world (view t) h) (floor q) q c (h .doing q) → FairReply floor h (stepOf t) q i (onGot w q i t)
     unfolding onGot
     got-fair state a =
         by-test (pending (emptied q i t) q)
         (λ b. rw b (
         moved-fair (gotSetpoint w q i t) (emptied q i t) (t .writes) (t .reads) (nothingShown arrival.Wait)
-        (one-word (setpointsField + i) (w .number) (omega arith)) (one-others (setpointsField + i) (w .number) (omega arith)) gone-links gone-others (λ z. omega arith)
+        (one-word (setpointsField + i) (w .number) (omega arith)) (one-others (setpointsField + i) (w .number) (omega arith)) gone-links gone-others (λ z. omega arith) refl
         (got-wait-kept floor (view t) h tied (few t q ready) q (in-range t q ready) (stepOf t + 1) (writesOf t) (readsOf t) i hi w link a row
         (other-word countField (λ e. omega arith)) (other-word maskField (λ e. omega arith)) (other-word tagField (λ e. omega arith))
         (changed-same (c .row) (setpointsField + i) (w .number)) (λ j d. other-word (setpointsField + j) (λ e. d (omega arith)))
@@ -262,7 +264,7 @@ module _ (floor : ℕ → ℕ) (t : Tables) (h : History) (tied : Tied floor (vi
         (λ b. rw (b, ← row-at t q tagField (omega arith)) (
         moved-fair (putClientWord (gotSetpoint w q i t) q stateField idle) (emptied q i t) (t .writes)
         (endedRecord (recordOf t q) (nextStep t) (taggedRecord (recordOf t q) (tagIn c) (t .reads))) (readShown (tagIn c) (gotSetpoint w q i t) q (maskOf t q))
-        (two-words (setpointsField + i) (w .number) stateField idle (omega arith) (omega arith)) (two-others (setpointsField + i) (w .number) stateField idle (omega arith) (omega arith)) gone-links gone-others (λ z. omega arith)
+        (two-words (setpointsField + i) (w .number) stateField idle (omega arith) (omega arith)) (two-others (setpointsField + i) (w .number) stateField idle (omega arith) (omega arith)) gone-links gone-others (λ z. omega arith) refl
         (got-end-kept floor (view t) h tied (few t q ready) q (in-range t q ready) (stepOf t + 1) (writesOf t) (readsOf t) i hi w link a ended
         (ended-word countField (λ e. omega arith) (λ e. omega arith)) (ended-word maskField (λ e. omega arith) (λ e. omega arith)) (ended-word tagField (λ e. omega arith) (λ e. omega arith))
         (changed-other row stateField idle (setpointsField + i) (λ e. omega arith) ∙ changed-same (c .row) (setpointsField + i) (w .number)) (λ j d. ended-word (setpointsField + j) (λ e. d (omega arith)) (λ e. omega arith))
@@ -292,13 +294,13 @@ module _ (floor : ℕ → ℕ) (t : Tables) (h : History) (tied : Tied floor (vi
             ∙ sym (changed-other row stateField idle (setpointsField + j) (λ e. omega arith))
 
     -- C: how much a server or the head holds arrived
-    all-fair : stateIn c ≡ askingAll → AskingAll (h .extra) (world (view t) h) (floor q) q c (h .doing q) → FairReply floor h q i (onAll w q i t)
+    all-fair : stateIn c ≡ askingAll → AskingAll (h .extra) (world (view t) h) (floor q) q c (h .doing q) → FairReply floor h (stepOf t) q i (onAll w q i t)
     unfolding onAll within
     all-fair state a =
         by-test (pending (emptied q i t) q)
         (λ b. rw b (
         moved-fair told (emptied q i t) (t .writes) (t .reads) (nothingShown arrival.Wait)
-        told-row (one-others (receivedField + i) (w .number) (omega arith)) gone-links gone-others (λ z. omega arith)
+        told-row (one-others (receivedField + i) (w .number) (omega arith)) gone-links gone-others (λ z. omega arith) refl
         (told-wait-kept floor (view t) h tied (few t q ready) q (in-range t q ready) (stepOf t + 1) (writesOf t) (readsOf t) i hi w link a row (other-word maskField (λ e. omega arith)) new old
         (come b) (other-word stateField (λ e. omega arith) ∙ state) (other-word countField (λ e. omega arith)))
         (gone-budget row askingAll (other-word stateField (λ e. omega arith) ∙ state) (λ e. omega arith) (λ e. omega arith) (λ e. omega arith))
@@ -306,7 +308,7 @@ module _ (floor : ℕ → ℕ) (t : Tables) (h : History) (tied : Tied floor (vi
         (λ b. rw b (
         moved-fair (putClientWord (concluded tag told q t) q stateField idle) (emptied q i t) (t .writes)
         (endedRecord (recordOf t q) (nextStep t) (taggedRecord (recordOf t q) tag (t .reads))) (readShown tag (concluded tag told q t) q (maskOf t q))
-        refl ended-others gone-links gone-others (λ z. omega arith)
+        refl ended-others gone-links gone-others (λ z. omega arith) refl
         (told-end-kept floor (view t) h tied (few t q ready) q (in-range t q ready) (stepOf t + 1) (writesOf t) (readsOf t) i hi w link a row (other-word maskField (λ e. omega arith)) new old
         (none-left b) (receivedIn told q) same (rowOf (putClientWord (concluded tag told q t) q stateField idle) q) ended-state ended-count (shownSetpoints (concluded tag told q t) q (maskOf t q)) shows)
         (gone-budget (rowOf (putClientWord (concluded tag told q t) q stateField idle) q) idle ended-state (λ e. omega arith) (λ e. omega arith) (λ e. omega arith))
@@ -394,20 +396,20 @@ module _ (floor : ℕ → ℕ) (t : Tables) (h : History) (tied : Tied floor (vi
             ∙ concluded-word (setpointsField + j) (omega (arith, few t q ready)) (λ e. omega arith)
             ∙ loop-there q setpointsField (serversOf t) room (hasServer (maskOf t q)) value told j told-has l (rw mask-at at m)
 
-    in-activity : Activity (h .extra) (world (view t) h) (floor q) q c (h .doing q) → FairReply floor h q i (replyDelivered q i t)
+    in-activity : Activity (h .extra) (world (view t) h) (floor q) q c (h .doing q) → FairReply floor h (stepOf t) q i (replyDelivered q i t)
     in-activity (at-rest e a) = not-empty (Reply w) (omega arith) (sym link ∙ a .links i hi)
-    in-activity (at-writing e a) = subst (FairReply floor h q i) (sym (in-state rules.writing e ∙ is-done)) (done-fair e a)
-    in-activity (at-entering e a) = subst (FairReply floor h q i) (sym (in-state entering e ∙ is-entered)) (entered-fair a)
-    in-activity (at-keys e a) = subst (FairReply floor h q i) (sym (in-state askingKeys e ∙ is-keys)) (keys-fair e a)
-    in-activity (at-getting e a) = subst (FairReply floor h q i) (sym (in-state askingSetpoints e ∙ is-got)) (got-fair e a)
-    in-activity (at-all e a) = subst (FairReply floor h q i) (sym (in-state askingAll e ∙ is-all)) (all-fair e a)
+    in-activity (at-writing e a) = subst (FairReply floor h (stepOf t) q i) (sym (in-state rules.writing e ∙ is-done)) (done-fair e a)
+    in-activity (at-entering e a) = subst (FairReply floor h (stepOf t) q i) (sym (in-state entering e ∙ is-entered)) (entered-fair a)
+    in-activity (at-keys e a) = subst (FairReply floor h (stepOf t) q i) (sym (in-state askingKeys e ∙ is-keys)) (keys-fair e a)
+    in-activity (at-getting e a) = subst (FairReply floor h (stepOf t) q i) (sym (in-state askingSetpoints e ∙ is-got)) (got-fair e a)
+    in-activity (at-all e a) = subst (FairReply floor h (stepOf t) q i) (sym (in-state askingAll e ∙ is-all)) (all-fair e a)
 
-  by-content : (x : Content) → contentAt t q i ≡ x → FairReply floor h q i (onReply x q i t)
+  by-content : (x : Content) → contentAt t q i ≡ x → FairReply floor h (stepOf t) q i (onReply x q i t)
   unfolding replyDelivered
   by-content Nothing e = refused-reply floor t h tied budget q i 9 (λ z. omega arith)
   by-content (Request w) e = refused-reply floor t h tied budget q i 9 (λ z. omega arith)
   by-content (Reply w) e = rw e at (in-activity w e (tied .clients q (in-range t q ready) .activity))
 
-  pub reply-fair : FairReply floor h q i (replyDelivered q i t)
+  pub reply-fair : FairReply floor h (stepOf t) q i (replyDelivered q i t)
   unfolding replyDelivered
   reply-fair = by-content (contentAt t q i) refl

@@ -20,14 +20,14 @@ use Rattle.tables.specs.declared.links.Content.the-variants.{Nothing, Request, 
 use Rattle.server.specs.Held.{appended, firstBearing}
 use Rattle.coordinator.specs.Log as log
 use Rattle.rules.specs.Answers.{Left, left}
-use Rattle.rules.specs.Common.{entering, askingKeys, askingSetpoints, askingAll, coordinator, reply, counted, taggedRecord}
+use Rattle.rules.specs.Common.{entering, askingKeys, askingSetpoints, askingAll, coordinator, reply, taggedRecord}
 use Rattle.rules.specs.Common as rules
 use Rattle.rules.specs.Request.{refused, onSet, onEnter, onWhichKeys, onGet, onGetAll, onRequestIn, onRequest, requestDelivered}
 use Rattle.rules.specs.declared.Answer.the-variants.{Ok}
 use Rattle.serial.specs.Steps.{requested}
 use Rattle.serial.specs.History.{changed, History}
 use Rattle.serial.specs.Claim.{IsReply, LeavesReply}
-use Rattle.serial.specs.Consequences.{numberOf}
+use Rattle.serial.specs.Consequences.{numberOf, counted}
 use Rattle.serial.proofs.Press.{Shared, renumbered, Press, pressOf, stateIn, sharedOf, view, weight, world}
 use Rattle.serial.proofs.View.{link-put, link-put-other, view-is, sharedIn, shared-step, shared-held, shared-entries}
 use Rattle.serial.proofs.Links.{come-changed}
@@ -40,20 +40,21 @@ use Rattle.serial.proofs.Spending.{further, set-budget, enter-budget}
 use Rattle.serial.proofs.Requests.{versionMore, entryMore, withLink, set-kept, enter-kept, which-keys-kept, get-kept, get-all-kept}
 
 -- the step keeps the tie and the budget, pays what it owes, leaves the reply on the link, and finds room
-pub record FairRequest (floor : ℕ → ℕ) (h : History) (q i : ℕ) (x : Left) : Type 0 where
+pub record FairRequest (floor : ℕ → ℕ) (h : History) (n q i : ℕ) (x : Left) : Type 0 where
   pub kept : Kept floor h (requested q i (x .answer)) (view (x .tables))
   pub budget : Budget (view (x .tables))
   pub answers : LeavesReply (x .answer) (contentAt (x .tables) q i)
   pub room : numberOf (x .answer) ≡ 8 → ⊥
+  pub step : stepOf (x .tables) ≡ counted (x .answer) n
 
 module _ (floor : ℕ → ℕ) (t : Tables) (h : History) (tied : Tied floor (view t) h) (budget : Budget (view t)) (q i : ℕ) where
-  pub refused-fair : (n : ℕ) → (n ≡ 8 → ⊥) → FairRequest floor h q i (refused n t)
-  refused-fair n d = record { kept = (tt, passed-tied floor (view t) h tied); budget = budget; answers = tt; room = d }
+  pub refused-fair : (n : ℕ) → (n ≡ 8 → ⊥) → FairRequest floor h (stepOf t) q i (refused n t)
+  refused-fair n d = record { kept = (tt, passed-tied floor (view t) h tied); budget = budget; answers = tt; room = d; step = refl }
 
 module _ (floor : ℕ → ℕ) (t : Tables) (h : History) (tied : Tied floor (view t) h) (budget : Budget (view t)) (q : ℕ) (ready : Ready t q) (i : ℕ) (hi : i < targets) where
   -- the tables when a reply has taken the request's place
   abbrev replied : List ℕ → List ℕ → List ℕ → List ℕ → List ℕ → ℕ → Tables
-  replied counts keys values log writes n = tablesOf (counted counts) (t .clients) (putLink (t .links) q i (reply n)) keys values log writes (t .reads)
+  replied counts keys values log writes n = tablesOf (rules.counted counts) (t .clients) (putLink (t .links) q i (reply n)) keys values log writes (t .reads)
 
   abbrev next : Shared → Shared
   next s = renumbered (stepOf t + 1) (s .writes) (s .reads) s
@@ -74,12 +75,13 @@ module _ (floor : ℕ → ℕ) (t : Tables) (h : History) (tied : Tied floor (vi
     replied-reply : contentAt (replied counts keys values log writes n) q i ≡ reply n
     replied-reply = link-same (t .links) q i (reply n) (has-link t q ready i hi) (record { count = omega arith; client = omega arith })
 
-    replied-fair : (s : Shared) → sharedIn counts keys values log ≡ s → Kept floor h (requested q i Ok) (repliedPress s n) → Budget (repliedPress s n) → FairRequest floor h q i (left Ok (replied counts keys values log writes n))
+    replied-fair : (s : Shared) → sharedIn counts keys values log ≡ s → Kept floor h (requested q i Ok) (repliedPress s n) → Budget (repliedPress s n) → FairRequest floor h (stepOf t) q i (left Ok (replied counts keys values log writes n))
     replied-fair s e k b = record {
       kept = subst (λ (v : Press). Kept floor h (requested q i Ok) v) (sym (replied-view s e)) k;
       budget = subst Budget (sym (replied-view s e)) b;
       answers = subst IsReply (sym replied-reply) tt;
       room = λ z. omega arith;
+      step = ap (λ (v : Press). v .shared .step) (replied-view s e) ∙ add-one (stepOf t);
     }
 
   counts-long : countWords ≤ length (t .counts)
@@ -123,7 +125,7 @@ module _ (floor : ℕ → ℕ) (t : Tables) (h : History) (tied : Tied floor (vi
     is-get-all = refl
 
     -- a set request finds room
-    set-fair : stateIn (view t .client q) ≡ rules.writing → Writing (h .extra) (world (view t) h) (floor q) q (view t .client q) (h .doing q) → FairRequest floor h q i (onSet w q i t)
+    set-fair : stateIn (view t .client q) ≡ rules.writing → Writing (h .extra) (world (view t) h) (floor q) q (view t .client q) (h .doing q) → FairRequest floor h (stepOf t) q i (onSet w q i t)
     unfolding onSet appended
     set-fair state a =
         let waiting : waits i (view t .client q) ≡ 1 = rw (state, link) in
@@ -139,7 +141,7 @@ module _ (floor : ℕ → ℕ) (t : Tables) (h : History) (tied : Tied floor (vi
         (set-budget (view t) budget q (in-range t q ready) i hi w link state (keyWord (w .key)) (w .number)))
 
     -- an entry finds room
-    enter-fair : i ≡ coordinator → stateIn (view t .client q) ≡ entering → (a : Entering (h .extra) (world (view t) h) (floor q) q (view t .client q) (h .doing q)) → FairRequest floor h q i (onEnter w q i t)
+    enter-fair : i ≡ coordinator → stateIn (view t .client q) ≡ entering → (a : Entering (h .extra) (world (view t) h) (floor q) q (view t .client q) (h .doing q)) → FairRequest floor h (stepOf t) q i (onEnter w q i t)
     unfolding onEnter log.entered
     enter-fair at state a =
         let there : view t .client q .link coordinator ≡ Request w = ap (view t .client q .link) (sym at) ∙ link in
@@ -155,7 +157,7 @@ module _ (floor : ℕ → ℕ) (t : Tables) (h : History) (tied : Tied floor (vi
         (rw at (enter-budget (view t) budget q (in-range t q ready) w there state (w .key) (w .number) (entriesOf t))))
 
     -- the head or a server tells how much it holds
-    which-fair : i ≡ coordinator → stateIn (view t .client q) ≡ askingKeys → AskingKeys (h .extra) (world (view t) h) (floor q) q (view t .client q) (h .doing q) → FairRequest floor h q i (onWhichKeys q i t)
+    which-fair : i ≡ coordinator → stateIn (view t .client q) ≡ askingKeys → AskingKeys (h .extra) (world (view t) h) (floor q) q (view t .client q) (h .doing q) → FairRequest floor h (stepOf t) q i (onWhichKeys q i t)
     unfolding onWhichKeys
     which-fair at state a =
         let there : view t .client q .link coordinator ≡ Request w = ap (view t .client q .link) (sym at) ∙ link in
@@ -163,7 +165,7 @@ module _ (floor : ℕ → ℕ) (t : Tables) (h : History) (tied : Tied floor (vi
         (rw at (which-keys-kept floor (view t) h tied (few t q ready) q (in-range t q ready) (stepOf t + 1) (writesOf t) (readsOf t) w there state a))
         (read-further (entriesOf t) w link askingKeys state (λ e. omega arith) (λ e. omega arith))
 
-    all-fair : stateIn (view t .client q) ≡ askingAll → AskingAll (h .extra) (world (view t) h) (floor q) q (view t .client q) (h .doing q) → FairRequest floor h q i (onGetAll q i t)
+    all-fair : stateIn (view t .client q) ≡ askingAll → AskingAll (h .extra) (world (view t) h) (floor q) q (view t .client q) (h .doing q) → FairRequest floor h (stepOf t) q i (onGetAll q i t)
     unfolding onGetAll
     all-fair state a =
         replied-fair (t .counts) (t .keys) (t .values) (t .log) (t .writes) (cond (eqb i coordinator) (entriesOf t) (heldOf t i)) counts-long refl (sharedOf t) refl
@@ -171,7 +173,7 @@ module _ (floor : ℕ → ℕ) (t : Tables) (h : History) (tied : Tied floor (vi
         (read-further _ w link askingAll state (λ e. omega arith) (λ e. omega arith))
 
     -- a get request finds its key
-    get-fair : stateIn (view t .client q) ≡ askingSetpoints → Getting (h .extra) (world (view t) h) (floor q) q (view t .client q) (h .doing q) → FairRequest floor h q i (onGet w q i t)
+    get-fair : stateIn (view t .client q) ≡ askingSetpoints → Getting (h .extra) (world (view t) h) (floor q) q (view t .client q) (h .doing q) → FairRequest floor h (stepOf t) q i (onGet w q i t)
     unfolding onGet
     get-fair state a =
         let v = world (view t) h .value (view t .client q .row 3) i in
@@ -185,20 +187,20 @@ module _ (floor : ℕ → ℕ) (t : Tables) (h : History) (tied : Tied floor (vi
     at-head : ((j : ℕ) → j < coordinator → view t .client q .link j ≡ Nothing) → i ≡ coordinator
     at-head others = by-equal i coordinator (λ e. e) (λ d. not-empty (Request w) (omega arith) (sym link ∙ others i (omega arith)))
 
-    in-activity : Activity (h .extra) (world (view t) h) (floor q) q (view t .client q) (h .doing q) → FairRequest floor h q i (requestDelivered q i t)
+    in-activity : Activity (h .extra) (world (view t) h) (floor q) q (view t .client q) (h .doing q) → FairRequest floor h (stepOf t) q i (requestDelivered q i t)
     in-activity (at-rest e a) = not-empty (Request w) (omega arith) (sym link ∙ a .links i hi)
-    in-activity (at-writing e a) = subst (FairRequest floor h q i) (sym (in-state rules.writing e ∙ is-set)) (set-fair e a)
-    in-activity (at-entering e a) = subst (FairRequest floor h q i) (sym (in-state entering e ∙ is-enter)) (enter-fair (at-head (a .others)) e a)
-    in-activity (at-keys e a) = subst (FairRequest floor h q i) (sym (in-state askingKeys e ∙ is-which)) (which-fair (at-head (a .others)) e a)
-    in-activity (at-getting e a) = subst (FairRequest floor h q i) (sym (in-state askingSetpoints e ∙ is-get)) (get-fair e a)
-    in-activity (at-all e a) = subst (FairRequest floor h q i) (sym (in-state askingAll e ∙ is-get-all)) (all-fair e a)
+    in-activity (at-writing e a) = subst (FairRequest floor h (stepOf t) q i) (sym (in-state rules.writing e ∙ is-set)) (set-fair e a)
+    in-activity (at-entering e a) = subst (FairRequest floor h (stepOf t) q i) (sym (in-state entering e ∙ is-enter)) (enter-fair (at-head (a .others)) e a)
+    in-activity (at-keys e a) = subst (FairRequest floor h (stepOf t) q i) (sym (in-state askingKeys e ∙ is-which)) (which-fair (at-head (a .others)) e a)
+    in-activity (at-getting e a) = subst (FairRequest floor h (stepOf t) q i) (sym (in-state askingSetpoints e ∙ is-get)) (get-fair e a)
+    in-activity (at-all e a) = subst (FairRequest floor h (stepOf t) q i) (sym (in-state askingAll e ∙ is-get-all)) (all-fair e a)
 
-  by-content : (c : Content) → contentAt t q i ≡ c → FairRequest floor h q i (onRequest c q i t)
+  by-content : (c : Content) → contentAt t q i ≡ c → FairRequest floor h (stepOf t) q i (onRequest c q i t)
   unfolding requestDelivered
   by-content Nothing e = refused-fair floor t h tied budget q i 9 (λ z. omega arith)
   by-content (Request w) e = rw e at (in-activity w e (tied .clients q (in-range t q ready) .activity))
   by-content (Reply w) e = refused-fair floor t h tied budget q i 9 (λ z. omega arith)
 
-  pub request-fair : FairRequest floor h q i (requestDelivered q i t)
+  pub request-fair : FairRequest floor h (stepOf t) q i (requestDelivered q i t)
   unfolding requestDelivered
   request-fair = by-content (contentAt t q i) refl
