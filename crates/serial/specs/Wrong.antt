@@ -142,60 +142,76 @@ writeOne = writeOf 0 1 (1800 ∷ 45 ∷ []) 1 0 (some 4)
 abbrev writeBoth : Transaction
 writeBoth = writeOf 0 3 (1800 ∷ 45 ∷ []) 1 0 (some 4)
 
--- what each of them tells
-pub told-all :
-    (row (toldBy openingAlways) ≡ readOf 1 3 first 0 5 11 6 ∷ writeOne ∷ [])
-    × (toldBy waitingForEver .doing 1 ≡ reading 3 5 6)
-    × (row (toldBy endingEarly) ≡ writeOne ∷ readOf 1 3 (1800 ∷ 45 ∷ []) 1 5 9 4 ∷ [])
-    × (toldBy waitingForEver .extra ≡ 2)
-    × (toldBy endingEarly .extra ≡ 2)
-    × (toldBy inventing .said 1 ≡ some 2)
-    × (toldBy inventing .tags ≡ 1)
-    × (row (told hurrying 3 hasty) ≡ readOf 1 3 (1200 ∷ 30 ∷ replicate 14 0) 0 5 11 6 ∷ writeBoth ∷ [])
-    × (contentAt (play (beginning-write 0 1 (1800 ∷ 45 ∷ [])) (open′ 2 2 2 first zeros .tables) .tables) 0 0 ≡ rules.request (keyOf 1 0) 1800)
-    × (open′ 2 2 2 first zeros .answer ≡ Ok)
-    × (open′ 3 2 2 first zeros .answer ≡ Ok)
-unfolding played told orderly hasty zeros changed readsOf rowTo open′ beginWrite beginRead deliverRequest deliverReply openRefusal writeRefusal readRefusal deliveryRefusal longEnough pressFits turns sound scalarsSound keyInRange serverSound entrySound logSound stateAllowed uses requestSound replySound contentSound linkSound receivedSound clientSound writeSound readSound openSound recordsSound allBelow anyBelow sumBelow linkAt putLink firstFrom lastBelow appended entered begunWrite begunRead onSet onEnter onWhichKeys onGet onGetAll onRequestIn requestDelivered onSetDone onEntered onKeys onGot onAll onReplyIn replyDelivered
-told-all = (refl, refl, refl, refl, refl, refl, refl, refl, refl, refl, refl)
+-- What each of them tells of its list, computed.
+pub record Computed : Type 0 where
+  pub acceptedB : open′ 2 2 2 first zeros .answer ≡ Ok
+  pub acceptedC : open′ 3 2 2 first zeros .answer ≡ Ok
+  pub openingRow : row (toldBy openingAlways) ≡ readOf 1 3 first 0 5 11 6 ∷ writeOne ∷ []
+  pub waitingDoing : toldBy waitingForEver .doing 1 ≡ reading 3 5 6
+  pub waitingExtra : toldBy waitingForEver .extra ≡ 2
+  pub earlyRow : row (toldBy endingEarly) ≡ writeOne ∷ readOf 1 3 (1800 ∷ 45 ∷ []) 1 5 9 4 ∷ []
+  pub earlyExtra : toldBy endingEarly .extra ≡ 2
+  pub inventedTag : toldBy inventing .said 1 ≡ some 2
+  pub inventedTags : toldBy inventing .tags ≡ 1
+  pub leftThere : contentAt (play (beginning-write 0 1 (1800 ∷ 45 ∷ [])) (open′ 2 2 2 first zeros .tables) .tables) 0 0 ≡ rules.request (keyOf 1 0) 1800
+  pub hastyRow : row (told hurrying 3 hasty) ≡ readOf 1 3 (1200 ∷ 30 ∷ replicate 14 0) 0 5 11 6 ∷ writeBoth ∷ []
 
+pub computed : Computed
+unfolding played told orderly hasty zeros changed readsOf rowTo open′ beginWrite beginRead deliverRequest deliverReply openRefusal writeRefusal readRefusal deliveryRefusal longEnough pressFits turns sound scalarsSound keyInRange serverSound entrySound logSound stateAllowed uses requestSound replySound contentSound linkSound receivedSound clientSound writeSound readSound openSound recordsSound allBelow anyBelow sumBelow linkAt putLink firstFrom lastBelow appended entered begunWrite begunRead onSet onEnter onWhichKeys onGet onGetAll onRequestIn requestDelivered onSetDone onEntered onKeys onGot onAll onReplyIn replyDelivered
+computed =
+    record {
+      acceptedB = refl;
+      acceptedC = refl;
+      openingRow = refl;
+      waitingDoing = refl;
+      waitingExtra = refl;
+      earlyRow = refl;
+      earlyExtra = refl;
+      inventedTag = refl;
+      inventedTags = refl;
+      leftThere = refl;
+      hastyRow = refl;
+    }
+
+-- the claim that demand 3 makes of such a machine and list
 claim : (machine : Machine) (method : ℕ) (steps : List Step) → Demand3 machine → open′ method 2 2 first zeros .answer ≡ Ok → Claim (played machine method steps) (told machine method steps)
 unfolding told played
 claim machine method steps d e = d method 2 2 first zeros e steps
 
 claimBy : (f : Arrival → List ℕ → Delivered) → Demand3 (answering f) → Claim (played (answering f) 2 orderly) (toldBy f)
-claimBy f d = claim (answering f) 2 orderly d (told-all .9)
+claimBy f d = claim (answering f) 2 orderly d (computed .acceptedB)
 
 pub not-opening-always : Demand3 (answering openingAlways) → ⊥
 not-opening-always d =
-    let real : RealTime (readOf 1 3 first 0 5 11 6 ∷ writeOne ∷ []) = subst RealTime (told-all .0) (claimBy openingAlways d .realTime) in
+    let real : RealTime (readOf 1 3 first 0 5 11 6 ∷ writeOne ∷ []) = subst RealTime (computed .openingRow) (claimBy openingAlways d .realTime) in
     let z : 1 < 0 = real 1 0 4 (omega arith) (omega arith) refl (omega arith) in
     omega arith
 
 pub not-waiting : Demand3 (answering waitingForEver) → ⊥
 unfolding sumBelow
 not-waiting d =
-    let z : Unfinished 2 (reading 3 5 6) = rw (told-all .3, told-all .1) at (claimBy waitingForEver d .unfinished 1) in
+    let z : Unfinished 2 (reading 3 5 6) = rw (computed .waitingExtra, computed .waitingDoing) at (claimBy waitingForEver d .unfinished 1) in
     omega arith
 
 pub not-early : Demand3 (answering endingEarly) → ⊥
 unfolding sumBelow
 not-early d =
-    let ends = subst (λ (n : ℕ). Each (EndsAt n) (row (toldBy endingEarly))) (told-all .4) (claimBy endingEarly d .ends) in
-    let each : Each (EndsAt 2) (writeOne ∷ readOf 1 3 (1800 ∷ 45 ∷ []) 1 5 9 4 ∷ []) = subst (Each (EndsAt 2)) (told-all .2) ends in
+    let ends = subst (λ (n : ℕ). Each (EndsAt n) (row (toldBy endingEarly))) (computed .earlyExtra) (claimBy endingEarly d .ends) in
+    let each : Each (EndsAt 2) (writeOne ∷ readOf 1 3 (1800 ∷ 45 ∷ []) 1 5 9 4 ∷ []) = subst (Each (EndsAt 2)) (computed .earlyRow) ends in
     let z : _≡_ {A = ℕ} 4 6 = each .1 .0 refl in
     omega arith
 
 pub not-invented : Demand3 (answering inventing) → ⊥
 not-invented d =
-    let z : _≡_ {A = ℕ} 2 1 = claimBy inventing d .tags 1 2 (omega arith) (rw (told-all .6) (omega arith)) (told-all .5) in
+    let z : _≡_ {A = ℕ} 2 1 = claimBy inventing d .tags 1 2 (omega arith) (rw (computed .inventedTags) (omega arith)) (computed .inventedTag) in
     omega arith
 
 pub not-unanswered : Demand3 unanswering → ⊥
 unfolding played orderly
-not-unanswered d = subst IsReply (told-all .8) (claim unanswering 2 orderly d (told-all .9) .answered .1 .0)
+not-unanswered d = subst IsReply (computed .leftThere) (claim unanswering 2 orderly d (computed .acceptedB) .answered .1 .0)
 
 pub not-hurried : Demand3 hurrying → ⊥
 not-hurried d =
-    let real : RealTime (readOf 1 3 (1200 ∷ 30 ∷ replicate 14 0) 0 5 11 6 ∷ writeBoth ∷ []) = subst RealTime (told-all .7) (claim hurrying 3 hasty d (told-all .10) .realTime) in
+    let real : RealTime (readOf 1 3 (1200 ∷ 30 ∷ replicate 14 0) 0 5 11 6 ∷ writeBoth ∷ []) = subst RealTime (computed .hastyRow) (claim hurrying 3 hasty d (computed .acceptedC) .realTime) in
     let z : 1 < 0 = real 1 0 4 (omega arith) (omega arith) refl (omega arith) in
     omega arith
