@@ -14,7 +14,7 @@ use Rattle.serial.specs.Steps.{Played}
 use Rattle.serial.specs.History.{Transaction, noWrite, Doing, nothing, writing, tagged, reading, History}
 use Rattle.serial.specs.Row.{Each, readsOf, rowTo, row, walked, Walk, at, RealTime}
 use Rattle.serial.specs.Claim.{EndsAt, Unfinished, Answers, Claim}
-use Rattle.serial.proofs.Lists.{Pairs, each-append, each-map, each-at, pairs-append, pairs-map, pairs-at, OfTag, reads-each, reads-only, reads-pairs}
+use Rattle.serial.proofs.Lists.{Pairs, each-append, each-map, each-at, pairs-append, pairs-map, pairs-at, OfTag, reads-each, reads-only, reads-pairs, row-complete}
 use Rattle.serial.proofs.Owed.{valueAt, valueIn}
 
 -- A transaction in time. `tagsAt c` is the number of WRITEs tagged before step c.
@@ -175,10 +175,14 @@ module _ (tagsAt floor : ℕ → ℕ) (h : History) (ok : HistoryOk tagsAt floor
       each-append (EndsAt (h .extra)) (rowTo h tag) _ (row-ends tag (omega arith))
       (λ e. absurd (not-both (ok .writes (suc tag) (omega arith) l .kind) e), reads-only (EndsAt (h .extra)) (suc tag) (h .reads) (ok .ends))
 
+  whole : Each (λ x. x .tag ≤ h .tags) (h .reads)
+  whole = each-map (Shown h) (λ x. x .tag ≤ h .tags) (λ x q. q .1) (h .reads) (ok .shown)
+
   pub claimed : (steps : List Played) → Each Answers steps → Claim steps h
   claimed steps answered = record {
     walk = walk-to (h .tags) (omega arith) .0;
-    whole = each-map (Shown h) (λ x. x .tag ≤ h .tags) (λ x q. q .1) (h .reads) (ok .shown);
+    whole = whole;
+    complete = row-complete h whole;
     realTime = real-time;
     answered = answered;
     ends = row-ends (h .tags) (omega arith);

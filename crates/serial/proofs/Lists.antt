@@ -1,14 +1,16 @@
 -- What holds of each of a list, and of each two.
-use Prim.Native.Nat.{ℕ, zero, suc, _<_}
-use mathlib.Core.Path.{_≡_}
+use Prim.Native.Nat.{ℕ, zero, suc, _+_, _≤_, _<_}
+use mathlib.Core.Path.{_≡_, refl, sym, ap, _∙_}
+use mathlib.Core.Bool.{cond}
 use mathlib.Core.List.{List, [], _∷_, _++_}
+use native.Mathlib.Nat.{zero-add}
 use native.Mathlib.Omega.{arith}
-use lib.ListN.{length, getD}
-use lib.Dec.{eqb}
-use borrow.Author.Tests.{eqb-true}
-use Rattle.ranges.specs.Tests.{by-test}
-use Rattle.serial.specs.History.{Transaction}
-use Rattle.serial.specs.Row.{Each, readsOf}
+use lib.ListN.{length, getD, length-append}
+use lib.Dec.{eqb, leb}
+use borrow.Author.Tests.{eqb-true, eq-eqb, ne-eqb, leb-true, leb-false, le-leb, lt-leb}
+use Rattle.ranges.specs.Tests.{by-equal, by-test}
+use Rattle.serial.specs.History.{Transaction, History}
+use Rattle.serial.specs.Row.{Each, readsOf, rowTo, row}
 
 module _ {A : Type 0} where
   -- each with every one behind it
@@ -67,3 +69,42 @@ reads-pairs R tag (x ∷ xs) a =
     by-test (eqb (x .tag) tag)
     (λ e. rw e (reads-only (R x) tag xs (a .0), rest))
     (λ e. rw e rest)
+
+-- how many have a tag up to n
+abbrev upTo : ℕ → List Transaction → ℕ
+upTo n [] = 0
+upTo n (x ∷ xs) = cond (leb (x .tag) n) (suc (upTo n xs)) (upTo n xs)
+
+up-none : (xs : List Transaction) → upTo 0 xs ≡ length (readsOf 0 xs)
+unfolding readsOf
+up-none [] = refl
+up-none (x ∷ xs) =
+    let rest = up-none xs in
+    by-equal (x .tag) 0
+    (λ e. rw (le-leb (x .tag) 0 (omega arith), eq-eqb (x .tag) 0 e, rest))
+    (λ d. rw (lt-leb (x .tag) 0 (omega arith), ne-eqb (x .tag) 0 d, rest))
+
+up-more : (n : ℕ) (xs : List Transaction) → upTo (suc n) xs ≡ upTo n xs + length (readsOf (suc n) xs)
+unfolding readsOf
+up-more n [] = refl
+up-more n (x ∷ xs) =
+    let rest = up-more n xs in
+    by-test (leb (x .tag) n)
+    (λ b. let l = leb-true (x .tag) n b in rw (b, le-leb (x .tag) (suc n) (omega arith), ne-eqb (x .tag) (suc n) (λ e. omega arith)) (omega arith))
+    (λ b. let l = leb-false (x .tag) n b in
+    by-equal (x .tag) (suc n)
+    (λ e. rw (b, le-leb (x .tag) (suc n) (omega arith), eq-eqb (x .tag) (suc n) e) (omega arith))
+    (λ d. rw (b, lt-leb (x .tag) (suc n) (omega arith), ne-eqb (x .tag) (suc n) d) rest))
+
+up-all : (n : ℕ) (xs : List Transaction) → Each (λ x. x .tag ≤ n) xs → upTo n xs ≡ length xs
+up-all n [] a = refl
+up-all n (x ∷ xs) a = rw (le-leb (x .tag) n (a .0), up-all n xs (a .1))
+
+-- the row up to a tag holds the WRITEs up to it and the READs of tags up to it
+row-length : (h : History) (n : ℕ) → length (rowTo h n) ≡ n + upTo n (h .reads)
+unfolding rowTo
+row-length h zero = sym (up-none (h .reads)) ∙ sym (zero-add (upTo 0 (h .reads)))
+row-length h (suc n) = omega (arith, length-append (rowTo h n) (h .write (suc n) ∷ readsOf (suc n) (h .reads)), row-length h n, up-more n (h .reads))
+
+pub row-complete : (h : History) → Each (λ x. x .tag ≤ h .tags) (h .reads) → length (row h) ≡ h .tags + length (h .reads)
+row-complete h a = row-length h (h .tags) ∙ ap (λ (n : ℕ). h .tags + n) (up-all (h .tags) (h .reads) a)

@@ -4,6 +4,7 @@ use mathlib.Core.Path.{_≡_}
 use mathlib.Core.Bool.{false}
 use mathlib.Core.Option.{some}
 use mathlib.Core.List.{List}
+use lib.ListN.{length}
 use Rattle.keys.specs.Masks.{serversIn}
 use Rattle.tables.specs.declared.links.Content.{Content}
 use Rattle.tables.specs.declared.links.Content.the-variants.{Nothing, Request, Reply}
@@ -52,8 +53,9 @@ Answers x = AnswersAt (x .event) (x .tables)
 pub record Claim (steps : List Played) (h : History) : Type 0 where
   -- every READ shows at each station of its mask exactly the value just then
   pub walk : Walk (h .initial) (row h)
-  -- each finished READ stands in the row: its tag is that of the opening or of a tagged WRITE
+  -- the tagged WRITEs and finished READs stand in one row: a READ's tag is that of the opening or of a tagged WRITE, and the row has as many as there are
   pub whole : Each (λ x. x .tag ≤ h .tags) (h .reads)
+  pub complete : length (row h) ≡ h .tags + length (h .reads)
   -- of any two in the row, one that finished before the other began stands before it
   pub realTime : RealTime (row h)
   -- each accepted request delivery leaves the reply on that link
