@@ -29,10 +29,10 @@ use Rattle.rules.specs.declared.Delivered.{Delivered}
 use Rattle.rules.specs.declared.Arrival.the-variants as arrival
 use Rattle.keeping.specs.Rows.{loop-other, loop-length, loop-there}
 use Rattle.serial.specs.Steps.{replied}
-use Rattle.serial.specs.History.{changed, History}
+use Rattle.serial.specs.History.{changed, Doing, History}
 use Rattle.serial.specs.Consequences.{numberOfArrival, countedArrival}
 use Rattle.serial.proofs.Places.{changed-same, changed-other}
-use Rattle.serial.proofs.Press.{within, renumbered, Client, clientOf, Press, pressOf, stateIn, countIn, maskIn, tagIn, rowOf, linksOf, sharedOf, view, weight, toCome, sends, world}
+use Rattle.serial.proofs.Press.{within, renumbered, Client, clientOf, Press, pressOf, stateIn, countIn, maskIn, tagIn, rowOf, linksOf, sharedOf, view, weight, toCome, sends, World, world}
 use Rattle.serial.proofs.View.{within-at, row-put, row-put-other, link-put, link-put-other, view-is, shared-step}
 use Rattle.serial.proofs.Links.{come-changed, all-empty, sends-come}
 use Rattle.serial.proofs.Budget.{Budget, no-rest}
@@ -64,8 +64,15 @@ module _ (floor : ℕ → ℕ) (t : Tables) (h : History) (tied : Tied floor (vi
   refused-reply n d = record { kept = (tt, passed-tied floor (view t) h tied); budget = budget; room = d; step = refl }
 
 module _ (floor : ℕ → ℕ) (t : Tables) (h : History) (tied : Tied floor (view t) h) (budget : Budget (view t)) (q : ℕ) (ready : Ready t q) (i : ℕ) (hi : i < targets) where
+  abbrev Okay : Arrived → Type 0
+  Okay = FairReply floor h (stepOf t) q i
+
+  -- the client, and what it does
   abbrev c : Client
   c = view t .client q
+
+  abbrev Does : (ℕ → World → ℕ → ℕ → Client → Doing → Type 0) → Type 0
+  Does P = P (h .extra) (world (view t) h) (floor q) q c (h .doing q)
 
   abbrev gone : ℕ → Content
   gone = changed (c .link) i Nothing
@@ -87,7 +94,7 @@ module _ (floor : ℕ → ℕ) (t : Tables) (h : History) (tied : Tied floor (vi
     moved-fair : rowOf clients q ≡ row → ((r : ℕ) → (r ≡ q → ⊥) → rowOf clients r ≡ rowOf (t .clients) r) →
         linksOf links q ≡ link → ((r : ℕ) → (r ≡ q → ⊥) → linksOf links r ≡ linksOf (t .links) r) →
         (numberOfArrival (d .arrival) ≡ 8 → ⊥) → suc (stepOf t) ≡ countedArrival (d .arrival) (stepOf t) →
-        Kept floor h (replied q i d) (movedPress row link) → Budget (movedPress row link) → FairReply floor h (stepOf t) q i (arrived d (movedTo clients links writes reads))
+        Kept floor h (replied q i d) (movedPress row link) → Budget (movedPress row link) → Okay (arrived d (movedTo clients links writes reads))
     moved-fair rows other-rows link-is other-links room step k b =
         let seen = view-is t (movedTo clients links writes reads) q (shared-step (t .counts) (stepOf t + 1) (t .keys) (t .values) (t .log) (ready .sound .long .counts)) rows link-is other-rows other-links in
         record { kept = subst (λ (v : Press). Kept floor h (replied q i d) v) (sym seen) k; budget = subst Budget (sym seen) b; room = room; step = ap (λ (v : Press). v .shared .step) seen ∙ add-one (stepOf t) ∙ step }
@@ -122,26 +129,6 @@ module _ (floor : ℕ → ℕ) (t : Tables) (h : History) (tied : Tied floor (vi
     in-state : (state : ℕ) → stateIn c ≡ state → replyDelivered q i t ≡ onReplyIn state w q i t
     in-state state e = delivered-is ∙ ap (λ (x : ℕ). onReplyIn x w q i t) (sym (row-at t q stateField (omega arith)) ∙ e)
 
-    is-done : onReplyIn rules.writing w q i t ≡ onSetDone q i t
-    unfolding onReplyIn
-    is-done = refl
-
-    is-entered : onReplyIn entering w q i t ≡ onEntered w q i t
-    unfolding onReplyIn
-    is-entered = refl
-
-    is-keys : onReplyIn askingKeys w q i t ≡ onKeys w q i t
-    unfolding onReplyIn
-    is-keys = refl
-
-    is-got : onReplyIn askingSetpoints w q i t ≡ onGot w q i t
-    unfolding onReplyIn
-    is-got = refl
-
-    is-all : onReplyIn askingAll w q i t ≡ onAll w q i t
-    unfolding onReplyIn
-    is-all = refl
-
     -- whether the last reply is in
     come : pending (emptied q i t) q ≡ true → 0 < toCome gone
     come e = subst (λ (l : ℕ → Content). 0 < toCome l) gone-links (pending-come (emptied q i t) q e)
@@ -156,7 +143,7 @@ module _ (floor : ℕ → ℕ) (t : Tables) (h : History) (tied : Tied floor (vi
     gone-budget : (row : ℕ → ℕ) (state : ℕ) → row stateField ≡ state → (state ≡ rules.writing → ⊥) → (state ≡ entering → ⊥) → (state ≡ askingKeys → ⊥) → Budget (movedPress row gone)
     gone-budget row state is a b d = further (view t) budget q (in-range t q ready) (clientOf row gone) state is a b (omega (arith, gone-come, no-rest (clientOf row gone) state is a d))
 
-    done-fair : stateIn c ≡ rules.writing → Writing (h .extra) (world (view t) h) (floor q) q c (h .doing q) → FairReply floor h (stepOf t) q i (onSetDone q i t)
+    done-fair : stateIn c ≡ rules.writing → Does Writing → Okay (onSetDone q i t)
     unfolding onSetDone
     done-fair state a =
         by-test (pending (emptied q i t) q)
@@ -192,7 +179,7 @@ module _ (floor : ℕ → ℕ) (t : Tables) (h : History) (tied : Tied floor (vi
     at-head : ((j : ℕ) → j < coordinator → c .link j ≡ Nothing) → i ≡ coordinator
     at-head others = by-equal i coordinator (λ e. e) (λ d. not-empty (Reply w) (omega arith) (sym link ∙ others i (omega arith)))
 
-    entered-fair : Entering (h .extra) (world (view t) h) (floor q) q c (h .doing q) → FairReply floor h (stepOf t) q i (onEntered w q i t)
+    entered-fair : Does Entering → Okay (onEntered w q i t)
     unfolding onEntered
     entered-fair a =
         let at = at-head (a .others) in
@@ -207,7 +194,7 @@ module _ (floor : ℕ → ℕ) (t : Tables) (h : History) (tied : Tied floor (vi
     mask-at = row-at t q maskField (omega arith)
 
     -- B: the keys arrived
-    keys-fair : stateIn c ≡ askingKeys → AskingKeys (h .extra) (world (view t) h) (floor q) q c (h .doing q) → FairReply floor h (stepOf t) q i (onKeys w q i t)
+    keys-fair : stateIn c ≡ askingKeys → Does AskingKeys → Okay (onKeys w q i t)
     unfolding onKeys
     keys-fair state a =
         let at = at-head (a .others) in
@@ -248,7 +235,7 @@ module _ (floor : ℕ → ℕ) (t : Tables) (h : History) (tied : Tied floor (vi
             ∙ by-equal j i (λ e. rw e (changed-same (c .link) i Nothing)) (λ d. changed-other (c .link) i Nothing j d ∙ a .others j (omega arith))
 
     -- a setpoint arrived
-    got-fair : stateIn c ≡ askingSetpoints → Getting (h .extra) (world (view t) h) (floor q) q c (h .doing q) → FairReply floor h (stepOf t) q i (onGot w q i t)
+    got-fair : stateIn c ≡ askingSetpoints → Does Getting → Okay (onGot w q i t)
     unfolding onGot
     got-fair state a =
         by-test (pending (emptied q i t) q)
@@ -294,7 +281,7 @@ module _ (floor : ℕ → ℕ) (t : Tables) (h : History) (tied : Tied floor (vi
             ∙ sym (changed-other row stateField idle (setpointsField + j) (λ e. omega arith))
 
     -- C: how much a server or the head holds arrived
-    all-fair : stateIn c ≡ askingAll → AskingAll (h .extra) (world (view t) h) (floor q) q c (h .doing q) → FairReply floor h (stepOf t) q i (onAll w q i t)
+    all-fair : stateIn c ≡ askingAll → Does AskingAll → Okay (onAll w q i t)
     unfolding onAll within
     all-fair state a =
         by-test (pending (emptied q i t) q)
@@ -396,20 +383,21 @@ module _ (floor : ℕ → ℕ) (t : Tables) (h : History) (tied : Tied floor (vi
             ∙ concluded-word (setpointsField + j) (omega (arith, few t q ready)) (λ e. omega arith)
             ∙ loop-there q setpointsField (serversOf t) room (hasServer (maskOf t q)) value told j told-has l (rw mask-at at m)
 
-    in-activity : Activity (h .extra) (world (view t) h) (floor q) q c (h .doing q) → FairReply floor h (stepOf t) q i (replyDelivered q i t)
+    in-activity : Does Activity → Okay (replyDelivered q i t)
+    unfolding onReplyIn
     in-activity (at-rest e a) = not-empty (Reply w) (omega arith) (sym link ∙ a .links i hi)
-    in-activity (at-writing e a) = subst (FairReply floor h (stepOf t) q i) (sym (in-state rules.writing e ∙ is-done)) (done-fair e a)
-    in-activity (at-entering e a) = subst (FairReply floor h (stepOf t) q i) (sym (in-state entering e ∙ is-entered)) (entered-fair a)
-    in-activity (at-keys e a) = subst (FairReply floor h (stepOf t) q i) (sym (in-state askingKeys e ∙ is-keys)) (keys-fair e a)
-    in-activity (at-getting e a) = subst (FairReply floor h (stepOf t) q i) (sym (in-state askingSetpoints e ∙ is-got)) (got-fair e a)
-    in-activity (at-all e a) = subst (FairReply floor h (stepOf t) q i) (sym (in-state askingAll e ∙ is-all)) (all-fair e a)
+    in-activity (at-writing e a) = subst (Okay) (sym (in-state rules.writing e)) (done-fair e a)
+    in-activity (at-entering e a) = subst (Okay) (sym (in-state entering e)) (entered-fair a)
+    in-activity (at-keys e a) = subst (Okay) (sym (in-state askingKeys e)) (keys-fair e a)
+    in-activity (at-getting e a) = subst (Okay) (sym (in-state askingSetpoints e)) (got-fair e a)
+    in-activity (at-all e a) = subst (Okay) (sym (in-state askingAll e)) (all-fair e a)
 
-  by-content : (x : Content) → contentAt t q i ≡ x → FairReply floor h (stepOf t) q i (onReply x q i t)
+  by-content : (x : Content) → contentAt t q i ≡ x → Okay (onReply x q i t)
   unfolding replyDelivered
   by-content Nothing e = refused-reply floor t h tied budget q i 9 (λ z. omega arith)
   by-content (Request w) e = refused-reply floor t h tied budget q i 9 (λ z. omega arith)
   by-content (Reply w) e = rw e at (in-activity w e (tied .clients q (in-range t q ready) .activity))
 
-  pub reply-fair : FairReply floor h (stepOf t) q i (replyDelivered q i t)
+  pub reply-fair : Okay (replyDelivered q i t)
   unfolding replyDelivered
   reply-fair = by-content (contentAt t q i) refl

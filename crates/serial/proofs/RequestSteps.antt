@@ -11,7 +11,7 @@ use lib.Dec.{eqb}
 use borrow.Author.Tests.{lt-ltb}
 use Rattle.ranges.specs.Tests.{by-equal}
 use Rattle.keys.specs.Keys.{keyWord}
-use Rattle.tables.specs.Layout.{countAt, countWords, heldField, stepField, entriesField, serverPlaces, logPlaces, putVersionWord, putEntry, stateField}
+use Rattle.tables.specs.Layout.{countAt, countWords, heldField, stepField, entriesField, serverPlaces, logPlaces, putVersionWord, putEntry, stateField, tagField}
 use Rattle.tables.specs.Links.{targets, putLink, link-same}
 use Rattle.tables.specs.Tables.{Tables, tablesOf, stepOf, entriesOf, writesOf, readsOf, heldOf, stateOf, recordOf, contentAt, serversOf}
 use Rattle.tables.specs.declared.links.Contents.{Contents}
@@ -25,10 +25,10 @@ use Rattle.rules.specs.Common as rules
 use Rattle.rules.specs.Request.{refused, onSet, onEnter, onWhichKeys, onGet, onGetAll, onRequestIn, onRequest, requestDelivered}
 use Rattle.rules.specs.declared.Answer.the-variants.{Ok}
 use Rattle.serial.specs.Steps.{requested}
-use Rattle.serial.specs.History.{changed, History}
+use Rattle.serial.specs.History.{changed, Doing, History}
 use Rattle.serial.specs.Claim.{IsReply, LeavesReply}
 use Rattle.serial.specs.Consequences.{numberOf, counted}
-use Rattle.serial.proofs.Press.{Shared, renumbered, Press, pressOf, stateIn, sharedOf, view, weight, world}
+use Rattle.serial.proofs.Press.{Shared, renumbered, Client, Press, pressOf, stateIn, sharedOf, view, weight, World, world}
 use Rattle.serial.proofs.View.{link-put, link-put-other, view-is, sharedIn, shared-step, shared-held, shared-entries}
 use Rattle.serial.proofs.Links.{come-changed}
 use Rattle.serial.proofs.Versions.{found-place}
@@ -52,6 +52,16 @@ module _ (floor : ℕ → ℕ) (t : Tables) (h : History) (tied : Tied floor (vi
   refused-fair n d = record { kept = (tt, passed-tied floor (view t) h tied); budget = budget; answers = tt; room = d; step = refl }
 
 module _ (floor : ℕ → ℕ) (t : Tables) (h : History) (tied : Tied floor (view t) h) (budget : Budget (view t)) (q : ℕ) (ready : Ready t q) (i : ℕ) (hi : i < targets) where
+  abbrev Okay : Left → Type 0
+  Okay = FairRequest floor h (stepOf t) q i
+
+  -- the client, and what it does
+  abbrev c : Client
+  c = view t .client q
+
+  abbrev Does : (ℕ → World → ℕ → ℕ → Client → Doing → Type 0) → Type 0
+  Does P = P (h .extra) (world (view t) h) (floor q) q c (h .doing q)
+
   -- the tables when a reply has taken the request's place
   abbrev replied : List ℕ → List ℕ → List ℕ → List ℕ → List ℕ → ℕ → Tables
   replied counts keys values log writes n = tablesOf (rules.counted counts) (t .clients) (putLink (t .links) q i (reply n)) keys values log writes (t .reads)
@@ -60,7 +70,7 @@ module _ (floor : ℕ → ℕ) (t : Tables) (h : History) (tied : Tied floor (vi
   next s = renumbered (stepOf t + 1) (s .writes) (s .reads) s
 
   abbrev repliedPress : Shared → ℕ → Press
-  repliedPress s n = pressOf (next s) (changed (view t .client) q (withLink (view t .client q) i (reply n)))
+  repliedPress s n = pressOf (next s) (changed (view t .client) q (withLink c i (reply n)))
 
   module _ (counts keys values log writes : List ℕ) (n : ℕ) (long : countWords ≤ length counts) (step : countAt counts stepField ≡ stepOf t) where
     replied-view : (s : Shared) → sharedIn counts keys values log ≡ s → view (replied counts keys values log writes n) ≡ repliedPress s n
@@ -75,7 +85,7 @@ module _ (floor : ℕ → ℕ) (t : Tables) (h : History) (tied : Tied floor (vi
     replied-reply : contentAt (replied counts keys values log writes n) q i ≡ reply n
     replied-reply = link-same (t .links) q i (reply n) (has-link t q ready i hi) (record { count = omega arith; client = omega arith })
 
-    replied-fair : (s : Shared) → sharedIn counts keys values log ≡ s → Kept floor h (requested q i Ok) (repliedPress s n) → Budget (repliedPress s n) → FairRequest floor h (stepOf t) q i (left Ok (replied counts keys values log writes n))
+    replied-fair : (s : Shared) → sharedIn counts keys values log ≡ s → Kept floor h (requested q i Ok) (repliedPress s n) → Budget (repliedPress s n) → Okay (left Ok (replied counts keys values log writes n))
     replied-fair s e k b = record {
       kept = subst (λ (v : Press). Kept floor h (requested q i Ok) v) (sym (replied-view s e)) k;
       budget = subst Budget (sym (replied-view s e)) b;
@@ -88,12 +98,12 @@ module _ (floor : ℕ → ℕ) (t : Tables) (h : History) (tied : Tied floor (vi
   counts-long = ready .sound .long .counts
 
   -- a READ's request: one delivery further
-  read-further : (n : ℕ) (w : Contents) → view t .client q .link i ≡ Request w → (state : ℕ) → stateIn (view t .client q) ≡ state → (state ≡ rules.writing → ⊥) → (state ≡ entering → ⊥) → Budget (repliedPress (sharedOf t) n)
+  read-further : (n : ℕ) (w : Contents) → c .link i ≡ Request w → (state : ℕ) → stateIn c ≡ state → (state ≡ rules.writing → ⊥) → (state ≡ entering → ⊥) → Budget (repliedPress (sharedOf t) n)
   read-further n w lk state is a b =
-      further (view t) budget q (in-range t q ready) (withLink (view t .client q) i (reply n)) state is a b (omega (arith, come-changed (view t .client q .link) i (reply n) hi, ap weight lk))
+      further (view t) budget q (in-range t q ready) (withLink c i (reply n)) state is a b (omega (arith, come-changed (c .link) i (reply n) hi, ap weight lk))
 
   module _ (w : Contents) (lk : contentAt t q i ≡ Request w) where
-    link : view t .client q .link i ≡ Request w
+    link : c .link i ≡ Request w
     link = link-at t q i hi ∙ lk
 
     -- what a delivery is, by the client's state
@@ -101,51 +111,30 @@ module _ (floor : ℕ → ℕ) (t : Tables) (h : History) (tied : Tied floor (vi
     unfolding requestDelivered
     delivered-is = rw lk
 
-    in-state : (state : ℕ) → stateIn (view t .client q) ≡ state → requestDelivered q i t ≡ onRequestIn state w q i t
+    in-state : (state : ℕ) → stateIn c ≡ state → requestDelivered q i t ≡ onRequestIn state w q i t
     in-state state e = delivered-is ∙ ap (λ (x : ℕ). onRequestIn x w q i t) (sym (row-at t q stateField (omega arith)) ∙ e)
 
-    is-set : onRequestIn rules.writing w q i t ≡ onSet w q i t
-    unfolding onRequestIn
-    is-set = refl
-
-    is-enter : onRequestIn entering w q i t ≡ onEnter w q i t
-    unfolding onRequestIn
-    is-enter = refl
-
-    is-which : onRequestIn askingKeys w q i t ≡ onWhichKeys q i t
-    unfolding onRequestIn
-    is-which = refl
-
-    is-get : onRequestIn askingSetpoints w q i t ≡ onGet w q i t
-    unfolding onRequestIn
-    is-get = refl
-
-    is-get-all : onRequestIn askingAll w q i t ≡ onGetAll q i t
-    unfolding onRequestIn
-    is-get-all = refl
-
     -- a set request finds room
-    set-fair : stateIn (view t .client q) ≡ rules.writing → Writing (h .extra) (world (view t) h) (floor q) q (view t .client q) (h .doing q) → FairRequest floor h (stepOf t) q i (onSet w q i t)
+    set-fair : stateIn c ≡ rules.writing → Does Writing → Okay (onSet w q i t)
     unfolding onSet appended
     set-fair state a =
-        let waiting : waits i (view t .client q) ≡ 1 = rw (state, link) in
+        let waiting : waits i c ≡ 1 = rw (state, link) in
         let room : heldOf t i < serverPlaces = omega (arith, waiting-room (view t) budget q (in-range t q ready) i waiting, ready .sound .scalars .writes) in
         let l : i < serversOf t = rw link at (a .links i hi) .2 in
-        let few16 = few t q ready in
         rw (lt-ltb (heldOf t i) serverPlaces room)
         (replied-fair (set (t .counts) (heldField + i) (heldOf t i + 1)) (putVersionWord (t .keys) i (heldOf t i) (keyWord (w .key))) (putVersionWord (t .values) i (heldOf t i) (w .number)) (t .log) (t .writes) 0
         (rw (length-set (t .counts) (heldField + i) (heldOf t i + 1)) counts-long) (getD-set-other (t .counts) (heldField + i) stepField (heldOf t i + 1) 0 (λ e. omega arith))
         (versionMore (sharedOf t) i (keyWord (w .key)) (w .number))
-        (shared-held (t .counts) (heldOf t i + 1) _ _ _ counts-long i (omega arith) ∙ rw (add-one (heldOf t i)))
-        (set-kept floor (view t) h tied few16 q (in-range t q ready) (stepOf t + 1) (writesOf t) (readsOf t) i w link hi state a (has-keys t q ready i l) (has-values t q ready i l) room)
+        (shared-held (t .counts) (heldOf t i + 1) _ _ _ counts-long i (omega (arith, few t q ready)) ∙ rw (add-one (heldOf t i)))
+        (set-kept floor (view t) h tied (few t q ready) q (in-range t q ready) (stepOf t + 1) (writesOf t) (readsOf t) i w link hi state a (has-keys t q ready i l) (has-values t q ready i l) room)
         (set-budget (view t) budget q (in-range t q ready) i hi w link state (keyWord (w .key)) (w .number)))
 
     -- an entry finds room
-    enter-fair : i ≡ coordinator → stateIn (view t .client q) ≡ entering → (a : Entering (h .extra) (world (view t) h) (floor q) q (view t .client q) (h .doing q)) → FairRequest floor h (stepOf t) q i (onEnter w q i t)
+    enter-fair : i ≡ coordinator → stateIn c ≡ entering → (a : Does Entering) → Okay (onEnter w q i t)
     unfolding onEnter log.entered
     enter-fair at state a =
-        let there : view t .client q .link coordinator ≡ Request w = ap (view t .client q .link) (sym at) ∙ link in
-        let waiting : due (view t .client q) ≡ 1 = rw (state, there) in
+        let there : c .link coordinator ≡ Request w = ap (c .link) (sym at) ∙ link in
+        let waiting : due c ≡ 1 = rw (state, there) in
         let room : entriesOf t < logPlaces = omega (arith, entry-room (view t) budget q (in-range t q ready) waiting, ready .sound .scalars .writes) in
         let head = rw there at (a .head) in
         rw (lt-ltb (entriesOf t) logPlaces room)
@@ -157,15 +146,15 @@ module _ (floor : ℕ → ℕ) (t : Tables) (h : History) (tied : Tied floor (vi
         (rw at (enter-budget (view t) budget q (in-range t q ready) w there state (w .key) (w .number) (entriesOf t))))
 
     -- the head or a server tells how much it holds
-    which-fair : i ≡ coordinator → stateIn (view t .client q) ≡ askingKeys → AskingKeys (h .extra) (world (view t) h) (floor q) q (view t .client q) (h .doing q) → FairRequest floor h (stepOf t) q i (onWhichKeys q i t)
+    which-fair : i ≡ coordinator → stateIn c ≡ askingKeys → Does AskingKeys → Okay (onWhichKeys q i t)
     unfolding onWhichKeys
     which-fair at state a =
-        let there : view t .client q .link coordinator ≡ Request w = ap (view t .client q .link) (sym at) ∙ link in
+        let there : c .link coordinator ≡ Request w = ap (c .link) (sym at) ∙ link in
         replied-fair (t .counts) (t .keys) (t .values) (t .log) (t .writes) (entriesOf t) counts-long refl (sharedOf t) refl
         (rw at (which-keys-kept floor (view t) h tied (few t q ready) q (in-range t q ready) (stepOf t + 1) (writesOf t) (readsOf t) w there state a))
         (read-further (entriesOf t) w link askingKeys state (λ e. omega arith) (λ e. omega arith))
 
-    all-fair : stateIn (view t .client q) ≡ askingAll → AskingAll (h .extra) (world (view t) h) (floor q) q (view t .client q) (h .doing q) → FairRequest floor h (stepOf t) q i (onGetAll q i t)
+    all-fair : stateIn c ≡ askingAll → Does AskingAll → Okay (onGetAll q i t)
     unfolding onGetAll
     all-fair state a =
         replied-fair (t .counts) (t .keys) (t .values) (t .log) (t .writes) (cond (eqb i coordinator) (entriesOf t) (heldOf t i)) counts-long refl (sharedOf t) refl
@@ -173,10 +162,10 @@ module _ (floor : ℕ → ℕ) (t : Tables) (h : History) (tied : Tied floor (vi
         (read-further _ w link askingAll state (λ e. omega arith) (λ e. omega arith))
 
     -- a get request finds its key
-    get-fair : stateIn (view t .client q) ≡ askingSetpoints → Getting (h .extra) (world (view t) h) (floor q) q (view t .client q) (h .doing q) → FairRequest floor h (stepOf t) q i (onGet w q i t)
+    get-fair : stateIn c ≡ askingSetpoints → Does Getting → Okay (onGet w q i t)
     unfolding onGet
     get-fair state a =
-        let v = world (view t) h .value (view t .client q .row 3) i in
+        let v = world (view t) h .value (c .row tagField) i in
         let f = found-place (t .keys) (t .values) i (w .key) (heldOf t i) v (rw link at (a .links i hi)) in
         rw (lt-ltb (firstBearing (t .keys) i (w .key) (heldOf t i)) (heldOf t i) (f .0), f .1)
         (replied-fair (t .counts) (t .keys) (t .values) (t .log) (t .writes) v counts-long refl (sharedOf t) refl
@@ -184,23 +173,24 @@ module _ (floor : ℕ → ℕ) (t : Tables) (h : History) (tied : Tied floor (vi
         (read-further v w link askingSetpoints state (λ e. omega arith) (λ e. omega arith)))
 
     -- only the head's link holds anything in states 2 and 3
-    at-head : ((j : ℕ) → j < coordinator → view t .client q .link j ≡ Nothing) → i ≡ coordinator
+    at-head : ((j : ℕ) → j < coordinator → c .link j ≡ Nothing) → i ≡ coordinator
     at-head others = by-equal i coordinator (λ e. e) (λ d. not-empty (Request w) (omega arith) (sym link ∙ others i (omega arith)))
 
-    in-activity : Activity (h .extra) (world (view t) h) (floor q) q (view t .client q) (h .doing q) → FairRequest floor h (stepOf t) q i (requestDelivered q i t)
+    in-activity : Does Activity → Okay (requestDelivered q i t)
+    unfolding onRequestIn
     in-activity (at-rest e a) = not-empty (Request w) (omega arith) (sym link ∙ a .links i hi)
-    in-activity (at-writing e a) = subst (FairRequest floor h (stepOf t) q i) (sym (in-state rules.writing e ∙ is-set)) (set-fair e a)
-    in-activity (at-entering e a) = subst (FairRequest floor h (stepOf t) q i) (sym (in-state entering e ∙ is-enter)) (enter-fair (at-head (a .others)) e a)
-    in-activity (at-keys e a) = subst (FairRequest floor h (stepOf t) q i) (sym (in-state askingKeys e ∙ is-which)) (which-fair (at-head (a .others)) e a)
-    in-activity (at-getting e a) = subst (FairRequest floor h (stepOf t) q i) (sym (in-state askingSetpoints e ∙ is-get)) (get-fair e a)
-    in-activity (at-all e a) = subst (FairRequest floor h (stepOf t) q i) (sym (in-state askingAll e ∙ is-get-all)) (all-fair e a)
+    in-activity (at-writing e a) = subst (Okay) (sym (in-state rules.writing e)) (set-fair e a)
+    in-activity (at-entering e a) = subst (Okay) (sym (in-state entering e)) (enter-fair (at-head (a .others)) e a)
+    in-activity (at-keys e a) = subst (Okay) (sym (in-state askingKeys e)) (which-fair (at-head (a .others)) e a)
+    in-activity (at-getting e a) = subst (Okay) (sym (in-state askingSetpoints e)) (get-fair e a)
+    in-activity (at-all e a) = subst (Okay) (sym (in-state askingAll e)) (all-fair e a)
 
-  by-content : (c : Content) → contentAt t q i ≡ c → FairRequest floor h (stepOf t) q i (onRequest c q i t)
+  by-content : (c : Content) → contentAt t q i ≡ c → Okay (onRequest c q i t)
   unfolding requestDelivered
   by-content Nothing e = refused-fair floor t h tied budget q i 9 (λ z. omega arith)
   by-content (Request w) e = rw e at (in-activity w e (tied .clients q (in-range t q ready) .activity))
   by-content (Reply w) e = refused-fair floor t h tied budget q i 9 (λ z. omega arith)
 
-  pub request-fair : FairRequest floor h (stepOf t) q i (requestDelivered q i t)
+  pub request-fair : Okay (requestDelivered q i t)
   unfolding requestDelivered
   request-fair = by-content (contentAt t q i) refl
