@@ -188,6 +188,7 @@ module _ (tagsAt floor : ℕ → ℕ) (h : History) (ok : HistoryOk tagsAt floor
       let c : (owed .begin < h .clock) × (tagsAt (owed .begin) ≤ floor q) × (floor q ≤ h .tags) = rw (owed .is) at (ok .doing q) in
       let x = readOf q (owed .mask) shown tag (owed .begin) (h .clock) (suc (owed .deliveries)) in
       rw (owed .is) record {
+        order = pairs-append Later (h .reads) _ (ok .order) (tt, tt) (each-map _ (λ y. Each (Later y) (x ∷ [])) (λ y s. ((λ e k. rw (← Option·some-injective _ _ k) (s .begun)), tt)) (h .reads) (ok .reads));
         rising = rising-on tagsAt (h .clock) (h .tags) (h .tags) (omega arith) (ok .now) (ok .rising);
         now = changed-same tagsAt (suc (h .clock)) (h .tags);
         writes = λ t l k. write-on tagsAt (h .clock) (h .tags) t _ (ok .writes t l k);
@@ -202,7 +203,6 @@ module _ (tagsAt floor : ℕ → ℕ) (h : History) (ok : HistoryOk tagsAt floor
         );
         shown = each-append (Shown h) (h .reads) _ (ok .shown) ((refl, owed .high, owed .shows), tt);
         ends = each-append (EndsAt (h .extra)) (h .reads) _ (ok .ends) ((λ k. owed .count), tt);
-        order = pairs-append Later (h .reads) _ (ok .order) (tt, tt) (each-map _ (λ y. Each (Later y) (x ∷ [])) (λ y s. ((λ e k. rw (← Option·some-injective _ _ k) (s .begun)), tt)) (h .reads) (ok .reads));
         tags = ok .tags;
         unfinished = changed-all (h .doing) q nothing (λ j y. Unfinished (h .extra) y) tt (λ j ne. ok .unfinished j);
         doing = changed-all (h .doing) q nothing (λ j y. DoingOk (suc (h .clock)) (h .tags) now′ (floor j) y) tt (λ j ne. old-doing j);

@@ -50,13 +50,14 @@ pub record WriteOk (clock : ℕ) (tagsAt : ℕ → ℕ) (place : ℕ) (x : Trans
   pub timed : Timed clock tagsAt x
 
 pub record HistoryOk (tagsAt floor : ℕ → ℕ) (h : History) : Type 0 where
+  -- READs stand in order of their ends
+  pub order : Pairs Later (h .reads)
   pub rising : Rising (h .clock) tagsAt
   pub now : tagsAt (h .clock) ≡ h .tags
   pub writes : (tag : ℕ) → 1 ≤ tag → tag ≤ h .tags → WriteOk (h .clock) tagsAt tag (h .write tag)
   pub reads : Each (Timed (h .clock) tagsAt) (h .reads)
   pub shown : Each (Shown h) (h .reads)
   pub ends : Each (EndsAt (h .extra)) (h .reads)
-  pub order : Pairs Later (h .reads)
   pub tags : (tag answer : ℕ) → 1 ≤ tag → tag ≤ h .tags → h .said tag ≡ some answer → answer ≡ tag
   pub unfinished : (q : ℕ) → Unfinished (h .extra) (h .doing q)
   pub doing : (q : ℕ) → DoingOk (h .clock) (h .tags) tagsAt (floor q) (h .doing q)
