@@ -1,0 +1,304 @@
+-- Begins, on the tables.
+use Prim.Native.Nat.{ℕ, suc, _+_, _≤_, _<_}
+use mathlib.Core.Path.{_≡_, refl, sym, ap, _∙_, subst}
+use mathlib.Core.Bool.{true, false}
+use mathlib.Core.List.{List, [], _∷_}
+use native.Mathlib.Omega.{arith}
+use native.Mathlib.Numerals.{add-one}
+use lib.ListN.{getD, set, length, length-set}
+use lib.Dec.{eqb, ltb}
+use borrow.Author.Tests.{ltb-true, ltb-false}
+use Rattle.ranges.specs.Tests.{by-test, not-both}
+use Rattle.ranges.specs.Sum.{one, sum-part, one-true}
+use Rattle.keys.specs.Keys.{keyOf, opening, FitsByte, at-word-fits}
+use Rattle.keys.specs.Masks.{hasServer, serversIn, Within, no-server, some-server}
+use Rattle.coordinator.specs.Latest.{latestKey}
+use Rattle.tables.specs.Rows.{HasRow, word-same, word-other}
+use Rattle.tables.specs.Layout.{clientWidth, clientWord, putClientWord, stateField, countField, maskField, tagField, recordField, setpointsField, writesField, readsField, recordPlaces, countWords}
+use Rattle.tables.specs.Links.{targets, linkAt}
+use Rattle.tables.specs.Tables.{Tables, methodOf, serversOf, clientsOf, stepOf, writesOf, readsOf, stateOf, countOf}
+use Rattle.tables.specs.declared.links.Content.{Content}
+use Rattle.tables.specs.declared.links.Content.the-variants.{Nothing}
+use Rattle.rules.specs.Answers.{left}
+use Rattle.rules.specs.Common.{idle, askingKeys, askingSetpoints, askingAll, coordinator, request, begunCounts, startedClient}
+use Rattle.rules.specs.Common as rules
+use Rattle.rules.specs.Begin.{storedSetpoints, nextCount, begunWrite, sentGets, sendAsk, sentAsks, asking, lastTag, askingByA, askingByB, askingByC, begunReadWith, begunRead}
+use Rattle.rules.specs.declared.Answer.the-variants.{Ok}
+use Rattle.keeping.specs.Rows.{Put, put, putAll, put-read, put-elsewhere, put-length, loop-other}
+use Rattle.keeping.specs.Rounds.{sent-length}
+use Rattle.serial.specs.Steps.{Event, begun-write, begun-read}
+use Rattle.serial.specs.History.{changed, History, extraOf}
+use Rattle.serial.proofs.Press.{Shared, renumbered, Client, clientOf, Press, pressOf, stateIn, countIn, rowOf, linksOf, sharedOf, view, sends, world}
+use Rattle.serial.proofs.View.{within-at, within-same, row-put-other, link-put, link-put-other, view-is, sharedIn, shared-step, shared-writes, shared-reads}
+use Rattle.serial.proofs.Loops.{HasLinks, sent-links, sent-others, loop-rows}
+use Rattle.serial.proofs.Ready.{Ready, few, in-range, has-row, has-link, row-at, link-at}
+use Rattle.serial.proofs.Invariant.{Idle, Tied}
+use Rattle.serial.proofs.Kept.{Kept, resting}
+use Rattle.serial.proofs.Links.{come-changed, come-none, sends-come}
+use Rattle.serial.proofs.Budget.{Budget, no-rest, few-servers}
+use Rattle.serial.proofs.Spending.{write-budget, read-budget}
+use Rattle.serial.proofs.Begins.{write-kept, read-a-kept, read-b-kept, read-c-kept}
+
+-- a begin's state, mask and place of its record, as words put one behind the other
+module _ (state mask place q : ℕ) (clients : List ℕ) (has : HasRow clientWidth clients q) where
+  abbrev puts : List Put
+  puts = put stateField state ∷ put maskField mask ∷ put recordField place ∷ []
+
+  started-has : HasRow clientWidth (startedClient state mask place q clients) q
+  started-has = rw (put-length q puts clients) has
+
+  started-others : (r : ℕ) → (r ≡ q → ⊥) → rowOf (startedClient state mask place q clients) r ≡ rowOf clients r
+  started-others r d = within-same clientWidth 0 (clientWord (putAll puts q clients) r) (clientWord clients r) (λ g l. put-elsewhere q puts clients r g refl l d)
+
+  started-state : clientWord (startedClient state mask place q clients) q stateField ≡ state
+  started-state = put-read q puts clients stateField _ has refl (omega arith) refl
+
+  started-mask : clientWord (startedClient state mask place q clients) q maskField ≡ mask
+  started-mask = put-read q puts clients maskField _ has refl (omega arith) refl
+
+  started-count : clientWord (startedClient state mask place q clients) q countField ≡ clientWord clients q countField
+  started-count = put-read q puts clients countField _ has refl (omega arith) refl
+
+-- a mask that is accepted has servers, all of them below k
+pub mask-bound : (mask k : ℕ) → Within mask k → (i : ℕ) → hasServer mask i ≡ true → i < k
+mask-bound mask k w i e = by-test (ltb i k) (λ b. ltb-true i k b) (λ b. absurd (not-both e (no-server mask k i (w .below) (ltb-false i k b))))
+
+pub mask-some : (mask k : ℕ) → k ≤ 16 → Within mask k → 0 < serversIn mask
+mask-some mask k l w =
+    let s = some-server mask k w in
+    omega (arith, sum-part (λ i. one (hasServer mask i)) 16 (s .0) (omega (arith, s .1)), one-true (s .2))
+
+module _ (floor : ℕ → ℕ) (t : Tables) (h : History) (tied : Tied floor (view t) h) (budget : Budget (view t)) (q : ℕ) (ready : Ready t q) (rest : stateOf t q ≡ idle) (mask : ℕ) (w : Within mask (serversOf t)) where
+  abbrev c : Client
+  c = view t .client q
+
+  resting-state : stateIn c ≡ idle
+  resting-state = row-at t q stateField (omega arith) ∙ rest
+
+  idling : Idle (h .extra) (world (view t) h) (floor q) q c (h .doing q)
+  idling = resting (h .extra) (world (view t) h) (floor q) q c (h .doing q) resting-state (tied .clients q (in-range t q ready) .activity)
+
+  empty : (i : ℕ) → i < targets → linkAt (t .links) q i .content ≡ Nothing
+  empty i l = sym (link-at t q i l) ∙ idling .links i l
+
+  long : HasLinks (t .links) q
+  long = omega (arith, ready .client, ready .sound .long .links)
+
+  bound : (i : ℕ) → hasServer mask i ≡ true → i < serversOf t
+  bound = mask-bound mask (serversOf t) w
+
+  some-masked : 0 < serversIn mask
+  some-masked = mask-some mask (serversOf t) (few t q ready) w
+
+  no-head : hasServer mask coordinator ≡ false
+  no-head = no-server mask (serversOf t) coordinator (w .below) (few t q ready)
+
+  -- the begin keeps the tie and the budget, and pays what it owes
+  abbrev pub Fair : Event → Tables → Type 0
+  Fair event left = Kept floor h event (view left) × Budget (view left) × (stepOf left ≡ suc (stepOf t))
+
+  small : serversOf t ≤ targets
+  small = omega (arith, few t q ready)
+
+  -- what is shared after a begin: one step more, and one transaction of its kind
+  abbrev step′ : ℕ
+  step′ = stepOf t + 1
+
+  counts-long : countWords ≤ length (t .counts)
+  counts-long = ready .sound .long .counts
+
+  writes-shared : sharedIn (begunCounts writesField (t .counts)) (t .keys) (t .values) (t .log) ≡ renumbered step′ (writesOf t + 1) (readsOf t) (sharedOf t)
+  writes-shared =
+      shared-step (set (t .counts) writesField (writesOf t + 1)) step′ (t .keys) (t .values) (t .log) (rw (length-set (t .counts) writesField (writesOf t + 1)) counts-long)
+      ∙ ap (λ (x : Shared). renumbered step′ (x .writes) (x .reads) x) (shared-writes (t .counts) (writesOf t + 1) (t .keys) (t .values) (t .log) counts-long)
+
+  reads-shared : sharedIn (begunCounts readsField (t .counts)) (t .keys) (t .values) (t .log) ≡ renumbered step′ (writesOf t) (readsOf t + 1) (sharedOf t)
+  reads-shared =
+      shared-step (set (t .counts) readsField (readsOf t + 1)) step′ (t .keys) (t .values) (t .log) (rw (length-set (t .counts) readsField (readsOf t + 1)) counts-long)
+      ∙ ap (λ (x : Shared). renumbered step′ (x .writes) (x .reads) x) (shared-reads (t .counts) (readsOf t + 1) (t .keys) (t .values) (t .log) counts-long)
+
+  module _ (setpoints : List ℕ) (free : writesOf t < recordPlaces) where
+    abbrev begunClients : List ℕ
+    begunClients = putClientWord (startedClient rules.writing mask (writesOf t) q (t .clients)) q countField (nextCount t q)
+
+    abbrev clients′ : List ℕ
+    clients′ = storedSetpoints q setpoints (serversOf t) begunClients
+
+    abbrev value : ℕ → ℕ
+    value i = getD setpoints i 0
+
+    has-begun : HasRow clientWidth (startedClient rules.writing mask (writesOf t) q (t .clients)) q
+    has-begun = started-has rules.writing mask (writesOf t) q (t .clients) (has-row t q ready)
+
+    room : setpointsField + serversOf t ≤ clientWidth
+    room = omega (arith, few t q ready)
+
+    -- a word of the row but for the setpoints
+    begun-word : (f : ℕ) → f < setpointsField → rowOf clients′ q f ≡ clientWord begunClients q f
+    begun-word f l =
+        within-at clientWidth 0 (clientWord clients′ q) f (omega arith)
+        ∙ loop-other q setpointsField (serversOf t) room (λ i. true) value begunClients q f (omega arith) (λ e. omega (arith, e .1))
+
+    other-word : (f : ℕ) → f < setpointsField → (f ≡ countField → ⊥) → rowOf clients′ q f ≡ clientWord (startedClient rules.writing mask (writesOf t) q (t .clients)) q f
+    other-word f l d = begun-word f l ∙ word-other clientWidth (startedClient rules.writing mask (writesOf t) q (t .clients)) q countField (nextCount t q) q f (omega arith) (omega arith) (λ e. d (e .1))
+
+    next-count : nextCount t q ≡ suc (countIn c)
+    next-count = add-one (countOf t q) ∙ ap suc (sym (row-at t q countField (omega arith)))
+
+    few-counts : suc (countIn c) < 256
+    few-counts = omega (arith, row-at t q countField (omega arith), sum-part (countOf t) (clientsOf t) q (ready .client), ready .sound .counts)
+
+    abbrev sets : ℕ → ℕ → Content
+    sets n i = request (keyOf n q) (getD setpoints i 0)
+
+    fits : (i : ℕ) → FitsByte (keyOf (nextCount t q) q)
+    fits i = record { count = omega (arith, few-counts, next-count); client = omega (arith, in-range t q ready) }
+
+    abbrev begun : Client
+    begun = clientOf (rowOf clients′ q) (sends mask (sets (suc (countIn c))))
+
+    begun-state : stateIn begun ≡ rules.writing
+    begun-state = other-word stateField (omega arith) (λ e. omega arith) ∙ started-state rules.writing mask (writesOf t) q (t .clients) (has-row t q ready)
+
+    seen : view (begunWrite q mask setpoints t) ≡ pressOf (renumbered step′ (writesOf t + 1) (readsOf t) (sharedOf t)) (changed (view t .client) q begun)
+    unfolding begunWrite
+    seen =
+        view-is t (begunWrite q mask setpoints t) q writes-shared refl
+        (sent-links q (sets (nextCount t q)) fits mask (serversOf t) small bound (t .links) long empty ∙ ap (λ (n : ℕ). sends mask (sets n)) next-count)
+        (λ r d. loop-rows q setpointsField (serversOf t) room (λ i. true) value begunClients r d
+        ∙ row-put-other (startedClient rules.writing mask (writesOf t) q (t .clients)) q countField (nextCount t q) (omega arith) r d
+        ∙ started-others rules.writing mask (writesOf t) q (t .clients) (has-row t q ready) r d)
+        (λ r d. sent-others q (sets (nextCount t q)) fits mask (serversOf t) small bound (t .links) long empty r d)
+
+    pub write-fair : Fair (begun-write q mask setpoints Ok) (begunWrite q mask setpoints t)
+    write-fair = (
+      subst (λ (v : Press). Kept floor h (begun-write q mask setpoints Ok) v) (sym seen)
+          (write-kept floor (view t) h tied (few t q ready) q (in-range t q ready) resting-state mask bound some-masked (rowOf clients′ q)
+          (other-word maskField (omega arith) (λ e. omega arith) ∙ started-mask rules.writing mask (writesOf t) q (t .clients) (has-row t q ready)) step′ (writesOf t + 1) (readsOf t)
+          setpoints begun-state
+          (begun-word countField (omega arith) ∙ word-same clientWidth (startedClient rules.writing mask (writesOf t) q (t .clients)) q countField (nextCount t q) has-begun (omega arith) ∙ next-count)
+          few-counts),
+      subst Budget (sym seen)
+          (write-budget (view t) budget q (in-range t q ready) free begun begun-state (omega (arith, sends-come mask (sets (suc (countIn c))) (λ i. refl) no-head, few-servers mask))),
+      ap (λ (v : Press). v .shared .step) seen ∙ add-one (stepOf t),
+    )
+
+  -- a READ that leaves the client's row and links so
+  module _ (clients′ links′ : List ℕ) where
+    abbrev readLeft : Tables
+    readLeft = begunReadWith q mask (asking clients′ links′) t
+
+    abbrev readPress : (ℕ → Content) → Press
+    readPress link = pressOf (renumbered step′ (writesOf t) (readsOf t + 1) (sharedOf t)) (changed (view t .client) q (clientOf (rowOf clients′ q) link))
+
+    read-left : {link : ℕ → Content} → ((r : ℕ) → (r ≡ q → ⊥) → rowOf clients′ r ≡ rowOf (t .clients) r) → linksOf links′ q ≡ link → ((r : ℕ) → (r ≡ q → ⊥) → linksOf links′ r ≡ linksOf (t .links) r) →
+        Kept floor h (begun-read q mask Ok) (readPress link) → Budget (readPress link) → Fair (begun-read q mask Ok) readLeft
+    read-left other-rows link-is other-links k b =
+        let seen = view-is t readLeft q reads-shared refl link-is other-rows other-links in
+        (subst (λ (v : Press). Kept floor h (begun-read q mask Ok) v) (sym seen) k, subst Budget (sym seen) b, ap (λ (v : Press). v .shared .step) seen ∙ add-one (stepOf t))
+
+  abbrev ask : Content
+  ask = request opening 0
+
+  ask-fits : FitsByte opening
+  ask-fits = record { count = omega arith; client = omega arith }
+
+  abbrev with-state : ℕ → List ℕ
+  with-state state = startedClient state mask (readsOf t) q (t .clients)
+
+  word-of : (state f : ℕ) → f < clientWidth → {v : ℕ} → clientWord (with-state state) q f ≡ v → rowOf (with-state state) q f ≡ v
+  word-of state f l e = within-at clientWidth 0 (clientWord (with-state state) q) f l ∙ e
+
+  count-of : (state : ℕ) → clientWord (with-state state) q countField ≡ countIn c
+  count-of state = started-count state mask (readsOf t) q (t .clients) (has-row t q ready) ∙ sym (row-at t q countField (omega arith))
+
+  a-fair : readsOf t < recordPlaces → h .extra ≡ 0 → Fair (begun-read q mask Ok) (begunReadWith q mask (askingByA q mask t) t)
+  a-fair free extra =
+      read-left clients′ (sentGets q mask (t .log) (lastTag t) (serversOf t) (t .links))
+      (λ r d. row-put-other (with-state askingSetpoints) q tagField (lastTag t) (omega arith) r d ∙ started-others askingSetpoints mask (readsOf t) q (t .clients) (has-row t q ready) r d)
+      (sent-links q (gets (lastTag t)) (λ i. at-word-fits _) mask (serversOf t) small bound (t .links) long empty ∙ ap (λ (n : ℕ). sends mask (gets n)) (sym tag-is))
+      (λ r d. sent-others q (gets (lastTag t)) (λ i. at-word-fits _) mask (serversOf t) small bound (t .links) long empty r d)
+      (read-a-kept floor (view t) h tied (few t q ready) q (in-range t q ready) resting-state mask bound some-masked (rowOf clients′ q)
+      (word maskField (omega arith) (λ e. omega arith) ∙ started-mask askingSetpoints mask (readsOf t) q (t .clients) (has-row t q ready)) step′ (writesOf t) (readsOf t + 1)
+      (word countField (omega arith) (λ e. omega arith) ∙ count-of askingSetpoints)
+      extra state (tag-is ∙ last))
+      (read-budget (view t) budget q (in-range t q ready) free asked askingSetpoints state (λ e. omega arith) (λ e. omega arith)
+      (omega (arith, no-rest asked askingSetpoints state (λ e. omega arith) (λ e. omega arith), sends-come mask (gets (rowOf clients′ q tagField)) (λ i. refl) no-head, few-servers mask)))
+    where
+      clients′ : List ℕ
+      clients′ = putClientWord (with-state askingSetpoints) q tagField (lastTag t)
+
+      gets : ℕ → ℕ → Content
+      gets n i = request (latestKey (t .log) i n) 0
+
+      word : (f : ℕ) → f < clientWidth → (f ≡ tagField → ⊥) → rowOf clients′ q f ≡ clientWord (with-state askingSetpoints) q f
+      word f l d = within-at clientWidth 0 (clientWord clients′ q) f l ∙ word-other clientWidth (with-state askingSetpoints) q tagField (lastTag t) q f (omega arith) l (λ e. d (e .1))
+
+      asked : Client
+      asked = clientOf (rowOf clients′ q) (sends mask (gets (rowOf clients′ q tagField)))
+
+      state : stateIn asked ≡ askingSetpoints
+      state = word stateField (omega arith) (λ e. omega arith) ∙ started-state askingSetpoints mask (readsOf t) q (t .clients) (has-row t q ready)
+
+      tag-is : rowOf clients′ q tagField ≡ lastTag t
+      tag-is =
+          within-at clientWidth 0 (clientWord clients′ q) tagField (omega arith)
+          ∙ word-same clientWidth (with-state askingSetpoints) q tagField (lastTag t) (started-has askingSetpoints mask (readsOf t) q (t .clients) (has-row t q ready)) (omega arith)
+
+      last : lastTag t ≡ h .tags
+      last = omega (arith, tied .entries)
+
+  b-fair : readsOf t < recordPlaces → h .extra ≡ 2 → Fair (begun-read q mask Ok) (begunReadWith q mask (askingByB q mask t) t)
+  b-fair free extra =
+      read-left (with-state askingKeys) (sendAsk q coordinator (t .links))
+      (started-others askingKeys mask (readsOf t) q (t .clients) (has-row t q ready))
+      (link-put (t .links) q coordinator ask (omega arith) (has-link t q ready coordinator (omega arith)) ask-fits)
+      (λ r d. link-put-other (t .links) q coordinator ask (omega arith) r d)
+      (read-b-kept floor (view t) h tied (few t q ready) q (in-range t q ready) resting-state mask bound some-masked (rowOf (with-state askingKeys) q)
+      masked step′ (writesOf t) (readsOf t + 1)
+      (word-of askingKeys countField (omega arith) (count-of askingKeys))
+      extra state)
+      (read-budget (view t) budget q (in-range t q ready) free asked askingKeys state (λ e. omega arith) (λ e. omega arith)
+      (rw (state, masked) (omega (arith, come-changed (c .link) coordinator ask (omega arith), come-none (c .link) (idling .links), few-servers mask))))
+    where
+      asked : Client
+      asked = clientOf (rowOf (with-state askingKeys) q) (changed (c .link) coordinator ask)
+
+      masked : rowOf (with-state askingKeys) q maskField ≡ mask
+      masked = word-of askingKeys maskField (omega arith) (started-mask askingKeys mask (readsOf t) q (t .clients) (has-row t q ready))
+
+      state : stateIn asked ≡ askingKeys
+      state = word-of askingKeys stateField (omega arith) (started-state askingKeys mask (readsOf t) q (t .clients) (has-row t q ready))
+
+  c-fair : readsOf t < recordPlaces → h .extra ≡ 2 → Fair (begun-read q mask Ok) (begunReadWith q mask (askingByC q mask t) t)
+  c-fair free extra =
+      read-left (with-state askingAll) (sendAsk q coordinator sent)
+      (started-others askingAll mask (readsOf t) q (t .clients) (has-row t q ready))
+      (link-put sent q coordinator ask (omega arith) (rw (sent-length q (serversOf t) (hasServer mask) (λ i. ask) (t .links) small long) (has-link t q ready coordinator (omega arith))) ask-fits
+      ∙ ap (λ (l : ℕ → Content). changed l coordinator ask) (sent-links q (λ i. ask) (λ i. ask-fits) mask (serversOf t) small bound (t .links) long empty))
+      (λ r d. link-put-other sent q coordinator ask (omega arith) r d ∙ sent-others q (λ i. ask) (λ i. ask-fits) mask (serversOf t) small bound (t .links) long empty r d)
+      (read-c-kept floor (view t) h tied (few t q ready) q (in-range t q ready) resting-state mask bound some-masked (rowOf (with-state askingAll) q)
+      (word-of askingAll maskField (omega arith) (started-mask askingAll mask (readsOf t) q (t .clients) (has-row t q ready))) step′ (writesOf t) (readsOf t + 1)
+      (word-of askingAll countField (omega arith) (count-of askingAll))
+      extra state)
+      (read-budget (view t) budget q (in-range t q ready) free asked askingAll state (λ e. omega arith) (λ e. omega arith)
+      (omega (arith, no-rest asked askingAll state (λ e. omega arith) (λ e. omega arith), come-changed (sends mask (λ i. ask)) coordinator ask (omega arith), sends-come mask (λ i. ask) (λ i. refl) no-head, few-servers mask)))
+    where
+      asked : Client
+      asked = clientOf (rowOf (with-state askingAll) q) (changed (sends mask (λ i. ask)) coordinator ask)
+
+      state : stateIn asked ≡ askingAll
+      state = word-of askingAll stateField (omega arith) (started-state askingAll mask (readsOf t) q (t .clients) (has-row t q ready))
+
+      sent : List ℕ
+      sent = sentAsks q mask (serversOf t) (t .links)
+
+  pub read-fair : readsOf t < recordPlaces → Fair (begun-read q mask Ok) (begunRead q mask t)
+  unfolding begunRead
+  read-fair free =
+      let extra : h .extra ≡ extraOf (methodOf t) = tied .method in
+      by-test (eqb (methodOf t) 1)
+      (λ a. rw a (a-fair free (rw a at extra)))
+      (λ a. by-test (eqb (methodOf t) 2)
+      (λ b. rw (a, b) (b-fair free (rw a at extra)))
+      (λ b. rw (a, b) (c-fair free (rw a at extra))))

@@ -1,0 +1,233 @@
+-- What ties the tables to the history, by client, and what another client's step leaves of it.
+use Prim.Native.Nat.{ℕ, suc, _+_, _≤_, _<_}
+use mathlib.Core.Path.{_≡_, sym, _∙_}
+use mathlib.Core.Bool.{true}
+use mathlib.Core.Option.{none, some}
+use mathlib.Core.List.{List}
+use native.Mathlib.Omega.{arith}
+use lib.ListN.{getD}
+use Rattle.keys.specs.declared.Key.{Key}
+use Rattle.keys.specs.Keys.{keyOf}
+use Rattle.keys.specs.Masks.{hasServer, serversIn}
+use Rattle.tables.specs.Layout.{serverPlaces}
+use Rattle.tables.specs.Links.{targets}
+use Rattle.tables.specs.declared.links.Content.{Content}
+use Rattle.tables.specs.declared.links.Content.the-variants.{Nothing, Request, Reply}
+use Rattle.rules.specs.Common.{idle, entering, askingKeys, askingSetpoints, askingAll, coordinator}
+use Rattle.rules.specs.Common as rules
+use Rattle.serial.specs.History.{Doing, nothing, writing, tagged, reading, History, extraOf}
+use Rattle.serial.specs.Claim.{enough}
+use Rattle.serial.proofs.Press.{Client, Press, stateIn, countIn, maskIn, tagIn, setpointIn, receivedIn, toCome, World, world}
+
+module _ (extra : ℕ) (x : World) (floor q : ℕ) (c : Client) (doing : Doing) where
+  -- the key of the client's WRITE
+  abbrev pub own : Key
+  own = keyOf (countIn c) q
+
+  -- server i holds a key with a setpoint
+  abbrev pub Holds : ℕ → Key → ℕ → Type 0
+  Holds i key v = x .lookup i key (x .held i) ≡ some v
+
+  abbrev pub Masked : ℕ → Type 0
+  Masked i = hasServer (maskIn c) i ≡ true
+
+  -- State 1. A server that was sent the setpoint holds it, or the request is still under way and no version bears the key.
+  abbrev pub WriteLink : List ℕ → ℕ → Content → Type 0
+  WriteLink setpoints i Nothing = Masked i → Holds i own (getD setpoints i 0)
+  WriteLink setpoints i (Request w) = (w .key ≡ own) × (w .number ≡ getD setpoints i 0) × (i < x .servers) × (x .lookup i own (x .held i) ≡ none)
+  WriteLink setpoints i (Reply w) = Holds i own (getD setpoints i 0)
+
+  pub record Writing : Type 0 where
+    pub setpoints : List ℕ
+    pub begin : ℕ
+    pub is : doing ≡ writing (maskIn c) setpoints begin
+    pub few : countIn c < 256
+    pub bound : (i : ℕ) → Masked i → i < x .servers
+    pub links : (i : ℕ) → i < targets → WriteLink setpoints i (c .link i)
+
+  -- State 2. The request: all servers of the mask hold the key. The reply: the WRITE has its tag.
+  pub record Stored : Type 0 where
+    pub setpoints : List ℕ
+    pub begin : ℕ
+    pub is : doing ≡ writing (maskIn c) setpoints begin
+    pub few : countIn c < 256
+    pub bound : (i : ℕ) → Masked i → i < x .servers
+    pub all : (i : ℕ) → Masked i → Holds i own (getD setpoints i 0)
+
+  abbrev pub EnterLink : Content → Type 0
+  EnterLink Nothing = ⊥
+  EnterLink (Request w) = (w .key ≡ own) × (w .number ≡ maskIn c) × Stored
+  EnterLink (Reply w) = doing ≡ tagged (w .number)
+
+  pub record Entering : Type 0 where
+    pub others : (i : ℕ) → i < coordinator → c .link i ≡ Nothing
+    pub head : EnterLink (c .link coordinator)
+
+  -- State 3. The reply's number is that of the entries, one more than the last tag.
+  abbrev pub KeysLink : ℕ → Content → Type 0
+  KeysLink deliveries Nothing = ⊥
+  KeysLink deliveries (Request w) = deliveries ≡ 0
+  KeysLink deliveries (Reply w) = (deliveries ≡ 1) × (floor < w .number) × (w .number ≤ suc (x .tags))
+
+  pub record AskingKeys : Type 0 where
+    pub begin : ℕ
+    pub deliveries : ℕ
+    pub is : doing ≡ reading (maskIn c) begin deliveries
+    pub two : extra ≡ 2
+    pub low : floor ≤ x .tags
+    pub some : 0 < serversIn (maskIn c)
+    pub bound : (i : ℕ) → Masked i → i < x .servers
+    pub others : (i : ℕ) → i < coordinator → c .link i ≡ Nothing
+    pub head : KeysLink deliveries (c .link coordinator)
+
+  -- State 4. Every request, reply and setpoint is of the value behind the client's tag.
+  abbrev pub GetLink : ℕ → Content → Type 0
+  GetLink i Nothing = Masked i → setpointIn c i ≡ x .value (tagIn c) i
+  GetLink i (Request w) = Holds i (w .key) (x .value (tagIn c) i)
+  GetLink i (Reply w) = w .number ≡ x .value (tagIn c) i
+
+  pub record Getting : Type 0 where
+    pub begin : ℕ
+    pub deliveries : ℕ
+    pub is : doing ≡ reading (maskIn c) begin deliveries
+    pub low : floor ≤ tagIn c
+    pub high : tagIn c ≤ x .tags
+    pub bound : (i : ℕ) → Masked i → i < x .servers
+    pub count : deliveries + toCome (c .link) ≡ enough extra (maskIn c)
+    pub busy : 0 < toCome (c .link)
+    pub links : (i : ℕ) → i < targets → GetLink i (c .link i)
+
+  -- State 5. The first n versions, or entries, hold what the row had when the READ began.
+  abbrev pub Snapshot : ℕ → ℕ → Type 0
+  Snapshot i n = (i ≡ coordinator → (floor < n) × (n ≤ suc (x .tags))) × (Masked i → (n ≤ x .held i) × (x .lookup i (x .key floor i) n ≡ some (x .value floor i)))
+
+  abbrev pub AllLink : ℕ → Content → Type 0
+  AllLink i Nothing = Snapshot i (receivedIn c i)
+  AllLink i (Request w) = Unit {0}
+  AllLink i (Reply w) = Snapshot i (w .number)
+
+  pub record AskingAll : Type 0 where
+    pub begin : ℕ
+    pub deliveries : ℕ
+    pub is : doing ≡ reading (maskIn c) begin deliveries
+    pub two : extra ≡ 2
+    pub low : floor ≤ x .tags
+    pub bound : (i : ℕ) → Masked i → i < x .servers
+    pub count : deliveries + toCome (c .link) ≡ enough extra (maskIn c)
+    pub busy : 0 < toCome (c .link)
+    pub links : (i : ℕ) → i < targets → AllLink i (c .link i)
+
+  pub record Idle : Type 0 where
+    pub is : doing ≡ nothing
+    pub links : (i : ℕ) → i < targets → c .link i ≡ Nothing
+
+  pub data Activity : Type 0 where
+    at-rest : stateIn c ≡ idle → Idle → Activity
+    at-writing : stateIn c ≡ rules.writing → Writing → Activity
+    at-entering : stateIn c ≡ entering → Entering → Activity
+    at-keys : stateIn c ≡ askingKeys → AskingKeys → Activity
+    at-getting : stateIn c ≡ askingSetpoints → Getting → Activity
+    at-all : stateIn c ≡ askingAll → AskingAll → Activity
+
+  pub record ClientOk : Type 0 where
+    -- no version bears a later key of this client
+    pub latest : (i n v : ℕ) → Holds i (keyOf n q) v → n ≤ countIn c
+    pub activity : Activity
+
+-- At most 16 clients and servers; the key of server i at a tag is held with the value behind that tag.
+pub record Tied (floor : ℕ → ℕ) (p : Press) (h : History) : Type 0 where
+  pub method : h .extra ≡ extraOf (p .shared .method)
+  pub entries : p .shared .entries ≡ suc (h .tags)
+  pub room : (i : ℕ) → p .shared .held i ≤ serverPlaces
+  pub value : (tag : ℕ) → tag ≤ h .tags → (i : ℕ) → i < p .shared .servers → world p h .lookup i (world p h .key tag i) (p .shared .held i) ≡ some (world p h .value tag i)
+  pub clients : (q : ℕ) → q < 16 → ClientOk (h .extra) (world p h) (floor q) q (p .client q) (h .doing q)
+
+-- What a step of another client does to the world that client q sees.
+pub record Grown (q : ℕ) (x y : World) : Type 0 where
+  pub servers : y .servers ≡ x .servers
+  pub tags : x .tags ≤ y .tags
+  pub value : (tag : ℕ) → tag ≤ x .tags → (i : ℕ) → y .value tag i ≡ x .value tag i
+  pub key : (tag : ℕ) → tag ≤ x .tags → (i : ℕ) → y .key tag i ≡ x .key tag i
+  pub held : (i : ℕ) → x .held i ≤ y .held i
+  pub fewer : (i : ℕ) (key : Key) (n : ℕ) → n ≤ x .held i → y .lookup i key n ≡ x .lookup i key n
+  pub more : (i : ℕ) (key : Key) (v : ℕ) → x .lookup i key (x .held i) ≡ some v → y .lookup i key (y .held i) ≡ some v
+  pub own : (i n : ℕ) → y .lookup i (keyOf n q) (y .held i) ≡ x .lookup i (keyOf n q) (x .held i)
+
+module _ (extra floor q : ℕ) (x y : World) (g : Grown q x y) (c : Client) (d : Doing) where
+  write-frame : (setpoints : List ℕ) (i : ℕ) (l : Content) → WriteLink extra x floor q c d setpoints i l → WriteLink extra y floor q c d setpoints i l
+  write-frame setpoints i Nothing h = λ m. g .own i (countIn c) ∙ h m
+  write-frame setpoints i (Request w) h = (h .0, h .1, rw (g .servers) (h .2), g .own i (countIn c) ∙ h .3)
+  write-frame setpoints i (Reply w) h = g .own i (countIn c) ∙ h
+
+  enter-frame : (l : Content) → EnterLink extra x floor q c d l → EnterLink extra y floor q c d l
+  enter-frame Nothing h = h
+  enter-frame (Request w) h =
+      let s = h .2 in
+      (h .0, h .1, record { setpoints = s .setpoints; begin = s .begin; is = s .is; few = s .few; bound = λ i m. rw (g .servers) (s .bound i m); all = λ i m. g .own i (countIn c) ∙ s .all i m })
+  enter-frame (Reply w) h = h
+
+  keys-frame : (deliveries : ℕ) (l : Content) → KeysLink extra x floor q c d deliveries l → KeysLink extra y floor q c d deliveries l
+  keys-frame deliveries Nothing h = h
+  keys-frame deliveries (Request w) h = h
+  keys-frame deliveries (Reply w) h = (h .0, h .1, omega (arith, h .2, g .tags))
+
+  get-frame : tagIn c ≤ x .tags → (i : ℕ) (l : Content) → GetLink extra x floor q c d i l → GetLink extra y floor q c d i l
+  get-frame b i Nothing h = λ m. h m ∙ sym (g .value (tagIn c) b i)
+  get-frame b i (Request w) h = rw (g .value (tagIn c) b i) (g .more i (w .key) _ h)
+  get-frame b i (Reply w) h = h ∙ sym (g .value (tagIn c) b i)
+
+  snapshot-frame : floor ≤ x .tags → (i n : ℕ) → Snapshot extra x floor q c d i n → Snapshot extra y floor q c d i n
+  snapshot-frame b i n h = (
+    λ e. (h .0 e .0, omega (arith, h .0 e .1, g .tags)),
+    λ m. let s = h .1 m in (omega (arith, s .0, g .held i), rw (g .fewer i _ n (s .0), g .key floor b i, g .value floor b i) (s .1)),
+  )
+
+  all-frame : floor ≤ x .tags → (i : ℕ) (l : Content) → AllLink extra x floor q c d i l → AllLink extra y floor q c d i l
+  all-frame b i Nothing h = snapshot-frame b i (receivedIn c i) h
+  all-frame b i (Request w) h = tt
+  all-frame b i (Reply w) h = snapshot-frame b i (w .number) h
+
+  activity-frame : Activity extra x floor q c d → Activity extra y floor q c d
+  activity-frame (at-rest e a) = at-rest e (record { is = a .is; links = a .links })
+  activity-frame (at-writing e a) =
+      at-writing e (record { setpoints = a .setpoints; begin = a .begin; is = a .is; few = a .few; bound = λ i m. rw (g .servers) (a .bound i m); links = λ i l. write-frame (a .setpoints) i (c .link i) (a .links i l) })
+  activity-frame (at-entering e a) = at-entering e (record { others = a .others; head = enter-frame (c .link coordinator) (a .head) })
+  activity-frame (at-keys e a) =
+      at-keys e (record {
+        begin = a .begin;
+        deliveries = a .deliveries;
+        is = a .is;
+        two = a .two;
+        low = omega (arith, a .low, g .tags);
+        some = a .some;
+        bound = λ i m. rw (g .servers) (a .bound i m);
+        others = a .others;
+        head = keys-frame (a .deliveries) (c .link coordinator) (a .head);
+      })
+  activity-frame (at-getting e a) =
+      at-getting e (record {
+        begin = a .begin;
+        deliveries = a .deliveries;
+        is = a .is;
+        low = a .low;
+        high = omega (arith, a .high, g .tags);
+        bound = λ i m. rw (g .servers) (a .bound i m);
+        count = a .count;
+        busy = a .busy;
+        links = λ i l. get-frame (a .high) i (c .link i) (a .links i l);
+      })
+  activity-frame (at-all e a) =
+      at-all e (record {
+        begin = a .begin;
+        deliveries = a .deliveries;
+        is = a .is;
+        two = a .two;
+        low = omega (arith, a .low, g .tags);
+        bound = λ i m. rw (g .servers) (a .bound i m);
+        count = a .count;
+        busy = a .busy;
+        links = λ i l. all-frame (a .low) i (c .link i) (a .links i l);
+      })
+
+  pub client-frame : ClientOk extra x floor q c d → ClientOk extra y floor q c d
+  client-frame ok = record { latest = λ i n v e. ok .latest i n v (sym (g .own i n) ∙ e); activity = activity-frame (ok .activity) }

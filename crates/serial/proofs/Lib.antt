@@ -1,0 +1,27 @@
+-- The proof of demand 3; `Theorem` has it in one declaration. In order: what the history needs of any method (Owed to HistoryKept); what ties tables and history,
+-- client by client (Versions to Kept); each step on that view (Begins to Replies); the budget of room and steps (Budget, Spending); each step on the tables
+-- themselves (View to OpeningStep); the whole list (Numbers, Theorem).
+pub mod Places
+pub mod Lists
+pub mod Owed
+pub mod HistoryOk
+pub mod HistoryKept
+pub mod Versions
+pub mod Press
+pub mod Links
+pub mod Invariant
+pub mod Kept
+pub mod Begins
+pub mod Requests
+pub mod Replies
+pub mod Budget
+pub mod Spending
+pub mod View
+pub mod Loops
+pub mod Ready
+pub mod BeginSteps
+pub mod RequestSteps
+pub mod ReplySteps
+pub mod OpeningStep
+pub mod Numbers
+pub mod Theorem

@@ -1,0 +1,125 @@
+-- An accepted opening ties its tables to a history in which nothing has happened yet.
+use Prim.Native.Nat.{ℕ, _+_, _*_, _≤_, _<_}
+use mathlib.Core.Path.{_≡_, refl, ap, _∙_}
+use mathlib.Core.Option.{some}
+use mathlib.Core.List.{List, [], _∷_}
+use native.Mathlib.Omega.{arith}
+use lib.ListN.{getD, length, length-replicate, getD-replicate, List·getD-eq-default}
+use lib.Seq.{getD-set-other, sets}
+use lib.Dec.{ltb}
+use borrow.Author.Tests.{ltb-true, ltb-false, eq-eqb, eqb-true}
+use Rattle.ranges.specs.Tests.{by-test}
+use Rattle.ranges.specs.Sum.{sumBelow, sum-most}
+use Rattle.keys.specs.Keys.{keyOf, keyAtWord, opening}
+use Rattle.coordinator.specs.Latest.{latestKey, latestTag}
+use Rattle.coordinator.specs.LatestLaws.{latest-within}
+use Rattle.tables.specs.Rows.{sets-behind}
+use Rattle.tables.specs.Layout.{clientWidth, clientWord, heldField, versionWord, entryKey}
+use Rattle.tables.specs.Links.{targets, linkAt}
+use Rattle.tables.specs.Tables.{Tables, heldOf}
+use Rattle.tables.specs.declared.links.Content.the-variants.{Nothing}
+use Rattle.rules.specs.Common.{idle}
+use Rattle.rules.specs.Open.{cleared, holdOne, opened}
+use Rattle.keeping.specs.Accepted.{Openable}
+use Rattle.keeping.specs.Rows.{turns-keep-below}
+use Rattle.keeping.specs.Opening.{Opened, opened-words}
+use Rattle.serial.specs.History.{openedWith}
+use Rattle.serial.proofs.Owed.{valueAt}
+use Rattle.serial.proofs.Versions.{find, is-found, found-is}
+use Rattle.serial.proofs.Press.{Client, stateIn, view}
+use Rattle.serial.proofs.Links.{come-none}
+use Rattle.serial.proofs.Budget.{waits, due, ahead, Budget, no-waits, no-due, no-rest}
+use Rattle.serial.proofs.View.{within-at}
+use Rattle.serial.proofs.Invariant.{at-rest, Tied}
+
+cleared-word : (words : List ℕ) (i : ℕ) → getD (cleared words) i 0 ≡ 0
+cleared-word words i =
+    let size : length (cleared words) ≡ length words = length-replicate (length words) 0 in
+    by-test (ltb i (length words))
+    (λ b. getD-replicate (length words) i 0 0 (ltb-true _ _ b))
+    (λ b. List·getD-eq-default (cleared words) 0 (rw size (ltb-false _ _ b)))
+
+module _ (m k p : ℕ) (setpoints : List ℕ) (t : Tables) (o : Openable m k p setpoints t) where
+  abbrev left : Tables
+  left = opened m k p setpoints t
+
+  words : Opened m k p setpoints left
+  words = opened-words m k p setpoints t o
+
+  -- a server beyond k holds nothing
+  none-held : (i : ℕ) → k ≤ i → heldOf left i ≡ 0
+  none-held i l =
+      let first : List ℕ = m ∷ k ∷ p ∷ 1 ∷ 1 ∷ [] in
+      turns-keep-below holdOne (λ xs. getD xs (heldField + i) 0 ≡ getD (sets (cleared (t .counts)) 0 first) (heldField + i) 0) k
+      (λ j xs h e. getD-set-other xs (heldField + j) (heldField + i) 1 0 (λ z. omega arith) ∙ e) (sets (cleared (t .counts)) 0 first) refl
+      ∙ sets-behind first (cleared (t .counts)) 0 (heldField + i) (omega arith) ∙ cleared-word (t .counts) (heldField + i)
+
+  held-few : (i : ℕ) → heldOf left i ≤ 1
+  held-few i = by-test (ltb i k) (λ b. omega (arith, words .held i (ltb-true i k b))) (λ b. omega (arith, none-held i (ltb-false i k b)))
+
+  -- at tag 0 every server has the opening's key
+  key-first : (i : ℕ) → latestKey (left .log) i 0 ≡ opening
+  key-first i =
+      let z : latestTag (left .log) i 0 ≡ 0 = omega (arith, latest-within (left .log) i 0) in
+      ap (λ (u : ℕ). entryKey (left .log) u) z ∙ ap keyAtWord (words .entrykey)
+
+  found-first : (i : ℕ) → i < k → find (left .keys) (left .values) i opening (heldOf left i) ≡ some (getD setpoints i 0)
+  found-first i l =
+      rw (words .held i l)
+      (found-is (left .keys) (left .values) i opening 1 (getD setpoints i 0) (record {
+        place = 0;
+        first = record { within = omega arith; before = λ u d. let z : ⊥ = omega arith in absurd z; here = λ d. eq-eqb _ _ (words .key i l) };
+        below = omega arith;
+        setpoint = words .value i l;
+      }))
+
+  -- no other key is held
+  latest : (q i n v : ℕ) → find (left .keys) (left .values) i (keyOf n q) (heldOf left i) ≡ some v → n ≤ 0
+  latest q i n v e =
+      let f = is-found (left .keys) (left .values) i (keyOf n q) (heldOf left i) v e in
+      by-test (ltb i k)
+      (λ b.
+      let l = ltb-true i k b in
+      let z : f .place ≡ 0 = omega (arith, f .below, words .held i l) in
+      let w : versionWord (left .keys) i (f .place) ≡ n * 256 + q = eqb-true _ _ (f .first .here (f .below)) in
+      omega (arith, ap (λ (u : ℕ). versionWord (left .keys) i u) z, words .key i l))
+      (λ b. let z : ⊥ = omega (arith, f .below, none-held i (ltb-false i k b)) in absurd z)
+
+  row-zero : (q f : ℕ) → f < clientWidth → view left .client q .row f ≡ 0
+  row-zero q f l = within-at clientWidth 0 (clientWord (left .clients) q) f l ∙ words .word q f
+
+  link-none : (q i : ℕ) → i < targets → view left .client q .link i ≡ Nothing
+  unfolding linkAt
+  link-none q i l = within-at targets Nothing (λ j. linkAt (left .links) q j .content) i l ∙ rw (words .link q i 0)
+
+  pub opened-tied : (floor : ℕ → ℕ) → Tied floor (view left) (openedWith m setpoints)
+  unfolding valueAt
+  opened-tied floor = record {
+    method = rw (words .method);
+    entries = words .entries;
+    room = λ i. omega (arith, held-few i);
+    value = λ tag l i h.
+        let z : tag ≡ 0 = omega arith in
+        rw (z, key-first i) (found-first i (rw (words .servers) at h));
+    clients = λ q l. record {
+      latest = λ i n v e. omega (arith, latest q i n v e);
+      activity = at-rest (row-zero q 0 (omega arith)) (record { is = refl; links = link-none q });
+    };
+  }
+
+  -- nothing waits, nothing is due, nothing is ahead
+  none-of : (f : Client → ℕ) → ((q : ℕ) → f (view left .client q) ≡ 0) → sumBelow (λ q. f (view left .client q)) 16 ≡ 0
+  none-of f e = let z = sum-most (λ q. f (view left .client q)) 0 16 (λ q l. rw (e q) (omega arith)) in omega arith
+
+  pub opened-budget : Budget (view left)
+  opened-budget =
+      let writes = words .writes in
+      let reads = words .reads in
+      let state : (q : ℕ) → stateIn (view left .client q) ≡ idle = λ q. row-zero q 0 (omega arith) in
+      record {
+        writes = omega (arith, writes);
+        reads = omega (arith, reads);
+        stored = λ i. omega (arith, writes, held-few i, none-of (waits i) (λ q. no-waits (view left .client q) idle (state q) (λ e. omega arith) i));
+        logged = omega (arith, writes, words .entries, none-of due (λ q. no-due (view left .client q) idle (state q) (λ e. omega arith) (λ e. omega arith)));
+        taken = omega (arith, writes, reads, words .step, none-of ahead (λ q. omega (arith, come-none (view left .client q .link) (link-none q), no-rest (view left .client q) idle (state q) (λ e. omega arith) (λ e. omega arith))));
+      }

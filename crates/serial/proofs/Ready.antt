@@ -1,0 +1,47 @@
+-- What a step that no refusal stops finds: sound tables, a client and its row and links.
+use Prim.Native.Nat.{ℕ, _≤_, _<_}
+use mathlib.Core.Path.{_≡_, ap}
+use native.Mathlib.Omega.{arith}
+use Rattle.tables.specs.Rows.{HasRow}
+use Rattle.tables.specs.Layout.{clientWidth, clientWord, serverPlaces}
+use Rattle.tables.specs.Links.{targets, linkWidth, linkRow}
+use Rattle.tables.specs.Tables.{Tables, serversOf, clientsOf, contentAt}
+use Rattle.tables.specs.declared.links.Content.{Content}
+use Rattle.tables.specs.declared.links.Content.the-variants.{Nothing}
+use Rattle.soundness.specs.Facts.{Sound}
+use Rattle.serial.proofs.Press.{weight, view}
+use Rattle.serial.proofs.View.{within-at}
+
+pub record Ready (t : Tables) (q : ℕ) : Type 0 where
+  pub sound : Sound t
+  pub client : q < clientsOf t
+
+module _ (t : Tables) (q : ℕ) (r : Ready t q) where
+  pub few : serversOf t ≤ 16
+  few = r .sound .scalars .press .servers .most
+
+  pub in-range : q < 16
+  in-range = omega (arith, r .client, r .sound .scalars .press .clients .most)
+
+  pub has-row : HasRow clientWidth (t .clients) q
+  has-row = omega (arith, r .client, r .sound .long .clients)
+
+  pub has-link : (i : ℕ) → i < targets → HasRow linkWidth (t .links) (linkRow q i)
+  has-link i l = omega (arith, r .client, r .sound .long .links)
+
+  pub has-keys : (i : ℕ) → i < serversOf t → HasRow serverPlaces (t .keys) i
+  has-keys i l = omega (arith, r .sound .long .keys)
+
+  pub has-values : (i : ℕ) → i < serversOf t → HasRow serverPlaces (t .values) i
+  has-values i l = omega (arith, r .sound .long .values)
+
+-- a word of the row and a link as the view has them
+pub row-at : (t : Tables) (q f : ℕ) → f < clientWidth → view t .client q .row f ≡ clientWord (t .clients) q f
+row-at t q f l = within-at clientWidth 0 (clientWord (t .clients) q) f l
+
+pub link-at : (t : Tables) (q i : ℕ) → i < targets → view t .client q .link i ≡ contentAt t q i
+link-at t q i l = within-at targets Nothing (contentAt t q) i l
+
+-- a link that holds something is not empty
+pub not-empty : {A : Type 0} (l : Content) → 0 < weight l → l ≡ Nothing → A
+not-empty l h e = let z : ⊥ = omega (arith, ap weight e) in absurd z

@@ -1,0 +1,336 @@
+-- The delivery of a reply keeps the tie and pays what it owes.
+use Prim.Native.Nat.{ℕ, suc, _+_, _-_, _*_, _≤_, _<_}
+use mathlib.Core.Path.{_≡_, refl, sym, ap, _∙_}
+use mathlib.Core.Bool.{Bool, true, false, cond}
+use mathlib.Core.Option.{some, Option·some-injective}
+use mathlib.Core.List.{List}
+use native.Mathlib.Omega.{arith}
+use lib.ListN.{getD}
+use borrow.Author.Tests.{lt-ltb, ltb-true}
+use Rattle.ranges.specs.Tests.{by-test, not-both}
+use Rattle.ranges.specs.All.{all-of, all-at}
+use Rattle.ranges.specs.Last.{last-below, last-passes, last-most}
+use Rattle.keys.specs.Keys.{keyOf}
+use Rattle.keys.specs.Masks.{hasServer, serversIn}
+use Rattle.coordinator.specs.Latest.{latestKey}
+use Rattle.tables.specs.Layout.{versionWord, stateField, countField, maskField, tagField, setpointsField, receivedField}
+use Rattle.tables.specs.Links.{targets}
+use Rattle.tables.specs.declared.links.Contents.{Contents}
+use Rattle.tables.specs.declared.links.Content.{Content}
+use Rattle.tables.specs.declared.links.Content.the-variants.{Nothing, Request, Reply}
+use Rattle.rules.specs.Answers.{nothingShown}
+use Rattle.rules.specs.Common.{idle, entering, askingSetpoints, askingAll, coordinator, request}
+use Rattle.rules.specs.Common as rules
+use Rattle.rules.specs.Choice.{versionAt, hasVersion, qualifies, chosenTag}
+use Rattle.rules.specs.declared.Arrival.the-variants as arrival
+use Rattle.serial.specs.Steps.{replied}
+use Rattle.serial.specs.History.{changed, Doing, nothing, writing, tagged, reading, History, ended}
+use Rattle.serial.proofs.Places.{changed-same, changed-other, changed-all, changed-both}
+use Rattle.serial.proofs.Owed.{valueAt}
+use Rattle.serial.proofs.HistoryKept.{value-ended}
+use Rattle.serial.proofs.Versions.{found-place, place-found, found-more}
+use Rattle.serial.proofs.Press.{Shared, renumbered, Client, clientOf, Press, pressOf, stateIn, countIn, maskIn, tagIn, setpointIn, receivedIn, weight, toCome, sends, World, worldOf, world}
+use Rattle.serial.proofs.Links.{come-changed, all-empty, sends-masked, sends-other, sends-come}
+use Rattle.serial.proofs.Invariant.{Holds, WriteLink, Writing, Entering, AskingKeys, GetLink, Getting, Snapshot, AllLink, AskingAll, at-rest, at-writing, at-entering, at-getting, at-all, ClientOk, Tied, Grown, client-frame}
+use Rattle.serial.proofs.Kept.{Kept, turned-tied, moved-tied}
+use Rattle.serial.proofs.Requests.{withLink}
+
+module _ (floor : ℕ → ℕ) (p : Press) (h : History) (tied : Tied floor p h) (few : p .shared .servers ≤ 16) (q : ℕ) (hq : q < 16) (step writes reads : ℕ) where
+  abbrev x : World
+  x = world p h
+
+  abbrev c : Client
+  c = p .client q
+
+  abbrev s : Shared
+  s = p .shared
+
+  okay : ClientOk (h .extra) x (floor q) q c (h .doing q)
+  okay = tied .clients q hq
+
+  abbrev afterwards : Client → Press
+  afterwards d = pressOf (renumbered step writes reads s) (changed (p .client) q d)
+
+  -- The link holds nothing now.
+  module _ (i : ℕ) (hi : i < targets) (w : Contents) (lk : c .link i ≡ Reply w) where
+    abbrev emptied : ℕ → Content
+    emptied = changed (c .link) i Nothing
+
+    come : toCome emptied + 1 ≡ toCome (c .link)
+    come = omega (arith, come-changed (c .link) i Nothing hi, ap weight lk)
+
+    -- A server acknowledged.
+    module _ (a : Writing (h .extra) x (floor q) q c (h .doing q)) where
+      done-link : (j : ℕ) → j < targets → WriteLink (h .extra) x (floor q) q c (h .doing q) (a .setpoints) j (emptied j)
+      done-link j l =
+          changed-all (c .link) i Nothing (λ j k. j < targets → WriteLink (h .extra) x (floor q) q c (h .doing q) (a .setpoints) j k)
+          (λ m k. let e : Holds (h .extra) x (floor q) q c (h .doing q) i (keyOf (countIn c) q) (getD (a .setpoints) i 0) = rw lk at (a .links i hi) in e)
+          (λ j ne m. a .links j m) j l
+
+      pub done-wait-kept : stateIn c ≡ rules.writing → Kept floor h (replied q i (nothingShown arrival.Wait)) (afterwards (withLink c i Nothing))
+      done-wait-kept state = (
+        rw (a .is) tt,
+        rw (a .is) (moved-tied floor p h tied step writes reads q (withLink c i Nothing) (record {
+          latest = okay .latest;
+          activity = at-writing state (record { setpoints = a .setpoints; begin = a .begin; is = a .is; few = a .few; bound = a .bound; links = done-link });
+        })),
+      )
+
+      -- the last one: key and mask go to the head, and every server of the mask holds the key
+      pub done-next-kept : toCome emptied ≡ 0 → (row : ℕ → ℕ) → row stateField ≡ entering → row countField ≡ countIn c → row maskField ≡ maskIn c →
+          Kept floor h (replied q i (nothingShown arrival.Next)) (afterwards (clientOf row (changed emptied coordinator (request (keyOf (countIn c) q) (maskIn c)))))
+      done-next-kept all row state count mask =
+          let enter = request (keyOf (countIn c) q) (maskIn c) in (
+            rw (a .is) tt,
+            rw (a .is) (moved-tied floor p h tied step writes reads q (clientOf row (changed emptied coordinator enter)) (record {
+              latest = λ j n v e. omega (arith, okay .latest j n v e, count);
+              activity = at-entering state (record {
+                others = λ j l. changed-other emptied coordinator enter j (λ e. omega arith) ∙ all-empty emptied all j (omega arith);
+                head = rw (changed-same emptied coordinator enter) (
+                  rw count,
+                  rw mask,
+                  record {
+                    setpoints = a .setpoints;
+                    begin = a .begin;
+                    is = rw mask (a .is);
+                    few = rw count (a .few);
+                    bound = λ j m. a .bound j (rw mask at m);
+                    all = λ j m. rw count (here j (rw mask at m));
+                  },
+                );
+              });
+            })),
+          )
+        where
+          here : (j : ℕ) → hasServer (maskIn c) j ≡ true → Holds (h .extra) x (floor q) q c (h .doing q) j (keyOf (countIn c) q) (getD (a .setpoints) j 0)
+          here j m =
+              let l : j < targets = omega (arith, a .bound j m) in
+              let e : WriteLink (h .extra) x (floor q) q c (h .doing q) (a .setpoints) j Nothing = rw (all-empty emptied all j l) at (done-link j l) in
+              e m
+
+    -- A server's setpoint arrived.
+    module _ (a : Getting (h .extra) x (floor q) q c (h .doing q)) (row : ℕ → ℕ) (count : row countField ≡ countIn c) (mask : row maskField ≡ maskIn c) (tag : row tagField ≡ tagIn c)
+        (new : row (setpointsField + i) ≡ w .number) (old : (j : ℕ) → (j ≡ i → ⊥) → row (setpointsField + j) ≡ setpointIn c j) where
+      abbrev got : Client
+      got = clientOf row emptied
+
+      same-get : (d : Doing) (j : ℕ) → (j ≡ i → ⊥) → (l : Content) → GetLink (h .extra) x (floor q) q c (h .doing q) j l → GetLink (h .extra) x (floor q) q got d j l
+      same-get d j ne Nothing k = λ m. rw (old j ne, tag) (k (rw mask at m))
+      same-get d j ne (Request v) k = rw tag k
+      same-get d j ne (Reply v) k = rw tag k
+
+      got-link : (d : Doing) (j : ℕ) → j < targets → GetLink (h .extra) x (floor q) q got d j (emptied j)
+      got-link d j l =
+          changed-all (c .link) i Nothing (λ j k. j < targets → GetLink (h .extra) x (floor q) q got d j k)
+          (λ k m. let e : w .number ≡ x .value (tagIn c) i = rw lk at (a .links i hi) in rw (new, tag) e)
+          (λ j ne k. same-get d j ne (c .link j) (a .links j k)) j l
+
+      pub got-wait-kept : 0 < toCome emptied → row stateField ≡ askingSetpoints → Kept floor h (replied q i (nothingShown arrival.Wait)) (afterwards got)
+      got-wait-kept left state = (
+        rw (a .is) (omega (arith, a .count, come)),
+        rw (a .is) (turned-tied floor p h tied step writes reads q got _ (record {
+          latest = λ j n v e. omega (arith, okay .latest j n v e, count);
+          activity = at-getting state (record {
+            begin = a .begin;
+            deliveries = suc (a .deliveries);
+            is = rw mask;
+            low = rw tag (a .low);
+            high = rw tag (a .high);
+            bound = λ j m. a .bound j (rw mask at m);
+            count = rw mask (omega (arith, a .count, come));
+            busy = left;
+            links = got-link (reading (maskIn c) (a .begin) (suc (a .deliveries)));
+          });
+        })),
+      )
+
+      -- the last one ends the READ
+      pub got-end-kept : toCome emptied ≡ 0 → row stateField ≡ idle → (shown : List ℕ) → ((j : ℕ) → hasServer (maskIn c) j ≡ true → getD shown j 0 ≡ row (setpointsField + j)) →
+          Kept floor h (replied q i (record { arrival = arrival.Read (tagIn c); setpoints = shown })) (afterwards got)
+      got-end-kept all state shown shows = (
+        record {
+          mask = maskIn c;
+          begin = a .begin;
+          deliveries = a .deliveries;
+          is = a .is;
+          low = a .low;
+          high = a .high;
+          shows = λ j m. shows j m ∙ here j m;
+          count = omega (arith, a .count, come);
+        },
+        rw (a .is) (
+            let t = turned-tied floor p h tied step writes reads q got nothing (record { latest = λ j n v e. omega (arith, okay .latest j n v e, count); activity = at-rest state (record { is = refl; links = all-empty emptied all }) }) in
+            record { method = t .method; entries = t .entries; room = t .room; value = t .value; clients = t .clients }
+            ),
+      )
+        where
+          here : (j : ℕ) → hasServer (maskIn c) j ≡ true → row (setpointsField + j) ≡ x .value (tagIn c) j
+          here j m =
+              let l : j < targets = omega (arith, a .bound j m) in
+              let e : GetLink (h .extra) x (floor q) q got (h .doing q) j Nothing = rw (all-empty emptied all j l) at (got-link (h .doing q) j l) in
+              rw tag at (e (rw mask m))
+
+    -- C: a server or the head told how much it holds.
+    module _ (a : AskingAll (h .extra) x (floor q) q c (h .doing q)) (row : ℕ → ℕ) (mask : row maskField ≡ maskIn c)
+        (new : row (receivedField + i) ≡ w .number) (old : (j : ℕ) → (j ≡ i → ⊥) → row (receivedField + j) ≡ receivedIn c j) where
+      abbrev told : Client
+      told = clientOf row emptied
+
+      same-all : (d : Doing) (j : ℕ) → (j ≡ i → ⊥) → (l : Content) → AllLink (h .extra) x (floor q) q c (h .doing q) j l → AllLink (h .extra) x (floor q) q told d j l
+      same-all d j ne Nothing k = rw (old j ne) (k .0, λ m. k .1 (rw mask at m))
+      same-all d j ne (Request v) k = tt
+      same-all d j ne (Reply v) k = (k .0, λ m. k .1 (rw mask at m))
+
+      told-link : (d : Doing) (j : ℕ) → j < targets → AllLink (h .extra) x (floor q) q told d j (emptied j)
+      told-link d j l =
+          changed-all (c .link) i Nothing (λ j k. j < targets → AllLink (h .extra) x (floor q) q told d j k)
+          (λ k. let e : Snapshot (h .extra) x (floor q) q c (h .doing q) i (w .number) = rw lk at (a .links i hi) in rw new (e .0, λ m. e .1 (rw mask at m)))
+          (λ j ne k. same-all d j ne (c .link j) (a .links j k)) j l
+
+      pub told-wait-kept : 0 < toCome emptied → row stateField ≡ askingAll → row countField ≡ countIn c → Kept floor h (replied q i (nothingShown arrival.Wait)) (afterwards told)
+      told-wait-kept left state count = (
+        rw (a .is) (omega (arith, a .count, come)),
+        rw (a .is) (turned-tied floor p h tied step writes reads q told _ (record {
+          latest = λ j n v e. omega (arith, okay .latest j n v e, count);
+          activity = at-all state (record {
+            begin = a .begin;
+            deliveries = suc (a .deliveries);
+            is = rw mask;
+            two = a .two;
+            low = a .low;
+            bound = λ j m. a .bound j (rw mask at m);
+            count = rw mask (omega (arith, a .count, come));
+            busy = left;
+            links = told-link (reading (maskIn c) (a .begin) (suc (a .deliveries)));
+          });
+        })),
+      )
+
+      -- All replies are in: the chosen tag lies at or behind the floor, within the log, and each server's setpoint at it is the value behind it.
+      module _ (all : toCome emptied ≡ 0) (received : ℕ → ℕ) (same : (j : ℕ) → j < targets → received j ≡ row (receivedField + j)) where
+        snapshot : (j : ℕ) → j < targets → Snapshot (h .extra) x (floor q) q c (h .doing q) j (received j)
+        snapshot j l =
+            let e : AllLink (h .extra) x (floor q) q told (h .doing q) j Nothing = rw (all-empty emptied all j l) at (told-link (h .doing q) j l) in
+            rw (same j l) (e .0, λ m. e .1 (rw mask m))
+
+        abbrev tag : ℕ
+        tag = chosenTag (s .keys) (s .log) (maskIn c) received (s .servers) (received coordinator)
+
+        abbrev fits : ℕ → Bool
+        fits t = qualifies (s .keys) (s .log) (maskIn c) received (s .servers) t
+
+        head : (floor q < received coordinator) × (received coordinator ≤ suc (h .tags))
+        head = snapshot coordinator (omega arith) .0 refl
+
+        floor-fits : fits (floor q) ≡ true
+        floor-fits =
+            all-of (λ j. cond (hasServer (maskIn c) j) (hasVersion (s .keys) (s .log) received (floor q) j) true) (s .servers) (λ j l.
+            by-test (hasServer (maskIn c) j)
+            (λ e. rw e (lt-ltb _ _ (found-place (s .keys) (s .values) j (x .key (floor q) j) (received j) _ (snapshot j (omega arith) .1 e .1) .0)))
+            (λ e. rw e))
+
+        tag-fits : fits tag ≡ true
+        tag-fits = last-passes fits (received coordinator) (floor q) (head .0) floor-fits
+
+        low : floor q ≤ tag
+        low = last-most fits (received coordinator) (floor q) (head .0) floor-fits
+
+        high : tag ≤ h .tags
+        high = omega (arith, last-below fits (received coordinator) (omega (arith, head .0)), head .1)
+
+        pub chosen-value : (j : ℕ) → hasServer (maskIn c) j ≡ true → versionWord (s .values) j (versionAt (s .keys) (s .log) j tag (received j)) ≡ x .value tag j
+        chosen-value j m =
+            let l : j < s .servers = a .bound j m in
+            let v = versionWord (s .values) j (versionAt (s .keys) (s .log) j tag (received j)) in
+            let has : hasVersion (s .keys) (s .log) received tag j ≡ true
+            = rw m at (all-at (λ i. cond (hasServer (maskIn c) i) (hasVersion (s .keys) (s .log) received tag i) true) (s .servers) tag-fits j l) in
+            let found = found-more (s .keys) (s .values) j (x .key tag j) (received j) (s .held j) v (snapshot j (omega arith) .1 m .0) (place-found (s .keys) (s .values) j (x .key tag j) (received j) (ltb-true _ _ has)) in
+            Option·some-injective _ _ (sym found ∙ tied .value tag high j l)
+
+        pub told-end-kept : (row′ : ℕ → ℕ) → row′ stateField ≡ idle → row′ countField ≡ countIn c → (shown : List ℕ) →
+            ((j : ℕ) → hasServer (maskIn c) j ≡ true → getD shown j 0 ≡ versionWord (s .values) j (versionAt (s .keys) (s .log) j tag (received j))) →
+            Kept floor h (replied q i (record { arrival = arrival.Read tag; setpoints = shown })) (afterwards (clientOf row′ emptied))
+        told-end-kept row′ state count shown shows = (
+          record {
+            mask = maskIn c;
+            begin = a .begin;
+            deliveries = a .deliveries;
+            is = a .is;
+            low = low;
+            high = high;
+            shows = λ j m. shows j m ∙ chosen-value j m;
+            count = omega (arith, a .count, come);
+          },
+          rw (a .is) (
+              let t = turned-tied floor p h tied step writes reads q (clientOf row′ emptied) nothing (record { latest = λ j n v e. omega (arith, okay .latest j n v e, count); activity = at-rest state (record { is = refl; links = all-empty emptied all }) }) in
+              record { method = t .method; entries = t .entries; room = t .room; value = t .value; clients = t .clients }
+              ),
+        )
+
+  -- The head's reply: nothing is on the other links.
+  head-empty : (j : ℕ) → j < targets → ((j : ℕ) → j < coordinator → c .link j ≡ Nothing) → changed (c .link) coordinator Nothing j ≡ Nothing
+  head-empty j l others = changed-all (c .link) coordinator Nothing (λ j k. j < targets → k ≡ Nothing) (λ m. refl) (λ j ne m. others j (omega arith)) j l
+
+  -- The tag's arrival ends the WRITE. Its end is no part of the values.
+  pub entered-kept : (w : Contents) → c .link coordinator ≡ Reply w → Entering (h .extra) x (floor q) q c (h .doing q) → (row : ℕ → ℕ) → row stateField ≡ idle → row countField ≡ countIn c →
+      Kept floor h (replied q coordinator (nothingShown (arrival.Write (w .number)))) (afterwards (clientOf row (changed (c .link) coordinator Nothing)))
+  entered-kept w lk a row state count =
+      let is : h .doing q ≡ tagged (w .number) = rw lk at (a .head) in (
+        is,
+        rw is record {
+          method = tied .method;
+          entries = tied .entries;
+          room = tied .room;
+          value = λ tag l j k. rw (value-ended (h .initial) (h .write) (w .number) (h .clock) tag j) (tied .value tag l j k);
+          clients = changed-both (λ j b d. j < 16 → ClientOk (h .extra) y (floor j) j b d) (p .client) (h .doing) q new nothing
+              (λ l. record { latest = λ j n v e. omega (arith, okay .latest j n v e, count); activity = at-rest state (record { is = refl; links = λ j k. head-empty j k (a .others) }) })
+              (λ j ne l. client-frame (h .extra) (floor j) j x y (grown j) (p .client j) (h .doing j) (tied .clients j l));
+        },
+      )
+    where
+      new : Client
+      new = clientOf row (changed (c .link) coordinator Nothing)
+
+      y : World
+      y = worldOf s (h .tags) (valueAt (h .initial) (changed (h .write) (w .number) (ended (h .clock) (h .write (w .number)))))
+
+      grown : (j : ℕ) → Grown j x y
+      grown j = record {
+        servers = refl;
+        tags = omega arith;
+        value = λ tag l i. value-ended (h .initial) (h .write) (w .number) (h .clock) tag i;
+        key = λ tag l i. refl;
+        held = λ i. omega arith;
+        fewer = λ i key n l. refl;
+        more = λ i key v e. e;
+        own = λ i n. refl;
+      }
+
+  -- B: the keys arrived, and each server of the mask is asked for its own at the tag.
+  pub keys-kept : (w : Contents) → c .link coordinator ≡ Reply w → AskingKeys (h .extra) x (floor q) q c (h .doing q) →
+      (row : ℕ → ℕ) → row stateField ≡ askingSetpoints → row countField ≡ countIn c → row maskField ≡ maskIn c → row tagField ≡ w .number - 1 →
+      Kept floor h (replied q coordinator (nothingShown arrival.Next)) (afterwards (clientOf row (sends (maskIn c) (λ i. request (latestKey (s .log) i (w .number - 1)) 0))))
+  keys-kept w lk a row state count mask tag =
+      let head : (a .deliveries ≡ 1) × (floor q < w .number) × (w .number ≤ suc (h .tags)) = rw lk at (a .head) in
+      let gets : ℕ → Content = λ i. request (latestKey (s .log) i (w .number - 1)) 0 in
+      let no-head : hasServer (maskIn c) coordinator ≡ false
+      = by-test (hasServer (maskIn c) coordinator) (λ e. let z : ⊥ = omega (arith, a .bound coordinator e) in absurd z) (λ e. e) in
+      let total : toCome (sends (maskIn c) gets) ≡ 2 * serversIn (maskIn c) = sends-come (maskIn c) gets (λ i. refl) no-head in (
+        rw (a .is) (omega (arith, a .two, a .some, head .0)),
+        rw (a .is) (turned-tied floor p h tied step writes reads q (clientOf row (sends (maskIn c) gets)) _ (record {
+          latest = λ j n v e. omega (arith, okay .latest j n v e, count);
+          activity = at-getting state (record {
+            begin = a .begin;
+            deliveries = suc (a .deliveries);
+            is = rw mask;
+            low = rw tag (omega (arith, head .1));
+            high = rw tag (omega (arith, head .2));
+            bound = λ j m. a .bound j (rw mask at m);
+            count = rw mask (omega (arith, total, a .two, head .0));
+            busy = omega (arith, total, a .some);
+            links = λ j l. by-test (hasServer (maskIn c) j)
+                (λ e. rw (sends-masked (maskIn c) gets j e, tag) (tied .value (w .number - 1) (omega (arith, head .2)) j (a .bound j e)))
+                (λ e. rw (sends-other (maskIn c) gets j e) (λ m. absurd (not-both (rw mask at m) e)));
+          });
+        })),
+      )

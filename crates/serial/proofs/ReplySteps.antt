@@ -1,0 +1,403 @@
+-- The delivery of a reply, on the tables.
+use Prim.Native.Nat.{ℕ, suc, _+_, _-_, _≤_, _<_}
+use mathlib.Core.Path.{_≡_, refl, sym, ap, ap₂, _∙_, subst}
+use mathlib.Core.Bool.{true, false}
+use mathlib.Core.List.{List}
+use native.Mathlib.Omega.{arith}
+use native.Mathlib.Numerals.{add-one}
+use lib.ListN.{getD, length, length-set, replicate}
+use lib.Seq.{getD-set-same, getD-set-other}
+use Rattle.ranges.specs.Tests.{by-equal, by-test}
+use Rattle.ranges.specs.Turns.{turns}
+use Rattle.ranges.specs.Picked.{picked, is-picked}
+use Rattle.keys.specs.Keys.{keyOf, FitsByte, at-word-fits}
+use Rattle.keys.specs.Masks.{hasServer}
+use Rattle.coordinator.specs.Latest.{latestKey}
+use Rattle.tables.specs.Rows.{HasRow, word-same, word-other, word-length}
+use Rattle.tables.specs.Layout.{clientWidth, clientWord, putClientWord, stateField, countField, maskField, tagField, setpointsField, receivedField}
+use Rattle.tables.specs.Links.{targets, linkAt, putLink, link-length}
+use Rattle.tables.specs.Tables.{Tables, tablesOf, serversOf, stepOf, writesOf, readsOf, stateOf, countOf, maskOf, recordOf, contentAt}
+use Rattle.tables.specs.declared.links.Contents.{Contents}
+use Rattle.tables.specs.declared.links.Content.{Content}
+use Rattle.tables.specs.declared.links.Content.the-variants.{Nothing, Request, Reply}
+use Rattle.rules.specs.Answers.{Arrived, arrived, nothingShown}
+use Rattle.rules.specs.Common.{idle, entering, askingKeys, askingSetpoints, askingAll, coordinator, request, counted, nextStep, pending, endedRecord, taggedRecord}
+use Rattle.rules.specs.Common as rules
+use Rattle.rules.specs.Begin.{sentGets}
+use Rattle.rules.specs.Reply.{said, emptied, showSetpoint, shownSetpoints, readShown, onSetDone, onEntered, onKeys, gotSetpoint, onGot, gotNumber, receivedIn, setpointAt, keepSetpoint, forget, tagChosen, concluded, onAll, onReplyIn, onReply, replyDelivered}
+use Rattle.rules.specs.declared.Delivered.{Delivered}
+use Rattle.rules.specs.declared.Arrival.the-variants as arrival
+use Rattle.keeping.specs.Rows.{loop-other, loop-length, loop-there}
+use Rattle.serial.specs.Steps.{replied}
+use Rattle.serial.specs.History.{changed, Doing, History}
+use Rattle.serial.specs.Consequences.{numberOfArrival, countedArrival}
+use Rattle.serial.proofs.Places.{changed-same, changed-other}
+use Rattle.serial.proofs.Press.{within, renumbered, Client, clientOf, Press, pressOf, stateIn, countIn, maskIn, tagIn, rowOf, linksOf, sharedOf, view, weight, toCome, sends, World, world}
+use Rattle.serial.proofs.View.{within-at, row-put, row-put-other, link-put, link-put-other, view-is, shared-step}
+use Rattle.serial.proofs.Links.{come-changed, all-empty, sends-come}
+use Rattle.serial.proofs.Budget.{Budget, no-rest}
+use Rattle.serial.proofs.Spending.{further, done-budget, last-budget}
+use Rattle.serial.proofs.Loops.{HasLinks, sent-links, sent-others, loop-rows, pending-come, none-come}
+use Rattle.serial.proofs.Ready.{Ready, few, in-range, has-row, has-link, row-at, link-at, not-empty}
+use Rattle.serial.proofs.Invariant.{Writing, Entering, AskingKeys, Getting, AskingAll, Activity, at-rest, at-writing, at-entering, at-keys, at-getting, at-all, Tied}
+use Rattle.serial.proofs.Kept.{Kept, passed-tied}
+use Rattle.serial.proofs.Replies.{done-wait-kept, done-next-kept, got-wait-kept, got-end-kept, told-wait-kept, told-end-kept, entered-kept, keys-kept}
+
+-- the step keeps the tie and the budget, and pays what it owes
+pub record FairReply (floor : ℕ → ℕ) (h : History) (n q i : ℕ) (x : Arrived) : Type 0 where
+  pub kept : Kept floor h (replied q i (x .delivered)) (view (x .tables))
+  pub budget : Budget (view (x .tables))
+  pub room : numberOfArrival (x .delivered .arrival) ≡ 8 → ⊥
+  pub step : stepOf (x .tables) ≡ countedArrival (x .delivered .arrival) n
+
+-- the setpoints shown are the words of the client's row
+pub shown-at : (clients : List ℕ) (q mask j : ℕ) → j < 16 → hasServer mask j ≡ true → getD (shownSetpoints clients q mask) j 0 ≡ clientWord clients q (setpointsField + j)
+shown-at clients q mask j l e =
+    is-picked (λ xs i. getD xs i 0) (showSetpoint clients q) (λ i. clientWord clients q (setpointsField + i)) (λ xs. 16 ≤ length xs) 16
+    (λ i xs r. rw (length-set xs i (clientWord clients q (setpointsField + i))) r)
+    (λ i xs m r. getD-set-same xs i (clientWord clients q (setpointsField + i)) 0 (omega arith))
+    (λ i u xs m d. getD-set-other xs i u (clientWord clients q (setpointsField + i)) 0 d)
+    (hasServer mask) (replicate 16 0) (omega arith) 16 j (omega arith) l e
+
+module _ (floor : ℕ → ℕ) (t : Tables) (h : History) (tied : Tied floor (view t) h) (budget : Budget (view t)) (q i : ℕ) where
+  pub refused-reply : (n : ℕ) → (n ≡ 8 → ⊥) → FairReply floor h (stepOf t) q i (said (arrival.Refused n) t)
+  refused-reply n d = record { kept = (tt, passed-tied floor (view t) h tied); budget = budget; room = d; step = refl }
+
+module _ (floor : ℕ → ℕ) (t : Tables) (h : History) (tied : Tied floor (view t) h) (budget : Budget (view t)) (q : ℕ) (ready : Ready t q) (i : ℕ) (hi : i < targets) where
+  abbrev Okay : Arrived → Type 0
+  Okay = FairReply floor h (stepOf t) q i
+
+  -- the client, and what it does
+  abbrev c : Client
+  c = view t .client q
+
+  abbrev Does : (ℕ → World → ℕ → ℕ → Client → Doing → Type 0) → Type 0
+  Does P = P (h .extra) (world (view t) h) (floor q) q c (h .doing q)
+
+  abbrev gone : ℕ → Content
+  gone = changed (c .link) i Nothing
+
+  gone-links : linksOf (emptied q i t) q ≡ gone
+  gone-links = link-put (t .links) q i Nothing hi (has-link t q ready i hi) tt
+
+  gone-others : (r : ℕ) → (r ≡ q → ⊥) → linksOf (emptied q i t) r ≡ linksOf (t .links) r
+  gone-others r d = link-put-other (t .links) q i Nothing hi r d
+
+  -- tables in which the client's row and links have changed
+  abbrev movedTo : List ℕ → List ℕ → List ℕ → List ℕ → Tables
+  movedTo clients links writes reads = tablesOf (counted (t .counts)) clients links (t .keys) (t .values) (t .log) writes reads
+
+  abbrev movedPress : (ℕ → ℕ) → (ℕ → Content) → Press
+  movedPress row link = pressOf (renumbered (stepOf t + 1) (writesOf t) (readsOf t) (sharedOf t)) (changed (view t .client) q (clientOf row link))
+
+  module _ (clients links writes reads : List ℕ) {row : ℕ → ℕ} {link : ℕ → Content} (d : Delivered) where
+    moved-fair : rowOf clients q ≡ row → ((r : ℕ) → (r ≡ q → ⊥) → rowOf clients r ≡ rowOf (t .clients) r) →
+        linksOf links q ≡ link → ((r : ℕ) → (r ≡ q → ⊥) → linksOf links r ≡ linksOf (t .links) r) →
+        (numberOfArrival (d .arrival) ≡ 8 → ⊥) → suc (stepOf t) ≡ countedArrival (d .arrival) (stepOf t) →
+        Kept floor h (replied q i d) (movedPress row link) → Budget (movedPress row link) → Okay (arrived d (movedTo clients links writes reads))
+    moved-fair rows other-rows link-is other-links room step k b =
+        let seen = view-is t (movedTo clients links writes reads) q (shared-step (t .counts) (stepOf t + 1) (t .keys) (t .values) (t .log) (ready .sound .long .counts)) rows link-is other-rows other-links in
+        record { kept = subst (λ (v : Press). Kept floor h (replied q i d) v) (sym seen) k; budget = subst Budget (sym seen) b; room = room; step = ap (λ (v : Press). v .shared .step) seen ∙ add-one (stepOf t) ∙ step }
+
+  -- words of the row that a step puts one behind the other
+  one-word : (f v : ℕ) → f < clientWidth → rowOf (putClientWord (t .clients) q f v) q ≡ changed (c .row) f v
+  one-word f v l = row-put (t .clients) q f v l (has-row t q ready)
+
+  one-others : (f v : ℕ) → f < clientWidth → (r : ℕ) → (r ≡ q → ⊥) → rowOf (putClientWord (t .clients) q f v) r ≡ rowOf (t .clients) r
+  one-others f v l r d = row-put-other (t .clients) q f v l r d
+
+  two-words : (f v g u : ℕ) → f < clientWidth → g < clientWidth → rowOf (putClientWord (putClientWord (t .clients) q f v) q g u) q ≡ changed (changed (c .row) f v) g u
+  two-words f v g u l m =
+      row-put (putClientWord (t .clients) q f v) q g u m (rw (word-length clientWidth (t .clients) q f v) (has-row t q ready))
+      ∙ ap (λ (x : ℕ → ℕ). changed x g u) (one-word f v l)
+
+  two-others : (f v g u : ℕ) → f < clientWidth → g < clientWidth → (r : ℕ) → (r ≡ q → ⊥) → rowOf (putClientWord (putClientWord (t .clients) q f v) q g u) r ≡ rowOf (t .clients) r
+  two-others f v g u l m r d = row-put-other (putClientWord (t .clients) q f v) q g u m r d ∙ one-others f v l r d
+
+  -- a word that two others leave
+  left-by : (f v g u x : ℕ) → (x ≡ f → ⊥) → (x ≡ g → ⊥) → changed (changed (c .row) f v) g u x ≡ c .row x
+  left-by f v g u x d e = changed-other (changed (c .row) f v) g u x e ∙ changed-other (c .row) f v x d
+
+  module _ (w : Contents) (lk : contentAt t q i ≡ Reply w) where
+    link : c .link i ≡ Reply w
+    link = link-at t q i hi ∙ lk
+
+    delivered-is : replyDelivered q i t ≡ onReplyIn (stateOf t q) w q i t
+    unfolding replyDelivered
+    delivered-is = rw lk
+
+    in-state : (state : ℕ) → stateIn c ≡ state → replyDelivered q i t ≡ onReplyIn state w q i t
+    in-state state e = delivered-is ∙ ap (λ (x : ℕ). onReplyIn x w q i t) (sym (row-at t q stateField (omega arith)) ∙ e)
+
+    -- whether the last reply is in
+    come : pending (emptied q i t) q ≡ true → 0 < toCome gone
+    come e = subst (λ (l : ℕ → Content). 0 < toCome l) gone-links (pending-come (emptied q i t) q e)
+
+    none-left : pending (emptied q i t) q ≡ false → toCome gone ≡ 0
+    none-left e = subst (λ (l : ℕ → Content). toCome l ≡ 0) gone-links (none-come (emptied q i t) q e)
+
+    -- one delivery further, where no second round is to come
+    gone-come : toCome gone + 1 ≡ toCome (c .link)
+    gone-come = omega (arith, come-changed (c .link) i Nothing hi, ap weight link)
+
+    gone-budget : (row : ℕ → ℕ) (state : ℕ) → row stateField ≡ state → (state ≡ rules.writing → ⊥) → (state ≡ entering → ⊥) → (state ≡ askingKeys → ⊥) → Budget (movedPress row gone)
+    gone-budget row state is a b d = further (view t) budget q (in-range t q ready) (clientOf row gone) state is a b (omega (arith, gone-come, no-rest (clientOf row gone) state is a d))
+
+    done-fair : stateIn c ≡ rules.writing → Does Writing → Okay (onSetDone q i t)
+    unfolding onSetDone
+    done-fair state a =
+        by-test (pending (emptied q i t) q)
+        (λ b. rw b (
+        moved-fair (t .clients) (emptied q i t) (t .writes) (t .reads) (nothingShown arrival.Wait) refl (λ r d. refl) gone-links gone-others (λ z. omega arith) refl
+        (done-wait-kept floor (view t) h tied (few t q ready) q (in-range t q ready) (stepOf t + 1) (writesOf t) (readsOf t) i hi w link a state)
+        (done-budget (view t) budget q (in-range t q ready) i hi w link state)
+        ))
+        (λ b. rw b (
+        moved-fair (putClientWord (t .clients) q stateField entering) (putLink (emptied q i t) q coordinator enter) (t .writes) (t .reads) (nothingShown arrival.Next)
+        (one-word stateField entering (omega arith)) (one-others stateField entering (omega arith))
+        (link-put (emptied q i t) q coordinator enter (omega arith) (rw (link-length (t .links) q i Nothing) (has-link t q ready coordinator (omega arith))) fits ∙ ap₂ (λ (l : ℕ → Content) (x : Content). changed l coordinator x) gone-links enter-is)
+        (λ r d. link-put-other (emptied q i t) q coordinator enter (omega arith) r d ∙ gone-others r d) (λ z. omega arith) refl
+        (done-next-kept floor (view t) h tied (few t q ready) q (in-range t q ready) (stepOf t + 1) (writesOf t) (readsOf t) i hi w link a (none-left b) (changed (c .row) stateField entering)
+        (changed-same (c .row) stateField entering) (changed-other (c .row) stateField entering countField (λ e. omega arith)) (changed-other (c .row) stateField entering maskField (λ e. omega arith)))
+        (last-budget (view t) budget q (in-range t q ready) (clientOf (changed (c .row) stateField entering) (changed gone coordinator (request (keyOf (countIn c) q) (maskIn c)))) (changed-same (c .row) stateField entering) state
+        (rw state (omega (arith, gone-come))) (entry-come (none-left b)))
+        ))
+      where
+        enter : Content
+        enter = request (keyOf (countOf t q) q) (maskOf t q)
+
+        entry-come : toCome gone ≡ 0 → toCome (changed gone coordinator (request (keyOf (countIn c) q) (maskIn c))) ≡ 2
+        entry-come e = omega (arith, come-changed gone coordinator (request (keyOf (countIn c) q) (maskIn c)) (omega arith), ap weight (all-empty gone e coordinator (omega arith)))
+
+        fits : FitsByte (keyOf (countOf t q) q)
+        fits = record { count = rw (row-at t q countField (omega arith)) at (a .few); client = omega (arith, in-range t q ready) }
+
+        enter-is : enter ≡ request (keyOf (countIn c) q) (maskIn c)
+        enter-is = rw (row-at t q countField (omega arith), row-at t q maskField (omega arith))
+
+    -- only the head's link holds anything in states 2 and 3
+    at-head : ((j : ℕ) → j < coordinator → c .link j ≡ Nothing) → i ≡ coordinator
+    at-head others = by-equal i coordinator (λ e. e) (λ d. not-empty (Reply w) (omega arith) (sym link ∙ others i (omega arith)))
+
+    entered-fair : Does Entering → Okay (onEntered w q i t)
+    unfolding onEntered
+    entered-fair a =
+        let at = at-head (a .others) in
+        let there : c .link coordinator ≡ Reply w = ap (c .link) (sym at) ∙ link in
+        moved-fair (putClientWord (putClientWord (t .clients) q tagField (w .number)) q stateField idle) (emptied q i t) (endedRecord (recordOf t q) (nextStep t) (t .writes)) (t .reads) (nothingShown (arrival.Write (w .number)))
+        (two-words tagField (w .number) stateField idle (omega arith) (omega arith)) (two-others tagField (w .number) stateField idle (omega arith) (omega arith)) gone-links gone-others (λ z. omega arith) refl
+        (rw at (entered-kept floor (view t) h tied (few t q ready) q (in-range t q ready) (stepOf t + 1) (writesOf t) (readsOf t) w there a (changed (changed (c .row) tagField (w .number)) stateField idle)
+        (changed-same (changed (c .row) tagField (w .number)) stateField idle) (left-by tagField (w .number) stateField idle countField (λ e. omega arith) (λ e. omega arith))))
+        (gone-budget (changed (changed (c .row) tagField (w .number)) stateField idle) idle (changed-same (changed (c .row) tagField (w .number)) stateField idle) (λ e. omega arith) (λ e. omega arith) (λ e. omega arith))
+
+    mask-at : maskIn c ≡ maskOf t q
+    mask-at = row-at t q maskField (omega arith)
+
+    -- B: the keys arrived
+    keys-fair : stateIn c ≡ askingKeys → Does AskingKeys → Okay (onKeys w q i t)
+    unfolding onKeys
+    keys-fair state a =
+        let at = at-head (a .others) in
+        let there : c .link coordinator ≡ Reply w = ap (c .link) (sym at) ∙ link in
+        moved-fair (putClientWord (putClientWord (t .clients) q tagField (w .number - 1)) q stateField askingSetpoints) (sentGets q (maskOf t q) (t .log) (w .number - 1) (serversOf t) (emptied q i t)) (t .writes) (t .reads) (nothingShown arrival.Next)
+        (two-words tagField (w .number - 1) stateField askingSetpoints (omega arith) (omega arith)) (two-others tagField (w .number - 1) stateField askingSetpoints (omega arith) (omega arith))
+        (sent-links q gets (λ j. at-word-fits _) (maskOf t q) (serversOf t) (omega (arith, few t q ready)) bound (emptied q i t) long (empty at) ∙ ap (λ (m : ℕ). sends m gets) (sym mask-at))
+        (λ r d. sent-others q gets (λ j. at-word-fits _) (maskOf t q) (serversOf t) (omega (arith, few t q ready)) bound (emptied q i t) long (empty at) r d ∙ gone-others r d) (λ z. omega arith) refl
+        (keys-kept floor (view t) h tied (few t q ready) q (in-range t q ready) (stepOf t + 1) (writesOf t) (readsOf t) w there a (changed (changed (c .row) tagField (w .number - 1)) stateField askingSetpoints)
+        (changed-same (changed (c .row) tagField (w .number - 1)) stateField askingSetpoints)
+        (left-by tagField (w .number - 1) stateField askingSetpoints countField (λ e. omega arith) (λ e. omega arith))
+        (left-by tagField (w .number - 1) stateField askingSetpoints maskField (λ e. omega arith) (λ e. omega arith))
+        (changed-other (changed (c .row) tagField (w .number - 1)) stateField askingSetpoints tagField (λ e. omega arith) ∙ changed-same (c .row) tagField (w .number - 1)))
+        (further (view t) budget q (in-range t q ready) asked askingSetpoints asked-state (λ e. omega arith) (λ e. omega arith)
+        (rw state (omega (arith, no-rest asked askingSetpoints asked-state (λ e. omega arith) (λ e. omega arith), sends-come (maskIn c) gets (λ j. refl) no-head, gone-come))))
+      where
+        gets : ℕ → Content
+        gets j = request (latestKey (t .log) j (w .number - 1)) 0
+
+        asked : Client
+        asked = clientOf (changed (changed (c .row) tagField (w .number - 1)) stateField askingSetpoints) (sends (maskIn c) gets)
+
+        asked-state : stateIn asked ≡ askingSetpoints
+        asked-state = changed-same (changed (c .row) tagField (w .number - 1)) stateField askingSetpoints
+
+        no-head : hasServer (maskIn c) coordinator ≡ false
+        no-head = by-test (hasServer (maskIn c) coordinator) (λ e. let z : ⊥ = omega (arith, a .bound coordinator e, few t q ready) in absurd z) (λ e. e)
+
+        bound : (j : ℕ) → hasServer (maskOf t q) j ≡ true → j < serversOf t
+        bound j m = a .bound j (rw mask-at m)
+
+        long : HasLinks (emptied q i t) q
+        long = rw (link-length (t .links) q i Nothing) (omega (arith, ready .client, ready .sound .long .links))
+
+        empty : i ≡ coordinator → (j : ℕ) → j < targets → linkAt (emptied q i t) q j .content ≡ Nothing
+        empty at j l =
+            sym (within-at targets Nothing (λ u. linkAt (emptied q i t) q u .content) j l) ∙ ap (λ (f : ℕ → Content). f j) gone-links
+            ∙ by-equal j i (λ e. rw e (changed-same (c .link) i Nothing)) (λ d. changed-other (c .link) i Nothing j d ∙ a .others j (omega arith))
+
+    -- a setpoint arrived
+    got-fair : stateIn c ≡ askingSetpoints → Does Getting → Okay (onGot w q i t)
+    unfolding onGot
+    got-fair state a =
+        by-test (pending (emptied q i t) q)
+        (λ b. rw b (
+        moved-fair (gotSetpoint w q i t) (emptied q i t) (t .writes) (t .reads) (nothingShown arrival.Wait)
+        (one-word (setpointsField + i) (w .number) (omega arith)) (one-others (setpointsField + i) (w .number) (omega arith)) gone-links gone-others (λ z. omega arith) refl
+        (got-wait-kept floor (view t) h tied (few t q ready) q (in-range t q ready) (stepOf t + 1) (writesOf t) (readsOf t) i hi w link a row
+        (other-word countField (λ e. omega arith)) (other-word maskField (λ e. omega arith)) (other-word tagField (λ e. omega arith))
+        (changed-same (c .row) (setpointsField + i) (w .number)) (λ j d. other-word (setpointsField + j) (λ e. d (omega arith)))
+        (come b) (other-word stateField (λ e. omega arith) ∙ state))
+        (gone-budget row askingSetpoints (other-word stateField (λ e. omega arith) ∙ state) (λ e. omega arith) (λ e. omega arith) (λ e. omega arith))
+        ))
+        (λ b. rw (b, ← row-at t q tagField (omega arith)) (
+        moved-fair (putClientWord (gotSetpoint w q i t) q stateField idle) (emptied q i t) (t .writes)
+        (endedRecord (recordOf t q) (nextStep t) (taggedRecord (recordOf t q) (tagIn c) (t .reads))) (readShown (tagIn c) (gotSetpoint w q i t) q (maskOf t q))
+        (two-words (setpointsField + i) (w .number) stateField idle (omega arith) (omega arith)) (two-others (setpointsField + i) (w .number) stateField idle (omega arith) (omega arith)) gone-links gone-others (λ z. omega arith) refl
+        (got-end-kept floor (view t) h tied (few t q ready) q (in-range t q ready) (stepOf t + 1) (writesOf t) (readsOf t) i hi w link a ended
+        (ended-word countField (λ e. omega arith) (λ e. omega arith)) (ended-word maskField (λ e. omega arith) (λ e. omega arith)) (ended-word tagField (λ e. omega arith) (λ e. omega arith))
+        (changed-other row stateField idle (setpointsField + i) (λ e. omega arith) ∙ changed-same (c .row) (setpointsField + i) (w .number)) (λ j d. ended-word (setpointsField + j) (λ e. d (omega arith)) (λ e. omega arith))
+        (none-left b) (changed-same row stateField idle)
+        (shownSetpoints (gotSetpoint w q i t) q (maskOf t q)) shows)
+        (gone-budget ended idle (changed-same row stateField idle) (λ e. omega arith) (λ e. omega arith) (λ e. omega arith))
+        ))
+      where
+        row : ℕ → ℕ
+        row = changed (c .row) (setpointsField + i) (w .number)
+
+        ended : ℕ → ℕ
+        ended = changed row stateField idle
+
+        other-word : (x : ℕ) → (x ≡ setpointsField + i → ⊥) → row x ≡ c .row x
+        other-word x d = changed-other (c .row) (setpointsField + i) (w .number) x d
+
+        ended-word : (x : ℕ) → (x ≡ setpointsField + i → ⊥) → (x ≡ stateField → ⊥) → ended x ≡ c .row x
+        ended-word x d e = left-by (setpointsField + i) (w .number) stateField idle x d e
+
+        shows : (j : ℕ) → hasServer (maskIn c) j ≡ true → getD (shownSetpoints (gotSetpoint w q i t) q (maskOf t q)) j 0 ≡ ended (setpointsField + j)
+        shows j m =
+            let l : j < 16 = omega (arith, a .bound j m, few t q ready) in
+            shown-at (gotSetpoint w q i t) q (maskOf t q) j l (rw mask-at at m)
+            ∙ sym (within-at clientWidth 0 (clientWord (gotSetpoint w q i t) q) (setpointsField + j) (omega arith))
+            ∙ ap (λ (f : ℕ → ℕ). f (setpointsField + j)) (one-word (setpointsField + i) (w .number) (omega arith))
+            ∙ sym (changed-other row stateField idle (setpointsField + j) (λ e. omega arith))
+
+    -- C: how much a server or the head holds arrived
+    all-fair : stateIn c ≡ askingAll → Does AskingAll → Okay (onAll w q i t)
+    unfolding onAll within
+    all-fair state a =
+        by-test (pending (emptied q i t) q)
+        (λ b. rw b (
+        moved-fair told (emptied q i t) (t .writes) (t .reads) (nothingShown arrival.Wait)
+        told-row (one-others (receivedField + i) (w .number) (omega arith)) gone-links gone-others (λ z. omega arith) refl
+        (told-wait-kept floor (view t) h tied (few t q ready) q (in-range t q ready) (stepOf t + 1) (writesOf t) (readsOf t) i hi w link a row (other-word maskField (λ e. omega arith)) new old
+        (come b) (other-word stateField (λ e. omega arith) ∙ state) (other-word countField (λ e. omega arith)))
+        (gone-budget row askingAll (other-word stateField (λ e. omega arith) ∙ state) (λ e. omega arith) (λ e. omega arith) (λ e. omega arith))
+        ))
+        (λ b. rw b (
+        moved-fair (putClientWord (concluded tag told q t) q stateField idle) (emptied q i t) (t .writes)
+        (endedRecord (recordOf t q) (nextStep t) (taggedRecord (recordOf t q) tag (t .reads))) (readShown tag (concluded tag told q t) q (maskOf t q))
+        refl ended-others gone-links gone-others (λ z. omega arith) refl
+        (told-end-kept floor (view t) h tied (few t q ready) q (in-range t q ready) (stepOf t + 1) (writesOf t) (readsOf t) i hi w link a row (other-word maskField (λ e. omega arith)) new old
+        (none-left b) (receivedIn told q) same (rowOf (putClientWord (concluded tag told q t) q stateField idle) q) ended-state ended-count (shownSetpoints (concluded tag told q t) q (maskOf t q)) shows)
+        (gone-budget (rowOf (putClientWord (concluded tag told q t) q stateField idle) q) idle ended-state (λ e. omega arith) (λ e. omega arith) (λ e. omega arith))
+        ))
+      where
+        told : List ℕ
+        told = gotNumber w q i t
+
+        row : ℕ → ℕ
+        row = changed (c .row) (receivedField + i) (w .number)
+
+        told-row : rowOf told q ≡ row
+        told-row = one-word (receivedField + i) (w .number) (omega arith)
+
+        other-word : (x : ℕ) → (x ≡ receivedField + i → ⊥) → row x ≡ c .row x
+        other-word x d = changed-other (c .row) (receivedField + i) (w .number) x d
+
+        new : row (receivedField + i) ≡ w .number
+        new = changed-same (c .row) (receivedField + i) (w .number)
+
+        old : (j : ℕ) → (j ≡ i → ⊥) → row (receivedField + j) ≡ c .row (receivedField + j)
+        old j d = other-word (receivedField + j) (λ e. d (omega arith))
+
+        same : (j : ℕ) → j < targets → receivedIn told q j ≡ row (receivedField + j)
+        same j l = sym (within-at clientWidth 0 (clientWord told q) (receivedField + j) (omega arith)) ∙ ap (λ (f : ℕ → ℕ). f (receivedField + j)) told-row
+
+        tag : ℕ
+        tag = tagChosen told q t
+
+        value : ℕ → ℕ
+        value = setpointAt tag told q t
+
+        -- the row at the end: setpoints at the tag, then the n forgotten, then the tag and the state
+        kept : List ℕ
+        kept = turns (picked (hasServer (maskOf t q)) (keepSetpoint value q)) (serversOf t) told
+
+        forgotten : List ℕ
+        forgotten = turns (forget q) targets kept
+
+        room : setpointsField + serversOf t ≤ clientWidth
+        room = omega (arith, few t q ready)
+
+        told-has : HasRow clientWidth told q
+        told-has = rw (word-length clientWidth (t .clients) q (receivedField + i) (w .number)) (has-row t q ready)
+
+        kept-has : HasRow clientWidth kept q
+        kept-has = rw (loop-length q setpointsField (serversOf t) room (hasServer (maskOf t q)) value told) told-has
+
+        forgotten-has : HasRow clientWidth forgotten q
+        forgotten-has = rw (loop-length q receivedField targets (omega arith) (λ j. true) (λ j. 0) kept) kept-has
+
+        concluded-has : HasRow clientWidth (concluded tag told q t) q
+        concluded-has = rw (word-length clientWidth forgotten q tagField tag) forgotten-has
+
+        ended-others : (r : ℕ) → (r ≡ q → ⊥) → rowOf (putClientWord (concluded tag told q t) q stateField idle) r ≡ rowOf (t .clients) r
+        ended-others r d =
+            row-put-other (concluded tag told q t) q stateField idle (omega arith) r d
+            ∙ row-put-other forgotten q tagField tag (omega arith) r d
+            ∙ loop-rows q receivedField targets (omega arith) (λ j. true) (λ j. 0) kept r d
+            ∙ loop-rows q setpointsField (serversOf t) room (hasServer (maskOf t q)) value told r d
+            ∙ one-others (receivedField + i) (w .number) (omega arith) r d
+
+        ended-state : rowOf (putClientWord (concluded tag told q t) q stateField idle) q stateField ≡ idle
+        ended-state = within-at clientWidth 0 (clientWord (putClientWord (concluded tag told q t) q stateField idle) q) stateField (omega arith) ∙ word-same clientWidth (concluded tag told q t) q stateField idle concluded-has (omega arith)
+
+        -- a word of the row but for the tag and the n
+        concluded-word : (f : ℕ) → f < receivedField → (f ≡ tagField → ⊥) → clientWord (concluded tag told q t) q f ≡ clientWord kept q f
+        concluded-word f l d =
+            word-other clientWidth forgotten q tagField tag q f (omega arith) (omega arith) (λ e. d (e .1))
+            ∙ loop-other q receivedField targets (omega arith) (λ j. true) (λ j. 0) kept q f (omega arith) (λ e. omega (arith, e .1))
+
+        ended-count : rowOf (putClientWord (concluded tag told q t) q stateField idle) q countField ≡ countIn c
+        ended-count =
+            within-at clientWidth 0 (clientWord (putClientWord (concluded tag told q t) q stateField idle) q) countField (omega arith)
+            ∙ word-other clientWidth (concluded tag told q t) q stateField idle q countField (omega arith) (omega arith) (λ e. omega (arith, e .1))
+            ∙ concluded-word countField (omega arith) (λ e. omega arith)
+            ∙ loop-other q setpointsField (serversOf t) room (hasServer (maskOf t q)) value told q countField (omega arith) (λ e. omega (arith, e .1))
+            ∙ word-other clientWidth (t .clients) q (receivedField + i) (w .number) q countField (omega arith) (omega arith) (λ e. omega (arith, e .1))
+            ∙ sym (row-at t q countField (omega arith))
+
+        shows : (j : ℕ) → hasServer (maskIn c) j ≡ true → getD (shownSetpoints (concluded tag told q t) q (maskOf t q)) j 0 ≡ value j
+        shows j m =
+            let l : j < serversOf t = a .bound j m in
+            shown-at (concluded tag told q t) q (maskOf t q) j (omega (arith, few t q ready)) (rw mask-at at m)
+            ∙ concluded-word (setpointsField + j) (omega (arith, few t q ready)) (λ e. omega arith)
+            ∙ loop-there q setpointsField (serversOf t) room (hasServer (maskOf t q)) value told j told-has l (rw mask-at at m)
+
+    in-activity : Does Activity → Okay (replyDelivered q i t)
+    unfolding onReplyIn
+    in-activity (at-rest e a) = not-empty (Reply w) (omega arith) (sym link ∙ a .links i hi)
+    in-activity (at-writing e a) = subst (Okay) (sym (in-state rules.writing e)) (done-fair e a)
+    in-activity (at-entering e a) = subst (Okay) (sym (in-state entering e)) (entered-fair a)
+    in-activity (at-keys e a) = subst (Okay) (sym (in-state askingKeys e)) (keys-fair e a)
+    in-activity (at-getting e a) = subst (Okay) (sym (in-state askingSetpoints e)) (got-fair e a)
+    in-activity (at-all e a) = subst (Okay) (sym (in-state askingAll e)) (all-fair e a)
+
+  by-content : (x : Content) → contentAt t q i ≡ x → Okay (onReply x q i t)
+  unfolding replyDelivered
+  by-content Nothing e = refused-reply floor t h tied budget q i 9 (λ z. omega arith)
+  by-content (Request w) e = refused-reply floor t h tied budget q i 9 (λ z. omega arith)
+  by-content (Reply w) e = rw e at (in-activity w e (tied .clients q (in-range t q ready) .activity))
+
+  pub reply-fair : Okay (replyDelivered q i t)
+  unfolding replyDelivered
+  reply-fair = by-content (contentAt t q i) refl

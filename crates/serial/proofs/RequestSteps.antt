@@ -1,0 +1,196 @@
+-- The delivery of a request, on the tables.
+use Prim.Native.Nat.{ℕ, _+_, _≤_, _<_}
+use mathlib.Core.Path.{_≡_, refl, sym, ap, _∙_, subst}
+use mathlib.Core.Bool.{cond}
+use mathlib.Core.List.{List}
+use native.Mathlib.Omega.{arith}
+use native.Mathlib.Numerals.{add-one}
+use lib.ListN.{set, length, length-set}
+use lib.Seq.{getD-set-other}
+use lib.Dec.{eqb}
+use borrow.Author.Tests.{lt-ltb}
+use Rattle.ranges.specs.Tests.{by-equal}
+use Rattle.keys.specs.Keys.{keyWord}
+use Rattle.tables.specs.Layout.{countAt, countWords, heldField, stepField, entriesField, serverPlaces, logPlaces, putVersionWord, putEntry, stateField, tagField}
+use Rattle.tables.specs.Links.{targets, putLink, link-same}
+use Rattle.tables.specs.Tables.{Tables, tablesOf, stepOf, entriesOf, writesOf, readsOf, heldOf, stateOf, recordOf, contentAt, serversOf}
+use Rattle.tables.specs.declared.links.Contents.{Contents}
+use Rattle.tables.specs.declared.links.Content.{Content}
+use Rattle.tables.specs.declared.links.Content.the-variants.{Nothing, Request, Reply}
+use Rattle.server.specs.Held.{appended, firstBearing}
+use Rattle.coordinator.specs.Log as log
+use Rattle.rules.specs.Answers.{Left, left}
+use Rattle.rules.specs.Common.{entering, askingKeys, askingSetpoints, askingAll, coordinator, reply, taggedRecord}
+use Rattle.rules.specs.Common as rules
+use Rattle.rules.specs.Request.{refused, onSet, onEnter, onWhichKeys, onGet, onGetAll, onRequestIn, onRequest, requestDelivered}
+use Rattle.rules.specs.declared.Answer.the-variants.{Ok}
+use Rattle.serial.specs.Steps.{requested}
+use Rattle.serial.specs.History.{changed, Doing, History}
+use Rattle.serial.specs.Claim.{IsReply, LeavesReply}
+use Rattle.serial.specs.Consequences.{numberOf, counted}
+use Rattle.serial.proofs.Press.{Shared, renumbered, Client, Press, pressOf, stateIn, sharedOf, view, weight, World, world}
+use Rattle.serial.proofs.View.{link-put, link-put-other, view-is, sharedIn, shared-step, shared-held, shared-entries}
+use Rattle.serial.proofs.Links.{come-changed}
+use Rattle.serial.proofs.Versions.{found-place}
+use Rattle.serial.proofs.Ready.{Ready, few, in-range, has-link, has-keys, has-values, row-at, link-at, not-empty}
+use Rattle.serial.proofs.Invariant.{Writing, Entering, AskingKeys, Getting, AskingAll, Activity, at-rest, at-writing, at-entering, at-keys, at-getting, at-all, Tied}
+use Rattle.serial.proofs.Kept.{Kept, passed-tied}
+use Rattle.serial.proofs.Budget.{waits, due, Budget, waiting-room, entry-room}
+use Rattle.serial.proofs.Spending.{further, set-budget, enter-budget}
+use Rattle.serial.proofs.Requests.{versionMore, entryMore, withLink, set-kept, enter-kept, which-keys-kept, get-kept, get-all-kept}
+
+-- the step keeps the tie and the budget, pays what it owes, leaves the reply on the link, and finds room
+pub record FairRequest (floor : ℕ → ℕ) (h : History) (n q i : ℕ) (x : Left) : Type 0 where
+  pub kept : Kept floor h (requested q i (x .answer)) (view (x .tables))
+  pub budget : Budget (view (x .tables))
+  pub answers : LeavesReply (x .answer) (contentAt (x .tables) q i)
+  pub room : numberOf (x .answer) ≡ 8 → ⊥
+  pub step : stepOf (x .tables) ≡ counted (x .answer) n
+
+module _ (floor : ℕ → ℕ) (t : Tables) (h : History) (tied : Tied floor (view t) h) (budget : Budget (view t)) (q i : ℕ) where
+  pub refused-fair : (n : ℕ) → (n ≡ 8 → ⊥) → FairRequest floor h (stepOf t) q i (refused n t)
+  refused-fair n d = record { kept = (tt, passed-tied floor (view t) h tied); budget = budget; answers = tt; room = d; step = refl }
+
+module _ (floor : ℕ → ℕ) (t : Tables) (h : History) (tied : Tied floor (view t) h) (budget : Budget (view t)) (q : ℕ) (ready : Ready t q) (i : ℕ) (hi : i < targets) where
+  abbrev Okay : Left → Type 0
+  Okay = FairRequest floor h (stepOf t) q i
+
+  -- the client, and what it does
+  abbrev c : Client
+  c = view t .client q
+
+  abbrev Does : (ℕ → World → ℕ → ℕ → Client → Doing → Type 0) → Type 0
+  Does P = P (h .extra) (world (view t) h) (floor q) q c (h .doing q)
+
+  -- the tables when a reply has taken the request's place
+  abbrev replied : List ℕ → List ℕ → List ℕ → List ℕ → List ℕ → ℕ → Tables
+  replied counts keys values log writes n = tablesOf (rules.counted counts) (t .clients) (putLink (t .links) q i (reply n)) keys values log writes (t .reads)
+
+  abbrev next : Shared → Shared
+  next s = renumbered (stepOf t + 1) (s .writes) (s .reads) s
+
+  abbrev repliedPress : Shared → ℕ → Press
+  repliedPress s n = pressOf (next s) (changed (view t .client) q (withLink c i (reply n)))
+
+  module _ (counts keys values log writes : List ℕ) (n : ℕ) (long : countWords ≤ length counts) (step : countAt counts stepField ≡ stepOf t) where
+    replied-view : (s : Shared) → sharedIn counts keys values log ≡ s → view (replied counts keys values log writes n) ≡ repliedPress s n
+    replied-view s e =
+        view-is t (replied counts keys values log writes n) q
+        (shared-step counts (countAt counts stepField + 1) keys values log long
+        ∙ ap (λ (x : Shared). renumbered (countAt counts stepField + 1) (x .writes) (x .reads) x) e
+        ∙ ap (λ (m : ℕ). renumbered (m + 1) (s .writes) (s .reads) s) step)
+        refl (link-put (t .links) q i (reply n) hi (has-link t q ready i hi) (record { count = omega arith; client = omega arith }))
+        (λ r d. refl) (λ r d. link-put-other (t .links) q i (reply n) hi r d)
+
+    replied-reply : contentAt (replied counts keys values log writes n) q i ≡ reply n
+    replied-reply = link-same (t .links) q i (reply n) (has-link t q ready i hi) (record { count = omega arith; client = omega arith })
+
+    replied-fair : (s : Shared) → sharedIn counts keys values log ≡ s → Kept floor h (requested q i Ok) (repliedPress s n) → Budget (repliedPress s n) → Okay (left Ok (replied counts keys values log writes n))
+    replied-fair s e k b = record {
+      kept = subst (λ (v : Press). Kept floor h (requested q i Ok) v) (sym (replied-view s e)) k;
+      budget = subst Budget (sym (replied-view s e)) b;
+      answers = subst IsReply (sym replied-reply) tt;
+      room = λ z. omega arith;
+      step = ap (λ (v : Press). v .shared .step) (replied-view s e) ∙ add-one (stepOf t);
+    }
+
+  counts-long : countWords ≤ length (t .counts)
+  counts-long = ready .sound .long .counts
+
+  -- a READ's request: one delivery further
+  read-further : (n : ℕ) (w : Contents) → c .link i ≡ Request w → (state : ℕ) → stateIn c ≡ state → (state ≡ rules.writing → ⊥) → (state ≡ entering → ⊥) → Budget (repliedPress (sharedOf t) n)
+  read-further n w lk state is a b =
+      further (view t) budget q (in-range t q ready) (withLink c i (reply n)) state is a b (omega (arith, come-changed (c .link) i (reply n) hi, ap weight lk))
+
+  module _ (w : Contents) (lk : contentAt t q i ≡ Request w) where
+    link : c .link i ≡ Request w
+    link = link-at t q i hi ∙ lk
+
+    -- what a delivery is, by the client's state
+    delivered-is : requestDelivered q i t ≡ onRequestIn (stateOf t q) w q i t
+    unfolding requestDelivered
+    delivered-is = rw lk
+
+    in-state : (state : ℕ) → stateIn c ≡ state → requestDelivered q i t ≡ onRequestIn state w q i t
+    in-state state e = delivered-is ∙ ap (λ (x : ℕ). onRequestIn x w q i t) (sym (row-at t q stateField (omega arith)) ∙ e)
+
+    -- a set request finds room
+    set-fair : stateIn c ≡ rules.writing → Does Writing → Okay (onSet w q i t)
+    unfolding onSet appended
+    set-fair state a =
+        let waiting : waits i c ≡ 1 = rw (state, link) in
+        let room : heldOf t i < serverPlaces = omega (arith, waiting-room (view t) budget q (in-range t q ready) i waiting, ready .sound .scalars .writes) in
+        let l : i < serversOf t = rw link at (a .links i hi) .2 in
+        rw (lt-ltb (heldOf t i) serverPlaces room)
+        (replied-fair (set (t .counts) (heldField + i) (heldOf t i + 1)) (putVersionWord (t .keys) i (heldOf t i) (keyWord (w .key))) (putVersionWord (t .values) i (heldOf t i) (w .number)) (t .log) (t .writes) 0
+        (rw (length-set (t .counts) (heldField + i) (heldOf t i + 1)) counts-long) (getD-set-other (t .counts) (heldField + i) stepField (heldOf t i + 1) 0 (λ e. omega arith))
+        (versionMore (sharedOf t) i (keyWord (w .key)) (w .number))
+        (shared-held (t .counts) (heldOf t i + 1) _ _ _ counts-long i (omega (arith, few t q ready)) ∙ rw (add-one (heldOf t i)))
+        (set-kept floor (view t) h tied (few t q ready) q (in-range t q ready) (stepOf t + 1) (writesOf t) (readsOf t) i w link hi state a (has-keys t q ready i l) (has-values t q ready i l) room)
+        (set-budget (view t) budget q (in-range t q ready) i hi w link state (keyWord (w .key)) (w .number)))
+
+    -- an entry finds room
+    enter-fair : i ≡ coordinator → stateIn c ≡ entering → (a : Does Entering) → Okay (onEnter w q i t)
+    unfolding onEnter log.entered
+    enter-fair at state a =
+        let there : c .link coordinator ≡ Request w = ap (c .link) (sym at) ∙ link in
+        let waiting : due c ≡ 1 = rw (state, there) in
+        let room : entriesOf t < logPlaces = omega (arith, entry-room (view t) budget q (in-range t q ready) waiting, ready .sound .scalars .writes) in
+        let head = rw there at (a .head) in
+        rw (lt-ltb (entriesOf t) logPlaces room)
+        (replied-fair (set (t .counts) entriesField (entriesOf t + 1)) (t .keys) (t .values) (putEntry (t .log) (entriesOf t) (w .key) (w .number)) (taggedRecord (recordOf t q) (entriesOf t) (t .writes)) (entriesOf t)
+        (rw (length-set (t .counts) entriesField (entriesOf t + 1)) counts-long) (getD-set-other (t .counts) entriesField stepField (entriesOf t + 1) 0 (λ e. omega arith))
+        (entryMore (sharedOf t) (w .key) (w .number))
+        (shared-entries (t .counts) (entriesOf t + 1) _ _ _ counts-long ∙ rw (add-one (entriesOf t)))
+        (rw at (enter-kept floor (view t) h tied (few t q ready) q (in-range t q ready) (stepOf t + 1) (writesOf t) (readsOf t) w state a (head .0) (head .1) (head .2) (omega (arith, ready .sound .long .log))))
+        (rw at (enter-budget (view t) budget q (in-range t q ready) w there state (w .key) (w .number) (entriesOf t))))
+
+    -- the head or a server tells how much it holds
+    which-fair : i ≡ coordinator → stateIn c ≡ askingKeys → Does AskingKeys → Okay (onWhichKeys q i t)
+    unfolding onWhichKeys
+    which-fair at state a =
+        let there : c .link coordinator ≡ Request w = ap (c .link) (sym at) ∙ link in
+        replied-fair (t .counts) (t .keys) (t .values) (t .log) (t .writes) (entriesOf t) counts-long refl (sharedOf t) refl
+        (rw at (which-keys-kept floor (view t) h tied (few t q ready) q (in-range t q ready) (stepOf t + 1) (writesOf t) (readsOf t) w there state a))
+        (read-further (entriesOf t) w link askingKeys state (λ e. omega arith) (λ e. omega arith))
+
+    all-fair : stateIn c ≡ askingAll → Does AskingAll → Okay (onGetAll q i t)
+    unfolding onGetAll
+    all-fair state a =
+        replied-fair (t .counts) (t .keys) (t .values) (t .log) (t .writes) (cond (eqb i coordinator) (entriesOf t) (heldOf t i)) counts-long refl (sharedOf t) refl
+        (get-all-kept floor (view t) h tied (few t q ready) q (in-range t q ready) (stepOf t + 1) (writesOf t) (readsOf t) i hi w link state a)
+        (read-further _ w link askingAll state (λ e. omega arith) (λ e. omega arith))
+
+    -- a get request finds its key
+    get-fair : stateIn c ≡ askingSetpoints → Does Getting → Okay (onGet w q i t)
+    unfolding onGet
+    get-fair state a =
+        let v = world (view t) h .value (c .row tagField) i in
+        let f = found-place (t .keys) (t .values) i (w .key) (heldOf t i) v (rw link at (a .links i hi)) in
+        rw (lt-ltb (firstBearing (t .keys) i (w .key) (heldOf t i)) (heldOf t i) (f .0), f .1)
+        (replied-fair (t .counts) (t .keys) (t .values) (t .log) (t .writes) v counts-long refl (sharedOf t) refl
+        (get-kept floor (view t) h tied (few t q ready) q (in-range t q ready) (stepOf t + 1) (writesOf t) (readsOf t) i hi w link state a)
+        (read-further v w link askingSetpoints state (λ e. omega arith) (λ e. omega arith)))
+
+    -- only the head's link holds anything in states 2 and 3
+    at-head : ((j : ℕ) → j < coordinator → c .link j ≡ Nothing) → i ≡ coordinator
+    at-head others = by-equal i coordinator (λ e. e) (λ d. not-empty (Request w) (omega arith) (sym link ∙ others i (omega arith)))
+
+    in-activity : Does Activity → Okay (requestDelivered q i t)
+    unfolding onRequestIn
+    in-activity (at-rest e a) = not-empty (Request w) (omega arith) (sym link ∙ a .links i hi)
+    in-activity (at-writing e a) = subst (Okay) (sym (in-state rules.writing e)) (set-fair e a)
+    in-activity (at-entering e a) = subst (Okay) (sym (in-state entering e)) (enter-fair (at-head (a .others)) e a)
+    in-activity (at-keys e a) = subst (Okay) (sym (in-state askingKeys e)) (which-fair (at-head (a .others)) e a)
+    in-activity (at-getting e a) = subst (Okay) (sym (in-state askingSetpoints e)) (get-fair e a)
+    in-activity (at-all e a) = subst (Okay) (sym (in-state askingAll e)) (all-fair e a)
+
+  by-content : (c : Content) → contentAt t q i ≡ c → Okay (onRequest c q i t)
+  unfolding requestDelivered
+  by-content Nothing e = refused-fair floor t h tied budget q i 9 (λ z. omega arith)
+  by-content (Request w) e = rw e at (in-activity w e (tied .clients q (in-range t q ready) .activity))
+  by-content (Reply w) e = refused-fair floor t h tied budget q i 9 (λ z. omega arith)
+
+  pub request-fair : Okay (requestDelivered q i t)
+  unfolding requestDelivered
+  request-fair = by-content (contentAt t q i) refl

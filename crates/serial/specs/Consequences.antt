@@ -1,0 +1,64 @@
+-- What follows beside demand 3 for the same lists of steps.
+use Prim.Native.Nat.{ℕ, suc, _≤_}
+use mathlib.Core.Path.{_≡_}
+use mathlib.Core.Bool.{true}
+use mathlib.Core.List.{List, [], _∷_}
+use Rattle.rules.specs.declared.Answer.{Answer}
+use Rattle.rules.specs.declared.Answer.the-variants as answer
+use Rattle.rules.specs.declared.Arrival.{Arrival}
+use Rattle.rules.specs.declared.Arrival.the-variants as arrival
+use Rattle.soundness.specs.Sound.{sound}
+use Rattle.serial.specs.Steps.{Event, opened, begun-write, begun-read, requested, replied, Played}
+use Rattle.serial.specs.Row.{Each}
+
+-- the number by which a step was refused; 0 where it was accepted
+abbrev pub numberOf : Answer → ℕ
+numberOf answer.Ok = 0
+numberOf (answer.Refused n) = n
+
+abbrev pub numberOfArrival : Arrival → ℕ
+numberOfArrival arrival.Wait = 0
+numberOfArrival arrival.Next = 0
+numberOfArrival (arrival.Write tag) = 0
+numberOfArrival (arrival.Read tag) = 0
+numberOfArrival (arrival.Refused n) = n
+
+abbrev pub number : Event → ℕ
+number (opened method k p setpoints a) = numberOf a
+number (begun-write q mask setpoints a) = numberOf a
+number (begun-read q mask a) = numberOf a
+number (requested q i a) = numberOf a
+number (replied q i d) = numberOfArrival (d .arrival)
+
+-- "The opening is step 1; each accepted step adds 1": the accepted steps behind the last accepted opening, and that opening
+abbrev pub counted : Answer → ℕ → ℕ
+counted answer.Ok n = suc n
+counted (answer.Refused m) n = n
+
+abbrev pub countedArrival : Arrival → ℕ → ℕ
+countedArrival arrival.Wait n = suc n
+countedArrival arrival.Next n = suc n
+countedArrival (arrival.Write tag) n = suc n
+countedArrival (arrival.Read tag) n = suc n
+countedArrival (arrival.Refused m) n = n
+
+abbrev pub accepted : Event → ℕ → ℕ
+accepted (opened method k p setpoints answer.Ok) n = 1
+accepted (opened method k p setpoints (answer.Refused m)) n = n
+accepted (begun-write q mask setpoints a) n = counted a n
+accepted (begun-read q mask a) n = counted a n
+accepted (requested q i a) n = counted a n
+accepted (replied q i d) n = countedArrival (d .arrival) n
+
+abbrev pub acceptedSteps : List Played → ℕ → ℕ
+acceptedSteps [] n = n
+acceptedSteps (x ∷ xs) n = acceptedSteps xs (accepted (x .event) n)
+
+-- n steps were accepted before
+pub record Consequences (played : List Played) (n : ℕ) : Type 0 where
+  -- "a set or enter request finds 256 versions or log entries, or a get request a key not held": from an opening this never arises
+  pub room : Each (λ x. number (x .event) ≡ 8 → ⊥) played
+  -- 255 WRITEs and 255 READs of at most 35 steps each, and the opening
+  pub few : acceptedSteps played n ≤ 17851
+  -- the tables are sound after every step, so that number 2 never arises either
+  pub sound : Each (λ x. sound (x .tables) ≡ true) played

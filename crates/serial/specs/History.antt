@@ -1,0 +1,167 @@
+-- What steps and answers tell of transactions: folded from the events alone, one event at a time. Nothing here knows a method, but for the number of a READ's deliveries.
+use Prim.Native.Nat.{ℕ, suc}
+use mathlib.Core.Bool.{Bool, true, false, cond}
+use mathlib.Core.Option.{Option, none, some}
+use mathlib.Core.List.{List, [], _∷_, _++_}
+use lib.ListN.{getD}
+use lib.Dec.{eqb}
+use Rattle.rules.specs.declared.Answer.the-variants.{Ok, Refused}
+use Rattle.rules.specs.declared.Arrival.{Arrival}
+use Rattle.rules.specs.declared.Arrival.the-variants as arrival
+use Rattle.rules.specs.Common.{coordinator}
+use Rattle.serial.specs.Steps.{Event, opened, begun-write, begun-read, requested, replied, Played}
+
+-- a function changed at one place
+unfoldable pub changed : {A : Type 0} → (ℕ → A) → ℕ → A → ℕ → A
+changed f i a j = cond (eqb j i) a (f j)
+
+-- A transaction that stands in the row. Steps are numbered from 0 behind the opening, refused ones too.
+pub record Transaction : Type 0 where
+  pub isWrite : Bool
+  pub client : ℕ
+  pub mask : ℕ
+  -- what a WRITE's begin gave, what a READ's end showed
+  pub setpoints : List ℕ
+  pub tag : ℕ
+  pub begin : ℕ
+  pub end : Option ℕ
+  -- of a READ
+  pub deliveries : ℕ
+
+-- What a client is at: no transaction; a WRITE whose request at target 16 was not delivered yet; a WRITE of a tag; a READ with its deliveries so far.
+pub data Doing : Type 0 where
+  nothing : Doing
+  writing : (mask : ℕ) → List ℕ → (begin : ℕ) → Doing
+  tagged : (tag : ℕ) → Doing
+  reading : (mask begin deliveries : ℕ) → Doing
+
+pub record History : Type 0 where
+  -- the opening's values, and the deliveries at which a READ ends beyond two for each of its stations
+  pub initial : ℕ → ℕ
+  pub extra : ℕ
+  -- steps so far
+  pub clock : ℕ
+  -- WRITEs tagged so far; the WRITE of each tag; the tag that its *write* answered
+  pub tags : ℕ
+  pub write : ℕ → Transaction
+  pub said : ℕ → Option ℕ
+  -- finished READs by end
+  pub reads : List Transaction
+  pub doing : ℕ → Doing
+  -- accepted steps that fit no transaction: a begin of a client that is at one, a delivery to a client that is at none, an end of another kind
+  pub astray : ℕ
+
+abbrev pub historyOf : (ℕ → ℕ) → ℕ → ℕ → ℕ → (ℕ → Transaction) → (ℕ → Option ℕ) → List Transaction → (ℕ → Doing) → ℕ → History
+historyOf initial extra clock tags write said reads doing astray =
+    record { initial = initial; extra = extra; clock = clock; tags = tags; write = write; said = said; reads = reads; doing = doing; astray = astray }
+
+-- a step that the row does not see
+abbrev pub passed : History → History
+passed h = historyOf (h .initial) (h .extra) (suc (h .clock)) (h .tags) (h .write) (h .said) (h .reads) (h .doing) (h .astray)
+
+abbrev pub strayed : History → History
+strayed h = historyOf (h .initial) (h .extra) (suc (h .clock)) (h .tags) (h .write) (h .said) (h .reads) (h .doing) (suc (h .astray))
+
+-- a step after which the client is at something else
+abbrev pub turned : ℕ → Doing → History → History
+turned q doing h = historyOf (h .initial) (h .extra) (suc (h .clock)) (h .tags) (h .write) (h .said) (h .reads) (changed (h .doing) q doing) (h .astray)
+
+-- "A transaction begins at an accepted begin"
+abbrev pub begun : Doing → ℕ → Doing → History → History
+begun nothing q doing h = turned q doing h
+begun (writing mask setpoints begin) q doing h = strayed h
+begun (tagged tag) q doing h = strayed h
+begun (reading mask begin deliveries) q doing h = strayed h
+
+-- "A READ's deliveries are the accepted ones, of requests and replies, on its panel's links from its begin to its end"
+abbrev pub delivered : Doing → ℕ → History → History
+delivered nothing q h = strayed h
+delivered (writing mask setpoints begin) q h = passed h
+delivered (tagged tag) q h = passed h
+delivered (reading mask begin deliveries) q h = turned q (reading mask begin (suc deliveries)) h
+
+-- "WRITEs are tagged 1, 2, 3 and so on in the order in which their requests at target 16 were first delivered"
+abbrev pub writeOf : ℕ → ℕ → List ℕ → ℕ → ℕ → Option ℕ → Transaction
+writeOf q mask setpoints tag begin end =
+    record { isWrite = true; client = q; mask = mask; setpoints = setpoints; tag = tag; begin = begin; end = end; deliveries = 0 }
+
+abbrev pub given : ℕ → ℕ → List ℕ → ℕ → History → History
+given q mask setpoints begin h =
+    historyOf (h .initial) (h .extra) (suc (h .clock)) (suc (h .tags))
+    (changed (h .write) (suc (h .tags)) (writeOf q mask setpoints (suc (h .tags)) begin none))
+    (changed (h .said) (suc (h .tags)) none)
+    (h .reads) (changed (h .doing) q (tagged (suc (h .tags)))) (h .astray)
+
+abbrev pub entered : Doing → ℕ → History → History
+entered nothing q h = strayed h
+entered (writing mask setpoints begin) q h = given q mask setpoints begin h
+entered (tagged tag) q h = passed h
+entered (reading mask begin deliveries) q h = turned q (reading mask begin (suc deliveries)) h
+
+-- "and finishes at the next reply delivered to its panel that answers *write* or *read*"; "*write* answers this tag"
+abbrev pub ended : ℕ → Transaction → Transaction
+ended end x = record { isWrite = x .isWrite; client = x .client; mask = x .mask; setpoints = x .setpoints; tag = x .tag; begin = x .begin; end = some end; deliveries = x .deliveries }
+
+abbrev pub wrote : ℕ → Doing → ℕ → History → History
+wrote answer nothing q h = strayed h
+wrote answer (writing mask setpoints begin) q h = strayed h
+wrote answer (tagged tag) q h =
+    historyOf (h .initial) (h .extra) (suc (h .clock)) (h .tags)
+    (changed (h .write) tag (ended (h .clock) (h .write tag)))
+    (changed (h .said) tag (some answer))
+    (h .reads) (changed (h .doing) q nothing) (h .astray)
+wrote answer (reading mask begin deliveries) q h = strayed h
+
+-- "A READ's tag and the setpoints it shows are those in its *read*."
+abbrev pub readOf : ℕ → ℕ → List ℕ → ℕ → ℕ → ℕ → ℕ → Transaction
+readOf q mask shown tag begin end deliveries =
+    record { isWrite = false; client = q; mask = mask; setpoints = shown; tag = tag; begin = begin; end = some end; deliveries = deliveries }
+
+abbrev pub showed : ℕ → List ℕ → Doing → ℕ → History → History
+showed tag shown nothing q h = strayed h
+showed tag shown (writing mask setpoints begin) q h = strayed h
+showed tag shown (tagged t) q h = strayed h
+showed tag shown (reading mask begin deliveries) q h =
+    historyOf (h .initial) (h .extra) (suc (h .clock)) (h .tags) (h .write) (h .said)
+    (h .reads ++ (readOf q mask shown tag begin (h .clock) (suc deliveries) ∷ []))
+    (changed (h .doing) q nothing) (h .astray)
+
+abbrev pub arrived : Arrival → List ℕ → ℕ → History → History
+arrived arrival.Wait shown q h = delivered (h .doing q) q h
+arrived arrival.Next shown q h = delivered (h .doing q) q h
+arrived (arrival.Write tag) shown q h = wrote tag (h .doing q) q h
+arrived (arrival.Read tag) shown q h = showed tag shown (h .doing q) q h
+arrived (arrival.Refused n) shown q h = passed h
+
+-- Behind an accepted opening there is nothing yet. "a READ of m stations ends at exactly the 2m-th accepted delivery … under A, the (2m + 2)-th under B and C"
+abbrev pub noWrite : Transaction
+noWrite = writeOf 0 0 [] 0 0 none
+
+abbrev pub fresh : (ℕ → ℕ) → ℕ → History
+fresh initial extra = historyOf initial extra 0 0 (λ tag. noWrite) (λ tag. none) [] (λ q. nothing) 0
+
+abbrev pub extraOf : ℕ → ℕ
+extraOf method = cond (eqb method 1) 0 2
+
+abbrev pub openedWith : ℕ → List ℕ → History
+openedWith method setpoints = fresh (λ i. getD setpoints i 0) (extraOf method)
+
+-- "their requests at target 16"
+abbrev pub atHead : ℕ → Bool
+atHead i = eqb i coordinator
+
+-- one event more; an accepted opening starts anew
+abbrev pub after : Event → History → History
+after (opened method k p setpoints Ok) h = openedWith method setpoints
+after (opened method k p setpoints (Refused n)) h = passed h
+after (begun-write q mask setpoints Ok) h = begun (h .doing q) q (writing mask setpoints (h .clock)) h
+after (begun-write q mask setpoints (Refused n)) h = passed h
+after (begun-read q mask Ok) h = begun (h .doing q) q (reading mask (h .clock) 0) h
+after (begun-read q mask (Refused n)) h = passed h
+after (requested q i Ok) h = cond (atHead i) (entered (h .doing q) q h) (delivered (h .doing q) q h)
+after (requested q i (Refused n)) h = passed h
+after (replied q i d) h = arrived (d .arrival) (d .setpoints) q h
+
+abbrev pub history : List Played → History → History
+history [] h = h
+history (x ∷ xs) h = history xs (after (x .event) h)

@@ -1,0 +1,9 @@
+-- Demand 3, "The row". To believe: Steps, History, Row, Claim; beside it Consequences. To see that they mean it: Sample, the document's own list of steps, and
+-- Wrong, stores that the claim refutes. The proof stands in proofs/, and `proofs/Theorem.antt` has the one theorem, `Demand3 play`.
+pub mod Steps
+pub mod History
+pub mod Row
+pub mod Claim
+pub mod Consequences
+pub mod Sample
+pub mod Wrong

@@ -1,0 +1,50 @@
+-- The row, and the walk along it.
+use Prim.Native.Nat.{ℕ, zero, suc, _<_}
+use mathlib.Core.Path.{_≡_}
+use mathlib.Core.Bool.{true, false, cond, _&&_}
+use mathlib.Core.Option.{some}
+use mathlib.Core.List.{List, [], _∷_, _++_}
+use lib.ListN.{length, getD}
+use lib.Dec.{eqb}
+use Rattle.keys.specs.Masks.{hasServer}
+use Rattle.serial.specs.History.{Transaction, noWrite, History}
+
+-- each of a list
+abbrev pub Each : {A : Type 0} → (A → Type 0) → List A → Type 0
+Each P [] = Unit {0}
+Each P (x ∷ xs) = P x × Each P xs
+
+-- the READs of a tag, by end
+unfoldable pub readsOf : ℕ → List Transaction → List Transaction
+readsOf tag [] = []
+readsOf tag (x ∷ xs) = cond (eqb (x .tag) tag) (x ∷ readsOf tag xs) (readsOf tag xs)
+
+-- WRITEs by tag, each READ behind the WRITE of its own tag and ahead of the next, those of tag 0 first of all, equal tags by end.
+-- "Refused steps, untagged WRITEs and unfinished READs are not in the row."
+unfoldable pub rowTo : History → ℕ → List Transaction
+rowTo h zero = readsOf 0 (h .reads)
+rowTo h (suc tag) = rowTo h tag ++ (h .write (suc tag) ∷ readsOf (suc tag) (h .reads))
+
+abbrev pub row : History → List Transaction
+row h = rowTo h (h .tags)
+
+-- "A WRITE sets the value of each station in its mask to the setpoint that its begin gave for that station. A READ changes none"
+abbrev pub walked : (ℕ → ℕ) → Transaction → ℕ → ℕ
+walked values x i = cond (x .isWrite && hasServer (x .mask) i) (getD (x .setpoints) i 0) (values i)
+
+-- "at each station in its mask it shows the value just then"
+abbrev pub Shows : (ℕ → ℕ) → Transaction → Type 0
+Shows values x = x .isWrite ≡ false → (i : ℕ) → hasServer (x .mask) i ≡ true → getD (x .setpoints) i 0 ≡ values i
+
+-- "The row is walked with k values, at first the opening's."
+abbrev pub Walk : (ℕ → ℕ) → List Transaction → Type 0
+Walk values [] = Unit {0}
+Walk values (x ∷ xs) = Shows values x × Walk (walked values x) xs
+
+-- what stands at a place of a row
+abbrev pub at : List Transaction → ℕ → Transaction
+at row n = getD row n noWrite
+
+-- of any two in the row, one that finished before the other began stands before it
+abbrev pub RealTime : List Transaction → Type 0
+RealTime row = (m n end : ℕ) → m < length row → n < length row → at row m .end ≡ some end → end < at row n .begin → m < n
