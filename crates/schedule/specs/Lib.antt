@@ -2,7 +2,10 @@
 pub mod Lines
 pub mod LineLaws
 pub mod Decimal
+pub mod DecimalLaws
 pub mod Numbers
 pub mod NumberLaws
 pub mod Steps
 pub mod StepLaws
+pub mod ReadBack
+pub mod Examples

@@ -44,7 +44,7 @@ module _ {d : ℕ} where
 
 -- the digits behind it
 module _ (v n : ℕ) {d : ℕ} where
-  ends-of : (l : List ℕ) → d ≡ digitHead l → 10 ≤ d → readOn v n l ≡ Value v n
+  pub ends-of : (l : List ℕ) → d ≡ digitHead l → 10 ≤ d → readOn v n l ≡ Value v n
   unfolding readOn digitHead
   ends-of [] is h = refl
   ends-of (b ∷ rest) is h = rw (← is, le-ltb _ _ h)

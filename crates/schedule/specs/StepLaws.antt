@@ -105,7 +105,7 @@ module _ (byte : ℕ) (l held : List ℕ) {r : Reading} where
     names-pair f is = rw (pair byte l d e ∙ pair-two byte l f) (record { reading = is; place = rw (pair-alone byte (getD l 0 0) (getD l 1 0)) })
 
 -- The whole line.
-step-read : (byte : ℕ) (rest : List ℕ) → length rest ≤ 199 → stepOf (byte ∷ rest) ≡ namedBy byte (numbersOf rest)
+pub step-read : (byte : ℕ) (rest : List ℕ) → length rest ≤ 199 → stepOf (byte ∷ rest) ≡ namedBy byte (numbersOf rest)
 unfolding stepOf
 step-read byte rest h = rw (le-leb _ _ h)
 

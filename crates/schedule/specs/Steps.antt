@@ -73,14 +73,22 @@ pub record Names (names : Named) (held : List ℕ) (answer : Reading) (left : Li
   pub reading : answer ≡ readingOf names
   pub place : left ≡ stored (names .setpoints) held
 
--- a step as a line
+-- A step as a line: its first byte, and its numbers, each behind one space.
+abbrev pub lineByte : Step → ℕ
+lineByte Unreadable = 0
+lineByte (Open method servers clients) = 79
+lineByte (BeginWrite client mask) = 87
+lineByte (BeginRead client mask) = 82
+lineByte (Request client target) = 62
+lineByte (Reply client target) = 60
+
+abbrev pub lineNumbers : Step → List ℕ → List ℕ
+lineNumbers Unreadable setpoints = []
+lineNumbers (Open method servers clients) setpoints = method ∷ servers ∷ clients ∷ setpoints
+lineNumbers (BeginWrite client mask) setpoints = client ∷ mask ∷ setpoints
+lineNumbers (BeginRead client mask) setpoints = client ∷ mask ∷ []
+lineNumbers (Request client target) setpoints = client ∷ target ∷ []
+lineNumbers (Reply client target) setpoints = client ∷ target ∷ []
+
 abbrev pub lineText : Named → List ℕ
-lineText n = go (n .step) (n .setpoints)
-  where
-    go : Step → List ℕ → List ℕ
-    go Unreadable setpoints = []
-    go (Open method servers clients) setpoints = 79 ∷ spacedAll (method ∷ servers ∷ clients ∷ setpoints)
-    go (BeginWrite client mask) setpoints = 87 ∷ spacedAll (client ∷ mask ∷ setpoints)
-    go (BeginRead client mask) setpoints = 82 ∷ spacedAll (client ∷ mask ∷ [])
-    go (Request client target) setpoints = 62 ∷ spacedAll (client ∷ target ∷ [])
-    go (Reply client target) setpoints = 60 ∷ spacedAll (client ∷ target ∷ [])
+lineText n = lineByte (n .step) ∷ spacedAll (lineNumbers (n .step) (n .setpoints))
