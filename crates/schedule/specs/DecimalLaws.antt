@@ -64,7 +64,19 @@ decimal-short n h = digits-short 20 19 n h
 pub word-short : (n : ℕ) → n < 4294967296 → length (decimal n) ≤ 10
 word-short n h = let k : n < 10000000000 = omega arith in digits-short 20 9 n k
 
+-- a number below 100 at most 2
+pub two-short : (n : ℕ) → n < 100 → length (decimal n) ≤ 2
+two-short n h = digits-short 20 1 n h
+
 pub spaced-append : (a b : List ℕ) → spacedAll (a ++ b) ≡ spacedAll a ++ spacedAll b
 unfolding spacedAll
 spaced-append [] b = refl
 spaced-append (n ∷ rest) b = rw (spaced-append rest b, append-assoc)
+
+pub spaced-one : (n : ℕ) → spacedAll (n ∷ []) ≡ 32 ∷ decimal n
+unfolding spacedAll
+spaced-one n = rw append-nil
+
+-- one number more at the end of a row
+pub spaced-more : (l : List ℕ) (i : ℕ) → i < length l → spacedAll (take (i + 1) l) ≡ spacedAll (take i l) ++ (32 ∷ decimal (getD l i 0))
+spaced-more l i h = rw (add-one i, take-suc l i 0 h, spaced-append, spaced-one)
