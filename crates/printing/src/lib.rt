@@ -147,7 +147,14 @@ fn print_word(word: Word, mask: u32, setpoints: &[u32], out: &mut [u8], at: usiz
 }
 
 // The line that answers the line of a number. The mask and the setpoints count for a READ alone.
-pub fn print_answer(number: u64, word: Word, mask: u32, setpoints: &[u32], out: &mut [u8], at: usize) -> usize
+pub fn print_answer(
+    number: u64,
+    word: Word,
+    mask: u32,
+    setpoints: &[u32],
+    out: &mut [u8],
+    at: usize,
+) -> usize
     requires { ⌜ (16 ≤ length (now setpoints)) × (at + 300 ≤ length (now out)) ⌝ }
     ensures { λ r. ⌜ Printed (now (out .entry)) at (answerText number word mask (now (setpoints .entry))) r (now (out .exit)) × (r ≤ at + 300) ⌝ }
 {
@@ -177,7 +184,15 @@ fn print_row(byte: u8, numbers: &[u32], out: &mut [u8], at: usize) -> usize
 }
 
 // The register's line of a WRITE; an end of 0 is none.
-pub fn print_write_record(tag: u32, client: u32, count: u32, begin: u32, end: u32, out: &mut [u8], at: usize) -> usize
+pub fn print_write_record(
+    tag: u32,
+    client: u32,
+    count: u32,
+    begin: u32,
+    end: u32,
+    out: &mut [u8],
+    at: usize,
+) -> usize
     requires { ⌜ at + 57 ≤ length (now out) ⌝ }
     ensures { λ r. ⌜ Printed (now (out .entry)) at (writeText tag client count begin end) r (now (out .exit)) × (r ≤ at + 57) ⌝ }
 {
@@ -188,7 +203,15 @@ pub fn print_write_record(tag: u32, client: u32, count: u32, begin: u32, end: u3
 }
 
 // The register's line of a READ.
-pub fn print_read_record(tag: u32, client: u32, begin: u32, end: u32, overlap: u32, out: &mut [u8], at: usize) -> usize
+pub fn print_read_record(
+    tag: u32,
+    client: u32,
+    begin: u32,
+    end: u32,
+    overlap: u32,
+    out: &mut [u8],
+    at: usize,
+) -> usize
     requires { ⌜ at + 57 ≤ length (now out) ⌝ }
     ensures { λ r. ⌜ Printed (now (out .entry)) at (readText tag client begin end overlap) r (now (out .exit)) × (r ≤ at + 57) ⌝ }
 {
