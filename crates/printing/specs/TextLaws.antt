@@ -1,13 +1,13 @@
 -- Laws of the texts: how they are printed part by part, and how long they are.
-use Prim.Native.Nat.{ℕ, _+_, _*_, _/_, _%_, _≤_, _<_}
-use mathlib.Core.Path.{_≡_, refl, ap, sym, _∙_}
-use mathlib.Core.List.{List, [], _∷_, _++_, append-assoc}
+use Prim.Native.Nat.{ℕ, _+_, _/_, _%_, _≤_, _<_}
+use mathlib.Core.Path.{_≡_, refl, sym}
+use mathlib.Core.List.{List, [], _∷_, _++_}
 use native.Mathlib.Omega.{arith}
 use lib.ListN.{length, take, getD, length-append}
 use Rattle.schedule.specs.Decimal.{decimal, spacedAll}
 use Rattle.schedule.specs.DecimalLaws.{decimal-one, decimal-more, spaced-more}
 use Rattle.ranges.specs.Turns.{turns-none, turns-more}
-use Rattle.printing.specs.Texts.{spaced, pairText, shownText, shownBelow}
+use Rattle.printing.specs.Texts.{spaced, shownText, shownBelow}
 use Rattle.printing.specs.Printed.{Printed}
 use Rattle.printing.specs.PrintedLaws.{printed-none, printed-then}
 

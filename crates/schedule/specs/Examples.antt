@@ -1,7 +1,6 @@
 -- Lines and the steps they name, worked out by the definition: the readings that a schedule's author may ask about.
-use Prim.Native.Nat.{ℕ}
 use mathlib.Core.Path.{_≡_, refl}
-use mathlib.Core.List.{List, [], _∷_}
+use mathlib.Core.List.{[], _∷_}
 use Rattle.schedule.specs.declared.Step.the-variants.{Open, BeginWrite, BeginRead, Request, Reply}
 use Rattle.schedule.specs.Numbers.{digitOf, readOn, numberOf, spacedOf, numbersBehind}
 use Rattle.schedule.specs.Steps.{alone, unreadable, stepOf}

@@ -1,18 +1,17 @@
 -- Laws of numbers as the readers meet them: one for each way that a reader goes.
 use Prim.Native.Nat.{ℕ, zero, suc, _+_, _*_, _-_, _≤_, _<_}
 use mathlib.Core.Path.{_≡_, refl, ap, sym, _∙_}
-use mathlib.Core.Bool.{Bool, true, false, cond, _&&_}
+use mathlib.Core.Bool.{Bool, true, false, cond}
 use mathlib.Core.List.{List, [], _∷_, _++_, append-assoc, append-nil}
 use native.Mathlib.Omega.{arith}
 use native.Mathlib.Numerals.{add-one}
-use lib.ListN.{length, take, drop, getD, set, drop-of-length-le, length-drop, length-take, length-set, take-append-drop}
+use lib.ListN.{length, take, drop, getD, set, drop-of-length-le, length-drop, length-set, take-append-drop}
 use lib.Seq.{drop-cons, drop-drop, take-all, take-suc-set, drop-set-lt, length-take-le}
-use lib.Dec.{eqb, leb, ltb}
+use lib.Dec.{eqb, ltb}
 use borrow.Author.Tests.{eq-eqb, ne-eqb, le-leb, lt-leb, lt-ltb, le-ltb, ltb-true, leb-true}
-use Rattle.ranges.specs.Tests.{either, by-test, both-right}
+use Rattle.ranges.specs.Tests.{by-test, both-right}
 use Rattle.schedule.specs.declared.Number.{Number}
 use Rattle.schedule.specs.declared.Number.the-variants.{Value, Not}
-use Rattle.schedule.specs.declared.Numbers.{Numbers}
 use Rattle.schedule.specs.declared.Numbers.the-variants.{Broken, All}
 use Rattle.schedule.specs.Numbers.{digitOf, digitHead, mayFollow, readOn, numberOf, spacedOf, Read, readThen, numbersBehind, numbersOf, countOf}
 use Rattle.schedule.specs.Steps.{stored}
@@ -174,6 +173,21 @@ module _ (s : List ℕ) (at : ℕ) (front : List ℕ) where
     numbers-more {v} {n} e =
         let w : spacedOf (getD s at 0 ∷ drop (suc at) s) ≡ Value v n = rw (← drop-cons s at 0 h) (sym is ∙ e) in
         rw (drop-cons s at 0 h, w) (one-more front v (skipped n (drop (suc at) s) ∙ rw (drop-drop n (suc at) s, add-one at)))
+
+-- each number takes two bytes or more of a text
+few-then : (s : List ℕ) (r : Number) → r ≡ spacedOf s → (more : ℕ → Read) → ((n : ℕ) → 1 ≤ n → n + 1 ≤ length s → 2 * length (more n .numbers) + n + 1 ≤ length s) → 2 * length (readThen r more .numbers) ≤ length s
+few-then s Not is more h = omega arith
+few-then s (Value v n) is more h = let w = spaced-sized s is refl in omega (arith, h n (w .0) (w .1))
+
+few-behind : (k : ℕ) (s : List ℕ) → k ≤ length s → 2 * length (numbersBehind k s .numbers) + k ≤ length s
+unfolding numbersBehind
+few-behind k [] h = omega arith
+few-behind (suc k) (b ∷ rest) h = omega (arith, few-behind k rest (omega arith))
+few-behind zero (b ∷ rest) h =
+    omega (arith, few-then (b ∷ rest) (spacedOf (b ∷ rest)) refl (λ n. numbersBehind n rest) (λ n l m. omega (arith, few-behind n rest (omega arith))))
+
+pub numbers-few : (s : List ℕ) → 2 * length (numbersOf s .numbers) ≤ length s
+numbers-few s = omega (arith, few-behind 0 s (omega arith))
 
 -- What the loop that reads numbers into a place of 99 keeps: those read stand in front, the rest of the place is as it was, and each took two bytes or more.
 pub record ReadSoFar (part held numbers : List ℕ) (at count : ℕ) : Type 0 where

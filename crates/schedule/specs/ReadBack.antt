@@ -1,20 +1,19 @@
 -- What is printed is read back, and nothing else is read: a line names a step exactly where it is that step's text.
-use Prim.Native.Nat.{ℕ, zero, suc, _+_, _*_, _-_, _/_, _%_, _^_, _≤_, _<_}
+use Prim.Native.Nat.{ℕ, zero, suc, _+_, _*_, _/_, _%_, _^_, _≤_, _<_}
 use mathlib.Core.Path.{_≡_, refl, ap, sym, _∙_}
-use mathlib.Core.Bool.{Bool, true, false, cond, _&&_, true≢false}
+use mathlib.Core.Bool.{true, true≢false}
 use mathlib.Core.Logic.{_⊎_, inl, inr}
-use mathlib.Core.List.{List, [], _∷_, _++_, append-assoc, append-nil}
+use mathlib.Core.List.{List, [], _∷_, _++_, append-assoc}
 use native.Mathlib.Nat.{pow-succ'}
 use native.Mathlib.Omega.{arith}
-use native.Mathlib.Numerals.{add-one}
-use lib.ListN.{length, take, drop, length-append, drop-of-length-le}
+use lib.ListN.{length, drop, length-append}
 use lib.Seq.{drop-append-seam, drop-at, drop-nil, append-snoc}
 use lib.Dec.{eqb, leb, ltb}
-use borrow.Author.Tests.{eq-eqb, ne-eqb, le-leb, lt-leb, lt-ltb, le-ltb, ltb-true, ltb-false, leb-true, eqb-true}
-use Rattle.ranges.specs.Tests.{either, by-test, both-left, both-right}
+use borrow.Author.Tests.{le-leb, lt-ltb, ltb-true, ltb-false, leb-true, eqb-true}
+use Rattle.ranges.specs.Tests.{by-test, both-left, both-right}
 use Rattle.schedule.specs.declared.Number.{Number}
 use Rattle.schedule.specs.declared.Number.the-variants.{Value, Not}
-use Rattle.schedule.specs.Decimal.{glyph, digits, decimal, spacedAll}
+use Rattle.schedule.specs.Decimal.{glyph, decimal, spacedAll}
 use Rattle.schedule.specs.DecimalLaws.{decimal-one, decimal-more}
 use Rattle.schedule.specs.declared.Step.{Step}
 use Rattle.schedule.specs.declared.Step.the-variants.{Unreadable, Open, BeginWrite, BeginRead, Request, Reply}

@@ -1,22 +1,22 @@
 -- Laws of the step that a line names, one for each way that the reader goes.
-use Prim.Native.Nat.{ℕ, zero, suc, _+_, _-_, _≤_, _<_}
+use Prim.Native.Nat.{ℕ, suc, _+_, _-_, _≤_, _<_}
 use mathlib.Core.Path.{_≡_, refl, ap, sym, _∙_}
-use mathlib.Core.Bool.{Bool, true, false, cond}
-use mathlib.Core.List.{List, [], _∷_, _++_}
+use mathlib.Core.Bool.{true, false}
+use mathlib.Core.List.{List, [], _∷_}
 use native.Mathlib.Omega.{arith}
 use native.Mathlib.Numerals.{add-one}
-use lib.ListN.{length, take, drop, getD, set, length-append, length-take, length-drop, length-set}
-use lib.Seq.{length-take-le, take-suc, take-all, take-length, take-at, drop-cons, append-snoc, set-at}
+use lib.ListN.{length, take, drop, getD, set, length-append, length-take, length-drop}
+use lib.Seq.{length-take-le, take-suc, take-all, take-length, take-at, take-append-seam, drop-cons, append-snoc, set-at}
 use Rattle.ranges.specs.Tests.{either, by-test}
 use Rattle.schedule.specs.declared.Numbers.{Numbers}
 use Rattle.schedule.specs.declared.Numbers.the-variants.{Broken, All}
 use Rattle.schedule.specs.declared.Reading.{Reading}
 use lib.Dec.{eqb, leb}
-use borrow.Author.Tests.{eq-eqb, ne-eqb, le-leb, lt-leb}
-use Rattle.schedule.specs.declared.Step.{Step}
-use Rattle.schedule.specs.declared.Step.the-variants.{Unreadable, Open, BeginWrite, BeginRead, Request, Reply}
+use borrow.Author.Tests.{eq-eqb, ne-eqb, le-leb, lt-leb, leb-true}
+use Rattle.schedule.specs.NumberLaws.{numbers-few}
+use Rattle.schedule.specs.declared.Step.the-variants.{Open, BeginWrite}
 use Rattle.schedule.specs.Numbers.{Read, numbersOf, countOf}
-use Rattle.schedule.specs.Steps.{Named, alone, unreadable, namedOpen, namedWrite, pairNamed, namedPair, named, namedBy, stepOf, readingOf, stored, Names}
+use Rattle.schedule.specs.Steps.{Named, unreadable, namedOpen, namedWrite, pairNamed, namedPair, named, namedBy, stepOf, readingOf, stored, Names}
 
 -- The numbers of a line, at most 99, and a place for its setpoints, at most 97.
 pub record Fits (numbers setpoints : List ℕ) : Type 0 where
@@ -118,6 +118,44 @@ pub line-long : (line : List ℕ) → 200 < length line → stepOf line ≡ unre
 unfolding stepOf
 line-long [] h = refl
 line-long (byte ∷ rest) h = let k : 199 < length rest = omega arith in rw (lt-leb _ _ k)
+
+-- a line has at most 97 setpoints
+few-open : (l : List ℕ) → length l ≤ 99 → length (namedOpen l .setpoints) ≤ 97
+few-open [] h = omega arith
+few-open (a ∷ []) h = omega arith
+few-open (a ∷ b ∷ []) h = omega arith
+few-open (a ∷ b ∷ d ∷ l) h = omega arith
+
+few-write : (l : List ℕ) → length l ≤ 99 → length (namedWrite l .setpoints) ≤ 97
+few-write [] h = omega arith
+few-write (a ∷ []) h = omega arith
+few-write (a ∷ b ∷ l) h = omega arith
+
+few-pair : (byte : ℕ) (l : List ℕ) → length (namedPair byte l .setpoints) ≤ 97
+few-pair byte [] = omega arith
+few-pair byte (a ∷ []) = omega arith
+few-pair byte (a ∷ b ∷ []) = rw (pair-alone byte a b) (omega arith)
+few-pair byte (a ∷ b ∷ d ∷ l) = omega arith
+
+few-named : (byte : ℕ) (l : List ℕ) → length l ≤ 99 → length (named byte l .setpoints) ≤ 97
+few-named byte l h =
+    either (λ (n : Named). length (n .setpoints) ≤ 97) (eqb byte 79)
+    (few-open l h)
+    (either (λ (n : Named). length (n .setpoints) ≤ 97) (eqb byte 87) (few-write l h) (few-pair byte l))
+
+pub few-setpoints : (line : List ℕ) → length (stepOf line .setpoints) ≤ 97
+unfolding stepOf
+few-setpoints [] = omega arith
+few-setpoints (byte ∷ rest) =
+    by-test (leb (length rest) 199)
+    (λ e. rw e (either (λ (n : Named). length (n .setpoints) ≤ 97) (numbersOf rest .whole)
+    (few-named byte (numbersOf rest .numbers) (omega (arith, numbers-few rest, leb-true (length rest) 199 e)))
+    (omega arith)))
+    (λ e. rw e (omega arith))
+
+-- the setpoints stand in front of the place
+pub stored-front : (setpoints held : List ℕ) → take (length setpoints) (stored setpoints held) ≡ setpoints
+stored-front setpoints held = take-append-seam setpoints (drop (length setpoints) held)
 
 -- what the number reader's answer tells
 count-broken : (read : Read) → Broken ≡ countOf read → read .whole ≡ false

@@ -27,37 +27,15 @@ print-decimal-below t =
     (falls 1 print-decimal-kinds.ps _<_ μ-print-decimal t)
     print-decimal.Pre
 
-print-decimal-cast-put-byte : (t : ℕ) → print-decimal-lts.Need-cast-put-byte (
-  put-byte-reads.Asked,
-  put-byte-reads.Learnt,
-  print-decimal-below t,
-  print-decimal.Post,
-) (print-decimal-at t) print-decimal.Post
-print-decimal-cast-put-byte t c = search needs
-
-print-decimal-add-put-byte : (t : ℕ) → print-decimal-lts.Need-add-put-byte (
-  put-byte-reads.Asked,
-  put-byte-reads.Learnt,
-  print-decimal-below t,
-  print-decimal.Post,
-) (print-decimal-at t) print-decimal.Post
-print-decimal-add-put-byte t c = search needs
-
 print-decimal-put-byte-requires : (t : ℕ) → print-decimal-lts.Need-put-byte-requires (
   put-byte-reads.Asked,
   put-byte-reads.Learnt,
   print-decimal-below t,
   print-decimal.Post,
 ) (print-decimal-at t) print-decimal.Post
-print-decimal-put-byte-requires t c κs = let l = one-length (c .before .before .before .args .number) (c .before .if1 .taken) in omega (arith, c .before .before .before .pre .1)
-
-print-decimal-same-length : (t : ℕ) → print-decimal-lts.Need-same-length (
-  put-byte-reads.Asked,
-  put-byte-reads.Learnt,
-  print-decimal-below t,
-  print-decimal.Post,
-) (print-decimal-at t) print-decimal.Post
-print-decimal-same-length t c = search needs
+print-decimal-put-byte-requires t c κs =
+    let l = one-length (c .before .before .before .args .number) (c .before .if1 .taken) in
+    omega (arith, c .before .before .before .pre .1)
 
 print-decimal-returns : (t : ℕ) → print-decimal-lts.Need-returns (
   put-byte-reads.Asked,
@@ -65,7 +43,9 @@ print-decimal-returns : (t : ℕ) → print-decimal-lts.Need-returns (
   print-decimal-below t,
   print-decimal.Post,
 ) (print-decimal-at t) print-decimal.Post
-print-decimal-returns t c = printed-one (c .before .before .before .before .before .before .args .number) (c .before .before .before .before .if1 .taken) (c .before .before .put-byte .ensures)
+print-decimal-returns t c =
+    printed-one (c .before .before .before .before .before .before .args .number) (c .before .before .before .before .if1 .taken)
+    (c .before .before .put-byte .ensures)
 
 print-decimal-print-decimal-requires : (t : ℕ) → print-decimal-lts.Need-print-decimal-requires (
   put-byte-reads.Asked,
@@ -73,23 +53,9 @@ print-decimal-print-decimal-requires : (t : ℕ) → print-decimal-lts.Need-prin
   print-decimal-below t,
   print-decimal.Post,
 ) (print-decimal-at t) print-decimal.Post
-print-decimal-print-decimal-requires t c κs = let l = more-length (c .before .before .before .args .number) (c .before .before .before .fits .number .fits) (c .before .if1 .left) in (omega (arith, c .before .before .before .pre .0), omega (arith, c .before .before .before .pre .1))
-
-print-decimal-cast-put-byte-2 : (t : ℕ) → print-decimal-lts.Need-cast-put-byte-2 (
-  put-byte-reads.Asked,
-  put-byte-reads.Learnt,
-  print-decimal-below t,
-  print-decimal.Post,
-) (print-decimal-at t) print-decimal.Post
-print-decimal-cast-put-byte-2 t c = search needs
-
-print-decimal-add-put-byte-2 : (t : ℕ) → print-decimal-lts.Need-add-put-byte-2 (
-  put-byte-reads.Asked,
-  put-byte-reads.Learnt,
-  print-decimal-below t,
-  print-decimal.Post,
-) (print-decimal-at t) print-decimal.Post
-print-decimal-add-put-byte-2 t c = search needs
+print-decimal-print-decimal-requires t c κs =
+    let l = more-length (c .before .before .before .args .number) (c .before .before .before .fits .number .fits) (c .before .if1 .left) in
+    (omega (arith, c .before .before .before .pre .0), omega (arith, c .before .before .before .pre .1))
 
 print-decimal-put-byte-requires-2 : (t : ℕ) → print-decimal-lts.Need-put-byte-requires-2 (
   put-byte-reads.Asked,
@@ -97,15 +63,10 @@ print-decimal-put-byte-requires-2 : (t : ℕ) → print-decimal-lts.Need-put-byt
   print-decimal-below t,
   print-decimal.Post,
 ) (print-decimal-at t) print-decimal.Post
-print-decimal-put-byte-requires-2 t c κs = let l = more-length (c .before .before .before .before .before .before .before .args .number) (c .before .before .before .before .before .before .before .fits .number .fits) (c .before .before .before .before .before .if1 .left) in omega (arith, c .before .before .before .before .before .before .before .pre .1, c .before .before .before .print-decimal .ensures .end, c .before .before .before .print-decimal .kept .1 .0)
-
-print-decimal-same-length-2 : (t : ℕ) → print-decimal-lts.Need-same-length-2 (
-  put-byte-reads.Asked,
-  put-byte-reads.Learnt,
-  print-decimal-below t,
-  print-decimal.Post,
-) (print-decimal-at t) print-decimal.Post
-print-decimal-same-length-2 t c = search needs
+print-decimal-put-byte-requires-2 t c κs =
+    let l = more-length (c .before .before .before .before .before .before .before .args .number)
+    (c .before .before .before .before .before .before .before .fits .number .fits) (c .before .before .before .before .before .if1 .left) in
+    omega (arith, c .before .before .before .before .before .before .before .pre .1, c .before .before .before .print-decimal .ensures .end, c .before .before .before .print-decimal .kept .1 .0)
 
 print-decimal-returns-2 : (t : ℕ) → print-decimal-lts.Need-returns-2 (
   put-byte-reads.Asked,
@@ -113,7 +74,12 @@ print-decimal-returns-2 : (t : ℕ) → print-decimal-lts.Need-returns-2 (
   print-decimal-below t,
   print-decimal.Post,
 ) (print-decimal-at t) print-decimal.Post
-print-decimal-returns-2 t c = let a = c .before .before .before .before .before .before .before .before .before .before .args in printed-last (a .number) (c .before .before .before .before .before .before .before .before .before .before .fits .number .fits) (c .before .before .before .before .before .before .before .before .if1 .left) (a .out .now) (a .at) (omega (arith, c .before .before .before .before .before .before .before .before .before .before .pre .1)) (c .before .before .before .before .before .before .print-decimal .ensures) (c .before .before .put-byte2 .ensures)
+print-decimal-returns-2 t c =
+    let a = c .before .before .before .before .before .before .before .before .before .before .args in
+    printed-last (a .number) (c .before .before .before .before .before .before .before .before .before .before .fits .number .fits)
+    (c .before .before .before .before .before .before .before .before .if1 .left) (a .out .now) (a .at) (omega
+    (arith, c .before .before .before .before .before .before .before .before .before .before .pre .1))
+    (c .before .before .before .before .before .before .print-decimal .ensures) (c .before .before .put-byte2 .ensures)
 
 pub +print-decimal-spec : {M : Type 1} → statement M
 +print-decimal-spec = close μ-print-decimal λ t. print-decimal-lts.spec (
@@ -124,14 +90,14 @@ pub +print-decimal-spec : {M : Type 1} → statement M
 )
     (print-decimal-at t)
     print-decimal.Post
-    (print-decimal-cast-put-byte t)
-    (print-decimal-add-put-byte t)
+    (λ c. search needs)
+    (λ c. search needs)
     (print-decimal-put-byte-requires t)
-    (print-decimal-same-length t)
+    (λ c. search needs)
     (print-decimal-returns t)
     (print-decimal-print-decimal-requires t)
-    (print-decimal-cast-put-byte-2 t)
-    (print-decimal-add-put-byte-2 t)
+    (λ c. search needs)
+    (λ c. search needs)
     (print-decimal-put-byte-requires-2 t)
-    (print-decimal-same-length-2 t)
+    (λ c. search needs)
     (print-decimal-returns-2 t)

@@ -10,16 +10,34 @@ use Rattle.printing.proofs.print_answer.Statement.{statement}
 use Rattle.printing.proofs.print_answer.Tie as tie
 
 print-decimal-requires : tie.Need-print-decimal-requires
-print-decimal-requires c κs = let s = decimal-short (c .before .before .before .args .number) (omega (arith, c .before .before .before .fits .number .fits)) in omega arith
+print-decimal-requires c κs =
+    let s = decimal-short (c .before .before .before .args .number) (omega (arith, c .before .before .before .fits .number .fits)) in
+    omega arith
 
 print-word-requires : tie.Need-print-word-requires
-print-word-requires c κs = let s = decimal-short (c .before .before .before .before .before .before .before .args .number) (omega (arith, c .before .before .before .before .before .before .before .fits .number .fits)) in omega (arith, c .before .before .before .before .before .before .before .pre, c .before .before .before .print-decimal .ensures .end, c .before .before .before .print-decimal .kept .1 .0)
+print-word-requires c κs =
+    let s = decimal-short (c .before .before .before .before .before .before .before .args .number) (omega
+    (arith, c .before .before .before .before .before .before .before .fits .number .fits)) in
+    omega (arith, c .before .before .before .before .before .before .before .pre, c .before .before .before .print-decimal .ensures .end, c .before .before .before .print-decimal .kept .1 .0)
 
 put-byte-requires : tie.Need-put-byte-requires
-put-byte-requires c κs = let s = decimal-short (c .before .before .before .before .before .before .before .before .before .before .before .args .number) (omega (arith, c .before .before .before .before .before .before .before .before .before .before .before .fits .number .fits)) in omega (arith, c .before .before .before .before .before .before .before .before .before .before .before .pre, c .before .before .before .before .before .before .before .print-decimal .ensures .end, c .before .before .before .before .before .before .before .print-decimal .kept .1 .0, c .before .before .before .print-word .ensures .1)
+put-byte-requires c κs =
+    let s = decimal-short (c .before .before .before .before .before .before .before .before .before .before .before .args .number) (omega
+    (arith, c .before .before .before .before .before .before .before .before .before .before .before .fits .number .fits)) in
+    omega (arith, c .before .before .before .before .before .before .before .before .before .before .before .pre, c .before .before .before .before .before .before .before .print-decimal .ensures .end, c .before .before .before .before .before .before .before .print-decimal .kept .1 .0, c .before .before .before .print-word .ensures .1)
 
 returns : tie.Need-returns
-returns c = let a = c .before .before .before .before .before .before .before .before .before .before .before .before .before .before .args in let s = decimal-short (a .number) (omega (arith, c .before .before .before .before .before .before .before .before .before .before .before .before .before .before .fits .number .fits)) in (printed-then (a .out .now) (decimal (a .number) ++ wordText (a .word) (a .mask) (a .setpoints .now)) (10 ∷ []) (a .at) (omega arith) (printed-then (a .out .now) (decimal (a .number)) (wordText (a .word) (a .mask) (a .setpoints .now)) (a .at) (omega arith) (c .before .before .before .before .before .before .before .before .before .before .print-decimal .ensures) (c .before .before .before .before .before .before .print-word .ensures .0)) (c .before .before .put-byte .ensures), omega (arith, c .before .before .before .before .before .before .before .before .before .before .print-decimal .ensures .end, c .before .before .before .before .before .before .print-word .ensures .1, c .before .before .put-byte .ensures .end))
+returns c =
+    let a = c .before .before .before .before .before .before .before .before .before .before .before .before .before .before .args in
+    let s = decimal-short (a .number) (omega
+    (arith, c .before .before .before .before .before .before .before .before .before .before .before .before .before .before .fits .number .fits)) in (
+      printed-then (a .out .now) (decimal (a .number) ++ wordText (a .word) (a .mask) (a .setpoints .now)) (10 ∷ []) (a .at) (omega arith)
+          (printed-then (a .out .now) (decimal (a .number)) (wordText (a .word) (a .mask) (a .setpoints .now)) (a .at) (omega arith)
+          (c .before .before .before .before .before .before .before .before .before .before .print-decimal .ensures)
+          (c .before .before .before .before .before .before .print-word .ensures .0)) (c .before .before .put-byte .ensures),
+      omega
+          (arith, c .before .before .before .before .before .before .before .before .before .before .print-decimal .ensures .end, c .before .before .before .before .before .before .print-word .ensures .1, c .before .before .put-byte .ensures .end),
+    )
 
 pub print-answer-spec : {M : Type 1} → statement M
 print-answer-spec =

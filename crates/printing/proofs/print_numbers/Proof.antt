@@ -24,10 +24,21 @@ print-spaced-requires : tie.Need-print-spaced-requires Inv-loop μ-loop
 print-spaced-requires c κs = omega (arith, c .before .before .before .loop .inv .1)
 
 loop-again : tie.Need-loop-again Inv-loop μ-loop
-loop-again c = let p = c .before .before .before .before .before .before .loop in let a = c .before .before .before .before .before .before .before .before .before .args in (printed-number (a .out .now) (a .at) (omega arith) (a .numbers .now) (p .i) (c .before .before .before .before .before .loop-test .taken) (p .inv .0) (c .before .before .print-spaced .ensures .0), (omega (arith, c .before .before .print-spaced .ensures .1, p .inv .1 .0), (search needs, c .before .before .print-spaced .kept .1 .0 ∙ p .inv .1 .1 .1)))
+loop-again c =
+    let p = c .before .before .before .before .before .before .loop in
+    let a = c .before .before .before .before .before .before .before .before .before .args in (
+      printed-number (a .out .now) (a .at) (omega arith) (a .numbers .now) (p .i) (c .before .before .before .before .before .loop-test .taken)
+          (p .inv .0) (c .before .before .print-spaced .ensures .0),
+      (
+        omega (arith, c .before .before .print-spaced .ensures .1, p .inv .1 .0),
+        (search needs, c .before .before .print-spaced .kept .1 .0 ∙ p .inv .1 .1 .1),
+      ),
+    )
 
 returns : tie.Need-returns Inv-loop μ-loop
-returns c = let p = c .before .loop in (rw (take-all (p .i) (c .before .before .before .before .args .numbers .now) (c .loop-test .left)) at (p .inv .0), omega (arith, p .inv .1))
+returns c =
+    let p = c .before .loop in
+    (rw (take-all (p .i) (c .before .before .before .before .args .numbers .now) (c .loop-test .left)) at (p .inv .0), omega (arith, p .inv .1))
 
 pub print-numbers-spec : {M : Type 1} → statement M
 print-numbers-spec =

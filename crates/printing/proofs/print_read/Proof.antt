@@ -8,7 +8,14 @@ use Rattle.printing.proofs.print_read.Statement.{statement}
 use Rattle.printing.proofs.print_read.Tie as tie
 
 returns : tie.Need-returns
-returns c = let a = c .before .before .before .before .before .before .before .before .before .before .before .args in (printed-then (a .out .now) ((32 ∷ 114 ∷ 101 ∷ 97 ∷ 100 ∷ []) ++ spaced (a .tag)) (shownBelow (a .mask) (a .setpoints .now) 16) (a .at) (omega arith) (c .before .before .before .before .before .before .print-tagged .ensures .0) (c .before .before .print-setpoints .ensures .0), omega (arith, c .before .before .before .before .before .before .print-tagged .ensures .1, c .before .before .print-setpoints .ensures .1))
+returns c =
+    let a = c .before .before .before .before .before .before .before .before .before .before .before .args in (
+      printed-then (a .out .now) ((32 ∷ 114 ∷ 101 ∷ 97 ∷ 100 ∷ []) ++ spaced (a .tag)) (shownBelow (a .mask) (a .setpoints .now) 16) (a .at)
+          (omega arith) (c .before .before .before .before .before .before .print-tagged .ensures .0)
+          (c .before .before .print-setpoints .ensures .0),
+      omega
+          (arith, c .before .before .before .before .before .before .print-tagged .ensures .1, c .before .before .print-setpoints .ensures .1),
+    )
 
 pub print-read-spec : {M : Type 1} → statement M
 print-read-spec =

@@ -23,10 +23,22 @@ print-shown-requires : tie.Need-print-shown-requires Inv-loop μ-loop
 print-shown-requires c κs = omega (arith, c .before .before .loop .inv .1)
 
 loop-again : tie.Need-loop-again Inv-loop μ-loop
-loop-again c = let p = c .before .before .before .before .before .loop in let a = c .before .before .before .before .before .before .before .before .args in (printed-server (a .out .now) (a .at) (omega arith) (a .mask) (a .setpoints .now) (p .server) (p .inv .0) (c .before .before .print-shown .ensures .0), (omega (arith, c .before .before .print-shown .ensures .1, p .inv .1 .0), (search needs, c .before .before .print-shown .kept .1 .1 .1 .0 ∙ p .inv .1 .1 .1)))
+loop-again c =
+    let p = c .before .before .before .before .before .loop in
+    let a = c .before .before .before .before .before .before .before .before .args in (
+      printed-server (a .out .now) (a .at) (omega arith) (a .mask) (a .setpoints .now) (p .server) (p .inv .0)
+          (c .before .before .print-shown .ensures .0),
+      (
+        omega (arith, c .before .before .print-shown .ensures .1, p .inv .1 .0),
+        (search needs, c .before .before .print-shown .kept .1 .1 .1 .0 ∙ p .inv .1 .1 .1),
+      ),
+    )
 
 returns : tie.Need-returns Inv-loop μ-loop
-returns c = let p = c .before .loop in let e : p .server ≡ 16 = omega (arith, p .inv .1 .1 .0, c .loop-test .left) in (rw e at (p .inv .0), omega (arith, p .inv .1))
+returns c =
+    let p = c .before .loop in
+    let e : p .server ≡ 16 = omega (arith, p .inv .1 .1 .0, c .loop-test .left) in
+    (rw e at (p .inv .0), omega (arith, p .inv .1))
 
 pub print-setpoints-spec : {M : Type 1} → statement M
 print-setpoints-spec =

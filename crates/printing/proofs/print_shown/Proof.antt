@@ -7,10 +7,18 @@ use Rattle.printing.proofs.print_shown.Statement.{statement}
 use Rattle.printing.proofs.print_shown.Tie as tie
 
 returns : tie.Need-returns
-returns c = (rw (sym (c .before .before .before .before .before .before .has-server .ensures) ∙ c .before .before .before .before .before .if1 .taken) (c .before .before .print-pair .ensures .0), c .before .before .print-pair .ensures .1)
+returns c = (
+  rw (sym (c .before .before .before .before .before .before .has-server .ensures) ∙ c .before .before .before .before .before .if1 .taken)
+      (c .before .before .print-pair .ensures .0),
+  c .before .before .print-pair .ensures .1,
+)
 
 returns-2 : tie.Need-returns-2
-returns-2 c = (rw (sym (c .before .has-server .ensures) ∙ c .if1 .left) (printed-none (c .before .before .before .before .args .out .now) (c .before .before .before .before .args .at) (omega arith)), omega arith)
+returns-2 c = (
+  rw (sym (c .before .has-server .ensures) ∙ c .if1 .left)
+      (printed-none (c .before .before .before .before .args .out .now) (c .before .before .before .before .args .at) (omega arith)),
+  omega arith,
+)
 
 pub print-shown-spec : {M : Type 1} → statement M
 print-shown-spec =

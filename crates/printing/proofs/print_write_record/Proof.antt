@@ -9,7 +9,16 @@ use Rattle.printing.proofs.print_write_record.Statement.{statement}
 use Rattle.printing.proofs.print_write_record.Tie as tie
 
 returns : tie.Need-returns
-returns c = let a = c .before .before .before .before .before .before .before .before .before .before .before .before .before .before .args in let row = (87 ∷ []) ++ spacedAll (a .tag ∷ a .client ∷ a .count ∷ a .begin ∷ []) in (printed-then (a .out .now) (row ++ endText (a .end)) (10 ∷ []) (a .at) (omega arith) (printed-then (a .out .now) row (endText (a .end)) (a .at) (omega arith) (c .before .before .before .before .before .before .before .before .before .before .print-row .ensures .0) (c .before .before .before .before .before .before .print-end .ensures .0)) (c .before .before .put-byte .ensures), omega (arith, c .before .before .before .before .before .before .before .before .before .before .print-row .ensures .1, c .before .before .before .before .before .before .print-end .ensures .1, c .before .before .put-byte .ensures .end))
+returns c =
+    let a = c .before .before .before .before .before .before .before .before .before .before .before .before .before .before .args in
+    let row = (87 ∷ []) ++ spacedAll (a .tag ∷ a .client ∷ a .count ∷ a .begin ∷ []) in (
+      printed-then (a .out .now) (row ++ endText (a .end)) (10 ∷ []) (a .at) (omega arith)
+          (printed-then (a .out .now) row (endText (a .end)) (a .at) (omega arith)
+          (c .before .before .before .before .before .before .before .before .before .before .print-row .ensures .0)
+          (c .before .before .before .before .before .before .print-end .ensures .0)) (c .before .before .put-byte .ensures),
+      omega
+          (arith, c .before .before .before .before .before .before .before .before .before .before .print-row .ensures .1, c .before .before .before .before .before .before .print-end .ensures .1, c .before .before .put-byte .ensures .end),
+    )
 
 pub print-write-record-spec : {M : Type 1} → statement M
 print-write-record-spec =

@@ -9,7 +9,8 @@ returns : tie.Need-returns
 returns c = line-past _ _ (c .before .if1 .taken)
 
 part-result-end-2 : tie.Need-part-result-end-2
-part-result-end-2 c = omega (arith, end-within (c .before .before .before .args .text .now) (c .before .before .before .args .start) (c .before .if1 .left))
+part-result-end-2 c =
+    omega (arith, end-within (c .before .before .before .args .text .now) (c .before .before .before .args .start) (c .before .if1 .left))
 
 returns-2 : tie.Need-returns-2
 returns-2 c = line-part _ _ _ (c .before .line-end .ensures)

@@ -5,10 +5,15 @@ use Rattle.schedule.proofs.name_open.Statement.{statement}
 use Rattle.schedule.proofs.name_open.Tie as tie
 
 returns : tie.Need-returns
-returns c = let a = c .before .before .before .before .args in names-none (a .setpoints .now) (open-few (a .numbers .now) (c .before .if1 .taken)) (c .unreadable .ensures)
+returns c =
+    let a = c .before .before .before .before .args in
+    names-none (a .setpoints .now) (open-few (a .numbers .now) (c .before .if1 .taken)) (c .unreadable .ensures)
 
 returns-2 : tie.Need-returns-2
-returns-2 c = let a = c .before .before .before .before .before .before .before .before .before .before .before .args in open-names (a .numbers .now) (a .setpoints .now) (c .before .before .before .before .before .before .before .before .if1 .left) (c .before .before .before .before .before .store-setpoints .ensures)
+returns-2 c =
+    let a = c .before .before .before .before .before .before .before .before .before .before .before .args in
+    open-names (a .numbers .now) (a .setpoints .now) (c .before .before .before .before .before .before .before .before .if1 .left)
+    (c .before .before .before .before .before .store-setpoints .ensures)
 
 pub name-open-spec : {M : Type 1} → statement M
 name-open-spec =

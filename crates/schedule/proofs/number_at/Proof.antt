@@ -24,13 +24,21 @@ returns-2 : tie.Need-returns-2 Inv-loop μ-loop
 returns-2 c = sym (c .before .before .before .loop .inv .0 ∙ reads-end _ _ _ (c .before .digit-at2 .ensures) (c .if2 .taken))
 
 returns-3 : tie.Need-returns-3 Inv-loop μ-loop
-returns-3 c = sym (c .before .before .before .before .loop .inv .0 ∙ leading-zero _ _ _ (c .before .before .digit-at2 .ensures) (c .before .if2 .left) (c .if3 .taken))
+returns-3 c =
+    sym (c .before .before .before .before .loop .inv .0 ∙ leading-zero _ _ _ (c .before .before .digit-at2 .ensures) (c .before .if2 .left)
+    (c .if3 .taken))
 
 returns-4 : tie.Need-returns-4 Inv-loop μ-loop
-returns-4 c = sym (c .before .before .before .before .before .loop .inv .0 ∙ too-large _ _ _ (c .before .before .before .digit-at2 .ensures) (c .before .before .if2 .left) (c .before .if3 .left) (c .if4 .taken))
+returns-4 c =
+    sym (c .before .before .before .before .before .loop .inv .0 ∙ too-large _ _ _ (c .before .before .before .digit-at2 .ensures)
+    (c .before .before .if2 .left) (c .before .if3 .left) (c .if4 .taken))
 
 loop-again : tie.Need-loop-again Inv-loop μ-loop
-loop-again c = (c .before .before .before .before .before .loop .inv .0 ∙ reads-on _ _ _ (c .before .before .before .digit-at2 .ensures) (c .before .before .if2 .left) (c .before .if3 .left) (c .if4 .left), search needs)
+loop-again c = (
+  c .before .before .before .before .before .loop .inv .0 ∙ reads-on _ _ _ (c .before .before .before .digit-at2 .ensures)
+      (c .before .before .if2 .left) (c .before .if3 .left) (c .if4 .left),
+  search needs,
+)
 
 returns-5 : tie.Need-returns-5 Inv-loop μ-loop
 returns-5 c = sym (c .before .loop .inv .0 ∙ reads-all _ _ _ (c .loop-test .left))

@@ -22,7 +22,9 @@ loop-again : tie.Need-loop-again Inv-loop μ-loop
 loop-again c = (stored-more _ _ _ _ (c .before .before .loop .inv .0) (c .before .loop-test .taken) (omega arith), search needs)
 
 returns : tie.Need-returns Inv-loop μ-loop
-returns c = stored-all (c .before .before .args .numbers .now) (c .before .before .args .setpoints .now) (c .before .loop .at) (c .before .loop .inv .0) (c .loop-test .left)
+returns c =
+    stored-all (c .before .before .args .numbers .now) (c .before .before .args .setpoints .now) (c .before .loop .at) (c .before .loop .inv .0)
+    (c .loop-test .left)
 
 pub store-setpoints-spec : {M : Type 1} → statement M
 store-setpoints-spec =
