@@ -22,11 +22,11 @@ module _ (n : ℕ) (h : n < 10) where
 -- a number of more digits
 module _ (n : ℕ) (b : n < 18446744073709551616) (h : 10 ≤ n) where
   pub more-length : length (decimal n) ≡ length (decimal (n / 10)) + 1
-  more-length = rw (decimal-more n (omega arith) h, length-append)
+  more-length = rw (decimal-more n b h, length-append)
 
   pub printed-last : (out : List ℕ) (at : ℕ) {left last : List ℕ} {next end : ℕ} → at ≤ length out
       → Printed out at (decimal (n / 10)) next left → Printed left next ((48 + n % 10) ∷ []) end last → Printed out at (decimal n) end last
-  printed-last out at k p q = rw (decimal-more n (omega arith) h) (printed-then out (decimal (n / 10)) ((48 + n % 10) ∷ []) at k p q)
+  printed-last out at k p q = rw (decimal-more n b h) (printed-then out (decimal (n / 10)) ((48 + n % 10) ∷ []) at k p q)
 
 -- one server more
 pub shown-more : (mask : ℕ) (setpoints : List ℕ) (n : ℕ) → shownBelow mask setpoints (n + 1) ≡ shownBelow mask setpoints n ++ shownText mask setpoints n

@@ -39,7 +39,7 @@ digits-enough (suc most) n h =
 pub decimal-one : (n : ℕ) → n < 10 → decimal n ≡ glyph n ∷ []
 decimal-one n h = one-digit 19 n h
 
-pub decimal-more : (n : ℕ) → n < 100000000000000000000 → 10 ≤ n → decimal n ≡ decimal (n / 10) ++ (glyph (n % 10) ∷ [])
+pub decimal-more : (n : ℕ) → n < 18446744073709551616 → 10 ≤ n → decimal n ≡ decimal (n / 10) ++ (glyph (n % 10) ∷ [])
 decimal-more n h k =
     let l : n / 10 < 10 ^ 19 = omega arith in
     more-digits 19 n k ∙ rw (digits-enough 18 (n / 10) l)
@@ -56,8 +56,8 @@ digits-short (suc most) (suc k) n h =
     (omega arith)
     (rw length-append (omega (arith, digits-short most k (n / 10) l)))
 
-pub decimal-short : (n : ℕ) → n < 100000000000000000000 → length (decimal n) ≤ 20
-decimal-short n h = digits-short 20 19 n h
+pub decimal-short : (n : ℕ) → n < 18446744073709551616 → length (decimal n) ≤ 20
+decimal-short n h = let k : n < 100000000000000000000 = omega arith in digits-short 20 19 n k
 
 -- a number of 32 bits takes at most 10
 pub word-short : (n : ℕ) → n < 4294967296 → length (decimal n) ≤ 10

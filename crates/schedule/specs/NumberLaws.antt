@@ -198,20 +198,27 @@ pub record ReadSoFar (part held numbers : List ℕ) (at count : ℕ) : Type 0 wh
   pub apart : count + count ≤ at
   pub within : at ≤ length part
 
+-- A number that is read next: it takes a byte or more, ends in the part, and there is a place for it.
+pub record NumberFits (total at size count : ℕ) : Type 0 where
+  pub some : 1 ≤ size
+  pub within : at + 1 + size ≤ total
+  pub room : count < 99
+
 pub read-none : (part held : List ℕ) → 99 ≤ length held → ReadSoFar part held held 0 0
 read-none part held h = record { read = refl; rest = refl; size = refl; room = h; apart = omega arith; within = omega arith }
 
 module _ (part held numbers : List ℕ) (at count : ℕ) (so : ReadSoFar part held numbers at count) where
   module _ (h : at < length part) {r : Number} (is : r ≡ spacedOf (drop at part)) {v n : ℕ} (e : r ≡ Value v n) where
-    pub number-fits : (1 ≤ n) × (at + 1 + n ≤ length part)
-    number-fits = let w = spaced-sized (drop at part) is e in (w .0, omega (arith, length-drop at part))
-
-    pub room-left : length part ≤ 199 → count < 99
-    room-left m = omega (arith, number-fits, so .apart)
+    pub number-fits : length part ≤ 199 → NumberFits (length part) at n count
+    number-fits m =
+        let w = spaced-sized (drop at part) is e in
+        let l : at + 1 + n ≤ length part = omega (arith, length-drop at part) in
+        record { some = w .0; within = l; room = omega (arith, so .apart) }
 
     pub read-more : length part ≤ 199 → ReadSoFar part held (set numbers count v) (at + 1 + n) (count + 1)
     read-more m =
-        let f : count < length numbers = omega (arith, room-left m, so .size, so .room) in
+        let fits = number-fits m in
+        let f : count < length numbers = omega (arith, so .size, so .room) in
         let g : count < count + 1 = omega arith in
         let t : take (count + 1) (set numbers count v) ≡ take count numbers ++ (v ∷ []) = rw (add-one count) (take-suc-set numbers count v f) in
         record {
@@ -219,8 +226,8 @@ module _ (part held numbers : List ℕ) (at count : ℕ) (so : ReadSoFar part he
           rest = drop-set-lt (count + 1) numbers count v g ∙ sym (drop-drop 1 count numbers) ∙ ap (λ (l : List ℕ). drop 1 l) (so .rest) ∙ drop-drop 1 count held;
           size = simp length-set (so .size);
           room = so .room;
-          apart = omega (arith, number-fits, so .apart);
-          within = number-fits .1;
+          apart = omega (arith, so .apart);
+          within = fits .within;
         }
 
   -- where the loop stops, all that was read is stored

@@ -10,33 +10,27 @@ use Rattle.printing.proofs.print_answer.Statement.{statement}
 use Rattle.printing.proofs.print_answer.Tie as tie
 
 print-decimal-requires : tie.Need-print-decimal-requires
-print-decimal-requires c κs =
-    let s = decimal-short (c .before .before .before .args .number) (omega (arith, c .before .before .before .fits .number .fits)) in
-    omega arith
+print-decimal-requires c κs = omega (arith, c .before .before .before .pre, decimal-short (c .before .before .before .args .number) (c .before .before .before .fits .number .fits))
 
 print-word-requires : tie.Need-print-word-requires
 print-word-requires c κs =
-    let s = decimal-short (c .before .before .before .before .before .before .before .args .number) (omega
-    (arith, c .before .before .before .before .before .before .before .fits .number .fits)) in
+    let short = decimal-short (c .before .before .before .before .before .before .before .args .number) (c .before .before .before .before .before .before .before .fits .number .fits) in
     omega (arith, c .before .before .before .before .before .before .before .pre, c .before .before .before .print-decimal .ensures .end, c .before .before .before .print-decimal .kept .1 .0)
 
 put-byte-requires : tie.Need-put-byte-requires
 put-byte-requires c κs =
-    let s = decimal-short (c .before .before .before .before .before .before .before .before .before .before .before .args .number) (omega
-    (arith, c .before .before .before .before .before .before .before .before .before .before .before .fits .number .fits)) in
+    let short = decimal-short (c .before .before .before .before .before .before .before .before .before .before .before .args .number) (c .before .before .before .before .before .before .before .before .before .before .before .fits .number .fits) in
     omega (arith, c .before .before .before .before .before .before .before .before .before .before .before .pre, c .before .before .before .before .before .before .before .print-decimal .ensures .end, c .before .before .before .before .before .before .before .print-decimal .kept .1 .0, c .before .before .before .print-word .ensures .1)
 
 returns : tie.Need-returns
 returns c =
     let a = c .before .before .before .before .before .before .before .before .before .before .before .before .before .before .args in
-    let s = decimal-short (a .number) (omega
-    (arith, c .before .before .before .before .before .before .before .before .before .before .before .before .before .before .fits .number .fits)) in (
-      printed-then (a .out .now) (decimal (a .number) ++ wordText (a .word) (a .mask) (a .setpoints .now)) (10 ∷ []) (a .at) (omega arith)
-          (printed-then (a .out .now) (decimal (a .number)) (wordText (a .word) (a .mask) (a .setpoints .now)) (a .at) (omega arith)
-          (c .before .before .before .before .before .before .before .before .before .before .print-decimal .ensures)
-          (c .before .before .before .before .before .before .print-word .ensures .0)) (c .before .before .put-byte .ensures),
-      omega
-          (arith, c .before .before .before .before .before .before .before .before .before .before .print-decimal .ensures .end, c .before .before .before .before .before .before .print-word .ensures .1, c .before .before .put-byte .ensures .end),
+    let out = a .out .now in
+    let text = wordText (a .word) (a .mask) (a .setpoints .now) in
+    let short = decimal-short (a .number) (c .before .before .before .before .before .before .before .before .before .before .before .before .before .before .fits .number .fits) in
+    let both = printed-then out (decimal (a .number)) text (a .at) (omega arith) (c .before .before .before .before .before .before .before .before .before .before .print-decimal .ensures) (c .before .before .before .before .before .before .print-word .ensures .0) in (
+      printed-then out (decimal (a .number) ++ text) (10 ∷ []) (a .at) (omega arith) both (c .before .before .put-byte .ensures),
+      omega (arith, c .before .before .before .before .before .before .before .before .before .before .print-decimal .ensures .end, c .before .before .before .before .before .before .print-word .ensures .1, c .before .before .put-byte .ensures .end),
     )
 
 pub print-answer-spec : {M : Type 1} → statement M
