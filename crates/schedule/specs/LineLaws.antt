@@ -2,7 +2,7 @@
 use Prim.Native.Nat.{ℕ, suc, _+_, _-_, _≤_, _<_}
 use mathlib.Core.Path.{_≡_, refl, ap}
 use mathlib.Core.Bool.{true, false}
-use mathlib.Core.List.{List, [], _∷_}
+use mathlib.Core.List.{List, [], _∷_, _++_}
 use native.Mathlib.Omega.{arith}
 use native.Mathlib.Numerals.{add-one}
 use lib.ListN.{length, take, drop, getD, drop-of-length-le, length-drop}
@@ -86,3 +86,12 @@ lines-next s a h =
 pub lines-past : (s : List ℕ) (a : ℕ) → length s ≤ a → linesOf (drop a s) ≡ []
 unfolding linesOf
 lines-past s a h = rw (drop-of-length-le s h)
+
+-- a line that ends within a text by its byte 10 is the line of any text that begins so: what is read later does not change it
+pub line-found : (s more : List ℕ) → length (lineOf s) < length s → lineOf (s ++ more) ≡ lineOf s
+unfolding lineOf
+line-found [] more h = let z : ⊥ = omega arith in absurd z
+line-found (b ∷ rest) more h =
+    by-test (eqb b 10)
+    (λ e. rw e)
+    (λ e. rw (e, line-found rest more (omega (arith, rw e at h))))

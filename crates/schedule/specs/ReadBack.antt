@@ -129,7 +129,7 @@ named-back (Reply client target) setpoints h = rw h
 -- A step printed as a line is read back as that step.
 pub step-back : (n : Named) → FitsLine n → stepOf (lineText n) ≡ n
 step-back n f =
-    step-read (lineByte (n .step)) (spacedAll (lineNumbers (n .step) (n .setpoints))) (omega (arith, f .size))
+    step-read (lineByte (n .step)) (spacedAll (lineNumbers (n .step) (n .setpoints))) (f .size)
     ∙ rw (numbers-back (lineNumbers (n .step) (n .setpoints)) (f .numbers)) (named-back (n .step) (n .setpoints) (f .shape))
 
 -- The other way: what is read is the text of what it is read as.
@@ -237,7 +237,7 @@ pub step-only : (line : List ℕ) → Told line (stepOf line)
 unfolding stepOf
 step-only [] = inl refl
 step-only (byte ∷ rest) =
-    by-test (leb (length rest) 199)
+    by-test (leb (length (byte ∷ rest)) 200)
     (λ h. rw h (by-test (numbersOf rest .whole)
     (λ e. rw e (rw (← numbers-only rest e) at (told-named byte (numbersOf rest .numbers))))
     (λ e. rw e (inl refl))))

@@ -105,7 +105,7 @@ module _ (byte : ℕ) (l held : List ℕ) {r : Reading} where
     names-pair f is = rw (pair byte l d e ∙ pair-two byte l f) (record { reading = is; place = rw (pair-alone byte (getD l 0 0) (getD l 1 0)) })
 
 -- The whole line.
-pub step-read : (byte : ℕ) (rest : List ℕ) → length rest ≤ 199 → stepOf (byte ∷ rest) ≡ namedBy byte (numbersOf rest)
+pub step-read : (byte : ℕ) (rest : List ℕ) → length (byte ∷ rest) ≤ 200 → stepOf (byte ∷ rest) ≡ namedBy byte (numbersOf rest)
 unfolding stepOf
 step-read byte rest h = rw (le-leb _ _ h)
 
@@ -117,7 +117,7 @@ line-empty (byte ∷ rest) h = let z : ⊥ = omega arith in absurd z
 pub line-long : (line : List ℕ) → 200 < length line → stepOf line ≡ unreadable
 unfolding stepOf
 line-long [] h = refl
-line-long (byte ∷ rest) h = let k : 199 < length rest = omega arith in rw (lt-leb _ _ k)
+line-long (byte ∷ rest) h = rw (lt-leb _ _ h)
 
 -- a line has at most 97 setpoints
 few-open : (l : List ℕ) → length l ≤ 99 → length (namedOpen l .setpoints) ≤ 97
@@ -147,9 +147,9 @@ pub few-setpoints : (line : List ℕ) → length (stepOf line .setpoints) ≤ 97
 unfolding stepOf
 few-setpoints [] = omega arith
 few-setpoints (byte ∷ rest) =
-    by-test (leb (length rest) 199)
+    by-test (leb (length (byte ∷ rest)) 200)
     (λ e. rw e (either (λ (n : Named). length (n .setpoints) ≤ 97) (numbersOf rest .whole)
-    (few-named byte (numbersOf rest .numbers) (omega (arith, numbers-few rest, leb-true (length rest) 199 e)))
+    (few-named byte (numbersOf rest .numbers) (omega (arith, numbers-few rest, leb-true (length (byte ∷ rest)) 200 e)))
     (omega arith)))
     (λ e. rw e (omega arith))
 

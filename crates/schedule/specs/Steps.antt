@@ -58,7 +58,7 @@ namedBy byte read = cond (read .whole) (named byte (read .numbers)) unreadable
 -- the step that a line names
 unfoldable pub stepOf : List ℕ → Named
 stepOf [] = unreadable
-stepOf (byte ∷ rest) = cond (leb (length rest) 199) (namedBy byte (numbersOf rest)) unreadable
+stepOf (byte ∷ rest) = cond (leb (length (byte ∷ rest)) 200) (namedBy byte (numbersOf rest)) unreadable
 
 -- the answer of the reader: the step, and how many setpoints its line has
 abbrev pub readingOf : Named → Reading

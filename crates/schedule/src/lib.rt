@@ -131,7 +131,7 @@ fn numbers_in(part: &[u8], numbers: &mut [u32]) -> Numbers
     Numbers::All(count)
 }
 
-// The step that a line names. The numbers are as document 01 reads them: nothing is cut to a field's width.
+// The step that a line names. Its numbers are full 32-bit numbers: none is cut to a field's width.
 pub enum Step {
     // no step: number 13
     Unreadable,
@@ -247,7 +247,8 @@ fn name_step(byte: u8, numbers: &[u32], setpoints: &mut [u32]) -> Reading
     name_pair(byte, numbers[0], numbers[1])
 }
 
-// The step that a line names. Its setpoints stand in the lent place, which holds what it held behind them, and everywhere where the line has none.
+// The step that a line names. Its setpoints stand in the lent place; behind them, and where the line has none, it holds what it held.
+// No line has more than 97, so that every caller can lend enough.
 pub fn read_step(line: &[u8], setpoints: &mut [u32]) -> Reading
     requires { ⌜ 97 ≤ length (now setpoints) ⌝ }
     ensures { λ r. ⌜ Names (stepOf (now (line .entry))) (now (setpoints .entry)) r (now (setpoints .exit)) ⌝ }
