@@ -1,0 +1,39 @@
+-- Three texts, one behind the other: at most 20, 240 and 1 bytes.
+use mathlib.Core.List.{[], _∷_, _++_}
+use native.Mathlib.Omega.{arith}
+use Rattle.schedule.specs.Decimal.{decimal}
+use Rattle.schedule.specs.DecimalLaws.{decimal-short}
+use Rattle.printing.specs.Texts.{wordText}
+use Rattle.printing.specs.PrintedLaws.{printed-then}
+use borrow.Author.Needs.{needs}
+use Rattle.printing.proofs.print_answer.Statement.{statement}
+use Rattle.printing.proofs.print_answer.Tie as tie
+
+print-decimal-requires : tie.Need-print-decimal-requires
+print-decimal-requires c κs = omega (arith, c .before .before .before .pre, decimal-short (c .before .before .before .args .number) (c .before .before .before .fits .number .fits))
+
+print-word-requires : tie.Need-print-word-requires
+print-word-requires c κs =
+    let short = decimal-short (c .before .before .before .before .before .before .before .args .number) (c .before .before .before .before .before .before .before .fits .number .fits) in
+    omega (arith, c .before .before .before .before .before .before .before .pre, c .before .before .before .print-decimal .ensures .end, c .before .before .before .print-decimal .kept .1 .0)
+
+put-byte-requires : tie.Need-put-byte-requires
+put-byte-requires c κs =
+    let short = decimal-short (c .before .before .before .before .before .before .before .before .before .before .before .args .number) (c .before .before .before .before .before .before .before .before .before .before .before .fits .number .fits) in
+    omega (arith, c .before .before .before .before .before .before .before .before .before .before .before .pre, c .before .before .before .before .before .before .before .print-decimal .ensures .end, c .before .before .before .before .before .before .before .print-decimal .kept .1 .0, c .before .before .before .print-word .ensures .1)
+
+returns : tie.Need-returns
+returns c =
+    let a = c .before .before .before .before .before .before .before .before .before .before .before .before .before .before .args in
+    let out = a .out .now in
+    let text = wordText (a .word) (a .mask) (a .setpoints .now) in
+    let short = decimal-short (a .number) (c .before .before .before .before .before .before .before .before .before .before .before .before .before .before .fits .number .fits) in
+    let both = printed-then out (decimal (a .number)) text (a .at) (omega arith) (c .before .before .before .before .before .before .before .before .before .before .print-decimal .ensures) (c .before .before .before .before .before .before .print-word .ensures .0) in (
+      printed-then out (decimal (a .number) ++ text) (10 ∷ []) (a .at) (omega arith) both (c .before .before .put-byte .ensures),
+      omega (arith, c .before .before .before .before .before .before .before .before .before .before .print-decimal .ensures .end, c .before .before .before .before .before .before .print-word .ensures .1, c .before .before .put-byte .ensures .end),
+    )
+
+pub print-answer-spec : {M : Type 1} → statement M
+print-answer-spec =
+    tie.close
+    (tie.spec print-decimal-requires print-word-requires put-byte-requires (λ c. search needs) returns)

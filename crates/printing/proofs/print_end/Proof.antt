@@ -1,0 +1,25 @@
+-- An end of 0 is none.
+use borrow.Author.Tests.{eq-eqb, ne-eqb}
+use native.Mathlib.Omega.{arith}
+use borrow.Author.Needs.{needs}
+use Rattle.printing.proofs.print_end.Statement.{statement}
+use Rattle.printing.proofs.print_end.Tie as tie
+
+returns : tie.Need-returns
+returns c = (
+  rw (eq-eqb _ _ (c .before .before .before .before .before .if1 .taken)) (c .before .before .print-bytes .ensures),
+  omega
+      (arith, c .before .before .print-bytes .ensures .end),
+)
+
+returns-2 : tie.Need-returns-2
+returns-2 c = (
+  rw (ne-eqb _ _ (c .before .before .before .before .if1 .left))
+      (c .before .before .print-spaced .ensures .0),
+  c .before .before .print-spaced .ensures .1,
+)
+
+pub print-end-spec : {M : Type 1} → statement M
+print-end-spec =
+    tie.close
+    (tie.spec (λ c. search needs) (λ c κs. search needs) (λ c. search needs) returns (λ c κs. search needs) (λ c. search needs) returns-2)

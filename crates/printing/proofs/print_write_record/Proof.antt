@@ -1,0 +1,24 @@
+-- Three texts, one behind the other: at most 45, 11 and 1 bytes.
+use mathlib.Core.List.{[], _∷_, _++_}
+use native.Mathlib.Omega.{arith}
+use Rattle.schedule.specs.Decimal.{spacedAll}
+use Rattle.printing.specs.Texts.{endText}
+use Rattle.printing.specs.PrintedLaws.{printed-then}
+use borrow.Author.Needs.{needs}
+use Rattle.printing.proofs.print_write_record.Statement.{statement}
+use Rattle.printing.proofs.print_write_record.Tie as tie
+
+returns : tie.Need-returns
+returns c =
+    let a = c .before .before .before .before .before .before .before .before .before .before .before .before .before .before .args in
+    let out = a .out .now in
+    let row = (87 ∷ []) ++ spacedAll (a .tag ∷ a .client ∷ a .count ∷ a .begin ∷ []) in
+    let both = printed-then out row (endText (a .end)) (a .at) (omega arith) (c .before .before .before .before .before .before .before .before .before .before .print-row .ensures .0) (c .before .before .before .before .before .before .print-end .ensures .0) in (
+      printed-then out (row ++ endText (a .end)) (10 ∷ []) (a .at) (omega arith) both (c .before .before .put-byte .ensures),
+      omega (arith, c .before .before .before .before .before .before .before .before .before .before .print-row .ensures .1, c .before .before .before .before .before .before .print-end .ensures .1, c .before .before .put-byte .ensures .end),
+    )
+
+pub print-write-record-spec : {M : Type 1} → statement M
+print-write-record-spec =
+    tie.close
+    (tie.spec (λ c. search needs) (λ c κs. search needs) (λ c κs. search needs) (λ c κs. search needs) (λ c. search needs) returns)

@@ -1,0 +1,52 @@
+-- Laws of the texts: how they are printed part by part, and how long they are.
+use Prim.Native.Nat.{ℕ, _+_, _/_, _%_, _≤_, _<_}
+use mathlib.Core.Path.{_≡_, refl, sym}
+use mathlib.Core.List.{List, [], _∷_, _++_}
+use native.Mathlib.Omega.{arith}
+use lib.ListN.{length, take, getD, length-append}
+use Rattle.schedule.specs.Decimal.{decimal, spacedAll}
+use Rattle.schedule.specs.DecimalLaws.{decimal-one, decimal-more, spaced-more}
+use Rattle.ranges.specs.Turns.{turns-none, turns-more}
+use Rattle.printing.specs.Texts.{spaced, shownText, shownBelow}
+use Rattle.printing.specs.Printed.{Printed}
+use Rattle.printing.specs.PrintedLaws.{printed-none, printed-then}
+
+-- a number of one digit
+module _ (n : ℕ) (h : n < 10) where
+  pub one-length : length (decimal n) ≡ 1
+  one-length = rw (decimal-one n h)
+
+  pub printed-one : {out left : List ℕ} {at next : ℕ} → Printed out at ((48 + n) ∷ []) next left → Printed out at (decimal n) next left
+  printed-one p = rw (decimal-one n h) p
+
+-- a number of more digits
+module _ (n : ℕ) (b : n < 18446744073709551616) (h : 10 ≤ n) where
+  pub more-length : length (decimal n) ≡ length (decimal (n / 10)) + 1
+  more-length = rw (decimal-more n b h, length-append)
+
+  pub printed-last : (out : List ℕ) (at : ℕ) {left last : List ℕ} {next end : ℕ} → at ≤ length out
+      → Printed out at (decimal (n / 10)) next left → Printed left next ((48 + n % 10) ∷ []) end last → Printed out at (decimal n) end last
+  printed-last out at k p q = rw (decimal-more n b h) (printed-then out (decimal (n / 10)) ((48 + n % 10) ∷ []) at k p q)
+
+-- one server more
+pub shown-more : (mask : ℕ) (setpoints : List ℕ) (n : ℕ) → shownBelow mask setpoints (n + 1) ≡ shownBelow mask setpoints n ++ shownText mask setpoints n
+shown-more mask setpoints n = sym (turns-more (λ server text. text ++ shownText mask setpoints server) n [] refl refl)
+
+-- printing a row of numbers, one by one
+module _ (out : List ℕ) (at : ℕ) (h : at ≤ length out) where
+  pub printed-nothing : Printed out at (spacedAll []) at out
+  unfolding spacedAll
+  printed-nothing = printed-none out at h
+
+  pub printed-number : (numbers : List ℕ) (i : ℕ) {left last : List ℕ} {next end : ℕ} → i < length numbers
+      → Printed out at (spacedAll (take i numbers)) next left → Printed left next (spaced (getD numbers i 0)) end last → Printed out at (spacedAll (take (i + 1) numbers)) end last
+  printed-number numbers i k p q = rw (spaced-more numbers i k) (printed-then out (spacedAll (take i numbers)) (spaced (getD numbers i 0)) at h p q)
+
+  -- printing the setpoints of a mask, server by server
+  module _ (mask : ℕ) (setpoints : List ℕ) where
+    pub printed-no-server : Printed out at (shownBelow mask setpoints 0) at out
+    printed-no-server = rw (← turns-none (λ server text. text ++ shownText mask setpoints server) []) (printed-none out at h)
+
+    pub printed-server : (n : ℕ) {left last : List ℕ} {next end : ℕ}
+        → Printed out at (shownBelow mask setpoints n) next left → Printed left next (shownText mask setpoints n) end last → Printed out at (shownBelow mask setpoints (n + 1)) end last
+    printed-server n p q = rw (shown-more mask setpoints n) (printed-then out (shownBelow mask setpoints n) (shownText mask setpoints n) at h p q)

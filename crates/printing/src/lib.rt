@@ -1,0 +1,221 @@
+// What the program prints: answers and the register's lines, into lent space.
+ghost use mathlib.Core.Path.{_≡_};
+ghost use Prim.Native.Nat.{_+_, _*_, _≤_, _<_};
+ghost use mathlib.Core.List.{[], _∷_, _++_};
+ghost use lib.ListN.{length};
+ghost use Rattle.schedule.specs.Decimal.{decimal, spacedAll};
+ghost use Rattle.printing.specs.Texts.{spaced, pairText, shownText, shownBelow, wordText, answerText, endText, writeText, readText};
+ghost use Rattle.printing.specs.Printed.{Printed};
+
+// One byte.
+fn put_byte(byte: u8, out: &mut [u8], at: usize) -> usize
+    requires { ⌜ at < length (now out) ⌝ }
+    ensures { λ r. ⌜ Printed (now (out .entry)) at (byte ∷ []) r (now (out .exit)) ⌝ }
+{
+    out[at] = byte;
+    at + 1
+}
+
+// A number in decimal: the digits before the last one are printed first.
+pub fn print_decimal(number: u64, out: &mut [u8], at: usize) -> usize
+    requires { ⌜ at + length (decimal number) ≤ length (now out) ⌝ }
+    ensures { λ r. ⌜ Printed (now (out .entry)) at (decimal number) r (now (out .exit)) ⌝ }
+{
+    if number < 10 {
+        return put_byte(48 + number as u8, out, at);
+    }
+    let next = print_decimal(number / 10, out, at);
+    put_byte(48 + (number % 10) as u8, out, next)
+}
+
+// Some bytes.
+fn print_bytes(text: &[u8], out: &mut [u8], at: usize) -> usize
+    requires { ⌜ at + length (now text) ≤ length (now out) ⌝ }
+    ensures { λ r. ⌜ Printed (now (out .entry)) at (now (text .entry)) r (now (out .exit)) ⌝ }
+{
+    let mut next = at;
+    let mut i = 0;
+    while i < text.len() {
+        next = put_byte(text[i], out, next);
+        i += 1;
+    }
+    next
+}
+
+// A number behind one space.
+fn print_spaced(number: u32, out: &mut [u8], at: usize) -> usize
+    requires { ⌜ at + 11 ≤ length (now out) ⌝ }
+    ensures { λ r. ⌜ Printed (now (out .entry)) at (spaced number) r (now (out .exit)) × (r ≤ at + 11) ⌝ }
+{
+    let next = put_byte(b' ', out, at);
+    print_decimal(number as u64, out, next)
+}
+
+// Some numbers, each behind one space.
+fn print_numbers(numbers: &[u32], out: &mut [u8], at: usize) -> usize
+    requires { ⌜ at + 11 * length (now numbers) ≤ length (now out) ⌝ }
+    ensures { λ r. ⌜ Printed (now (out .entry)) at (spacedAll (now (numbers .entry))) r (now (out .exit)) × (r ≤ at + 11 * length (now (numbers .entry))) ⌝ }
+{
+    let mut next = at;
+    let mut i = 0;
+    while i < numbers.len() {
+        next = print_spaced(numbers[i], out, next);
+        i += 1;
+    }
+    next
+}
+
+// A server with its setpoint.
+fn print_pair(server: u32, setpoint: u32, out: &mut [u8], at: usize) -> usize
+    requires { ⌜ (server < 16) × (at + 14 ≤ length (now out)) ⌝ }
+    ensures { λ r. ⌜ Printed (now (out .entry)) at (pairText server setpoint) r (now (out .exit)) × (r ≤ at + 14) ⌝ }
+{
+    let behind = print_spaced(server, out, at);
+    let next = put_byte(b'=', out, behind);
+    print_decimal(setpoint as u64, out, next)
+}
+
+// A server with its setpoint, where the mask has it.
+fn print_shown(mask: u32, setpoints: &[u32], server: usize, out: &mut [u8], at: usize) -> usize
+    requires { ⌜ ((server < 16) × (server < length (now setpoints))) × (at + 14 ≤ length (now out)) ⌝ }
+    ensures { λ r. ⌜ Printed (now (out .entry)) at (shownText mask (now (setpoints .entry)) server) r (now (out .exit)) × (r ≤ at + 14) ⌝ }
+{
+    if keys::has_server(mask, server) {
+        return print_pair(server as u32, setpoints[server], out, at);
+    }
+    at
+}
+
+// The servers of a mask, rising, each with its setpoint.
+fn print_setpoints(mask: u32, setpoints: &[u32], out: &mut [u8], at: usize) -> usize
+    requires { ⌜ (16 ≤ length (now setpoints)) × (at + 224 ≤ length (now out)) ⌝ }
+    ensures { λ r. ⌜ Printed (now (out .entry)) at (shownBelow mask (now (setpoints .entry)) 16) r (now (out .exit)) × (r ≤ at + 224) ⌝ }
+{
+    let mut next = at;
+    let mut server = 0;
+    while server < 16 {
+        next = print_shown(mask, setpoints, server, out, next);
+        server += 1;
+    }
+    next
+}
+
+// A word, and a tag or a number behind it.
+fn print_tagged(text: &[u8], tag: u32, out: &mut [u8], at: usize) -> usize
+    requires { ⌜ at + length (now text) + 11 ≤ length (now out) ⌝ }
+    ensures { λ r. ⌜ Printed (now (out .entry)) at (now (text .entry) ++ spaced tag) r (now (out .exit)) × (r ≤ at + length (now (text .entry)) + 11) ⌝ }
+{
+    let next = print_bytes(text, out, at);
+    print_spaced(tag, out, next)
+}
+
+// A READ's tag and its setpoints.
+fn print_read(tag: u32, mask: u32, setpoints: &[u32], out: &mut [u8], at: usize) -> usize
+    requires { ⌜ (16 ≤ length (now setpoints)) × (at + 240 ≤ length (now out)) ⌝ }
+    ensures { λ r. ⌜ Printed (now (out .entry)) at (wordText (Word.Read tag) mask (now (setpoints .entry))) r (now (out .exit)) × (r ≤ at + 240) ⌝ }
+{
+    let next = print_tagged(b" read", tag, out, at);
+    print_setpoints(mask, setpoints, out, next)
+}
+
+// What a step answers, in the words that are printed.
+pub enum Word {
+    Ok,
+    Wait,
+    Next,
+    // with the tag
+    Write(u32),
+    // with the tag; the setpoints stand beside it
+    Read(u32),
+    // refused, with the number
+    No(u32),
+}
+
+// The answer behind the line's number.
+fn print_word(word: Word, mask: u32, setpoints: &[u32], out: &mut [u8], at: usize) -> usize
+    requires { ⌜ (16 ≤ length (now setpoints)) × (at + 240 ≤ length (now out)) ⌝ }
+    ensures { λ r. ⌜ Printed (now (out .entry)) at (wordText word mask (now (setpoints .entry))) r (now (out .exit)) × (r ≤ at + 240) ⌝ }
+{
+    match word {
+        Word::Ok => print_bytes(b" ok", out, at),
+        Word::Wait => print_bytes(b" wait", out, at),
+        Word::Next => print_bytes(b" next", out, at),
+        Word::Write(tag) => print_tagged(b" write", tag, out, at),
+        Word::Read(tag) => print_read(tag, mask, setpoints, out, at),
+        Word::No(number) => print_tagged(b" no", number, out, at),
+    }
+}
+
+// The line that answers the line of a number. The mask and the setpoints count for a READ alone.
+pub fn print_answer(
+    number: u64,
+    word: Word,
+    mask: u32,
+    setpoints: &[u32],
+    out: &mut [u8],
+    at: usize,
+) -> usize
+    requires { ⌜ (16 ≤ length (now setpoints)) × (at + 300 ≤ length (now out)) ⌝ }
+    ensures { λ r. ⌜ Printed (now (out .entry)) at (answerText number word mask (now (setpoints .entry))) r (now (out .exit)) × (r ≤ at + 300) ⌝ }
+{
+    let behind = print_decimal(number, out, at);
+    let next = print_word(word, mask, setpoints, out, behind);
+    put_byte(b'\n', out, next)
+}
+
+// The end step of a WRITE.
+fn print_end(end: u32, out: &mut [u8], at: usize) -> usize
+    requires { ⌜ at + 11 ≤ length (now out) ⌝ }
+    ensures { λ r. ⌜ Printed (now (out .entry)) at (endText end) r (now (out .exit)) × (r ≤ at + 11) ⌝ }
+{
+    if end == 0 {
+        return print_bytes(b" -", out, at);
+    }
+    print_spaced(end, out, at)
+}
+
+// A byte, and some numbers behind it.
+fn print_row(byte: u8, numbers: &[u32], out: &mut [u8], at: usize) -> usize
+    requires { ⌜ at + 1 + 11 * length (now numbers) ≤ length (now out) ⌝ }
+    ensures { λ r. ⌜ Printed (now (out .entry)) at ((byte ∷ []) ++ spacedAll (now (numbers .entry))) r (now (out .exit)) × (r ≤ at + 1 + 11 * length (now (numbers .entry))) ⌝ }
+{
+    let next = put_byte(byte, out, at);
+    print_numbers(numbers, out, next)
+}
+
+// The register's line of a WRITE; an end of 0 is none.
+pub fn print_write_record(
+    tag: u32,
+    client: u32,
+    count: u32,
+    begin: u32,
+    end: u32,
+    out: &mut [u8],
+    at: usize,
+) -> usize
+    requires { ⌜ at + 57 ≤ length (now out) ⌝ }
+    ensures { λ r. ⌜ Printed (now (out .entry)) at (writeText tag client count begin end) r (now (out .exit)) × (r ≤ at + 57) ⌝ }
+{
+    let numbers = [tag, client, count, begin];
+    let behind = print_row(b'W', &numbers, out, at);
+    let next = print_end(end, out, behind);
+    put_byte(b'\n', out, next)
+}
+
+// The register's line of a READ.
+pub fn print_read_record(
+    tag: u32,
+    client: u32,
+    begin: u32,
+    end: u32,
+    overlap: u32,
+    out: &mut [u8],
+    at: usize,
+) -> usize
+    requires { ⌜ at + 57 ≤ length (now out) ⌝ }
+    ensures { λ r. ⌜ Printed (now (out .entry)) at (readText tag client begin end overlap) r (now (out .exit)) × (r ≤ at + 57) ⌝ }
+{
+    let numbers = [tag, client, begin, end, overlap];
+    let next = print_row(b'R', &numbers, out, at);
+    put_byte(b'\n', out, next)
+}

@@ -1,0 +1,202 @@
+-- Laws of the step that a line names, one for each way that the reader goes.
+use Prim.Native.Nat.{ℕ, suc, _+_, _-_, _≤_, _<_}
+use mathlib.Core.Path.{_≡_, refl, ap, sym, _∙_}
+use mathlib.Core.Bool.{true, false}
+use mathlib.Core.List.{List, [], _∷_}
+use native.Mathlib.Omega.{arith}
+use native.Mathlib.Numerals.{add-one}
+use lib.ListN.{length, take, drop, getD, set, length-append, length-take, length-drop}
+use lib.Seq.{length-take-le, take-suc, take-all, take-length, take-at, take-append-seam, drop-cons, append-snoc, set-at}
+use Rattle.ranges.specs.Tests.{either, by-test}
+use Rattle.schedule.specs.declared.Numbers.{Numbers}
+use Rattle.schedule.specs.declared.Numbers.the-variants.{Broken, All}
+use Rattle.schedule.specs.declared.Reading.{Reading}
+use lib.Dec.{eqb, leb}
+use borrow.Author.Tests.{eq-eqb, ne-eqb, le-leb, lt-leb, leb-true}
+use Rattle.schedule.specs.NumberLaws.{numbers-few}
+use Rattle.schedule.specs.declared.Step.the-variants.{Open, BeginWrite}
+use Rattle.schedule.specs.Numbers.{Read, numbersOf, countOf}
+use Rattle.schedule.specs.Steps.{Named, unreadable, namedOpen, namedWrite, pairNamed, namedPair, named, namedBy, stepOf, readingOf, stored, Names}
+
+-- The numbers of a line, at most 99, and a place for its setpoints, at most 97.
+pub record Fits (numbers setpoints : List ℕ) : Type 0 where
+  pub few : length numbers ≤ 99
+  pub room : 97 ≤ length setpoints
+
+-- storing numbers one by one: s is the place when i of them are stored
+pub stored-none : (l held : List ℕ) → held ≡ stored (take 0 l) held
+stored-none l held = refl
+
+pub stored-more : (l held s : List ℕ) (i : ℕ) → s ≡ stored (take i l) held → i < length l → i < length held → set s i (getD l i 0) ≡ stored (take (i + 1) l) held
+stored-more l held s i e h k =
+    let g : length (take i l) ≡ i = length-take-le i l (omega arith) in
+    let f : length (take (suc i) l) ≡ suc i = length-take-le (suc i) l h in
+    rw (e, add-one i, f, g, take-suc l i 0 h, append-snoc, drop-cons held i 0 k) (set-at (take i l) (getD held i 0) (drop (suc i) held) (getD l i 0) i g)
+
+pub stored-all : (l held : List ℕ) {s : List ℕ} (i : ℕ) → s ≡ stored (take i l) held → length l ≤ i → s ≡ stored l held
+stored-all l held i e h = rw (← take-all i l h) e
+
+-- a line that names no step leaves the place as it was
+pub names-none : {n : Named} {r : Reading} (held : List ℕ) → n ≡ unreadable → r ≡ readingOf unreadable → Names n held r held
+names-none held d e = record { reading = rw d e; place = rw d }
+
+pub open-few : (l : List ℕ) → length l < 3 → namedOpen l ≡ unreadable
+open-few [] h = refl
+open-few (a ∷ []) h = refl
+open-few (a ∷ b ∷ []) h = refl
+open-few (a ∷ b ∷ d ∷ l) h = let z : ⊥ = omega arith in absurd z
+
+pub open-names : (l held : List ℕ) {left : List ℕ} → 3 ≤ length l → left ≡ stored (take (length l - 3) (drop 3 l)) held
+    → Names (namedOpen l) held (record { step = Open (getD l 0 0) (getD l 1 0) (getD l 2 0); setpoints = length l - 3 }) left
+open-names [] held h e = let z : ⊥ = omega arith in absurd z
+open-names (a ∷ []) held h e = let z : ⊥ = omega arith in absurd z
+open-names (a ∷ b ∷ []) held h e = let z : ⊥ = omega arith in absurd z
+open-names (a ∷ b ∷ d ∷ l) held h e =
+    let n : suc (suc (suc (length l))) - 3 ≡ length l = omega arith in
+    record { reading = rw n; place = e ∙ rw (n, take-length) }
+
+pub write-few : (l : List ℕ) → length l < 2 → namedWrite l ≡ unreadable
+write-few [] h = refl
+write-few (a ∷ []) h = refl
+write-few (a ∷ b ∷ l) h = let z : ⊥ = omega arith in absurd z
+
+pub write-names : (l held : List ℕ) {left : List ℕ} → 2 ≤ length l → left ≡ stored (take (length l - 2) (drop 2 l)) held
+    → Names (namedWrite l) held (record { step = BeginWrite (getD l 0 0) (getD l 1 0); setpoints = length l - 2 }) left
+write-names [] held h e = let z : ⊥ = omega arith in absurd z
+write-names (a ∷ []) held h e = let z : ⊥ = omega arith in absurd z
+write-names (a ∷ b ∷ l) held h e =
+    let n : suc (suc (length l)) - 2 ≡ length l = omega arith in
+    record { reading = rw n; place = e ∙ rw (n, take-length) }
+
+pub pair-not : (byte : ℕ) (l : List ℕ) → (length l ≡ 2 → ⊥) → namedPair byte l ≡ unreadable
+pair-not byte [] h = refl
+pair-not byte (a ∷ []) h = refl
+pair-not byte (a ∷ b ∷ []) h = absurd (h refl)
+pair-not byte (a ∷ b ∷ d ∷ l) h = refl
+
+pub pair-two : (byte : ℕ) (l : List ℕ) → length l ≡ 2 → namedPair byte l ≡ pairNamed byte (getD l 0 0) (getD l 1 0)
+pair-two byte [] h = let z : ⊥ = omega arith in absurd z
+pair-two byte (a ∷ []) h = let z : ⊥ = omega arith in absurd z
+pair-two byte (a ∷ b ∷ []) h = refl
+pair-two byte (a ∷ b ∷ d ∷ l) h = let z : ⊥ = omega arith in absurd z
+
+-- a step of two numbers has no setpoints
+pair-alone : (byte a b : ℕ) → pairNamed byte a b .setpoints ≡ []
+pair-alone byte a b =
+    either (λ (n : Named). n .setpoints ≡ []) (eqb byte 82) refl
+    (either (λ (n : Named). n .setpoints ≡ []) (eqb byte 62) refl
+    (either (λ (n : Named). n .setpoints ≡ []) (eqb byte 60) refl refl))
+
+pair : (byte : ℕ) (l : List ℕ) → (byte ≡ 79 → ⊥) → (byte ≡ 87 → ⊥) → named byte l ≡ namedPair byte l
+pair byte l d e = rw (ne-eqb _ _ d, ne-eqb _ _ e)
+
+module _ (byte : ℕ) (l held : List ℕ) {r : Reading} where
+  pub names-open : {left : List ℕ} → byte ≡ 79 → Names (namedOpen l) held r left → Names (named byte l) held r left
+  names-open e n = rw (eq-eqb _ _ e) n
+
+  pub names-write : {left : List ℕ} → (byte ≡ 79 → ⊥) → byte ≡ 87 → Names (namedWrite l) held r left → Names (named byte l) held r left
+  names-write d e n = rw (ne-eqb _ _ d, eq-eqb _ _ e) n
+
+  module _ (d : byte ≡ 79 → ⊥) (e : byte ≡ 87 → ⊥) where
+    pub names-other : (length l ≡ 2 → ⊥) → r ≡ readingOf unreadable → Names (named byte l) held r held
+    names-other f is = names-none held (pair byte l d e ∙ pair-not byte l f) is
+
+    pub names-pair : length l ≡ 2 → r ≡ readingOf (pairNamed byte (getD l 0 0) (getD l 1 0)) → Names (named byte l) held r held
+    names-pair f is = rw (pair byte l d e ∙ pair-two byte l f) (record { reading = is; place = rw (pair-alone byte (getD l 0 0) (getD l 1 0)) })
+
+-- The whole line.
+pub step-read : (byte : ℕ) (rest : List ℕ) → length (byte ∷ rest) ≤ 200 → stepOf (byte ∷ rest) ≡ namedBy byte (numbersOf rest)
+unfolding stepOf
+step-read byte rest h = rw (le-leb _ _ h)
+
+pub line-empty : (line : List ℕ) → length line ≡ 0 → stepOf line ≡ unreadable
+unfolding stepOf
+line-empty [] h = refl
+line-empty (byte ∷ rest) h = let z : ⊥ = omega arith in absurd z
+
+pub line-long : (line : List ℕ) → 200 < length line → stepOf line ≡ unreadable
+unfolding stepOf
+line-long [] h = refl
+line-long (byte ∷ rest) h = rw (lt-leb _ _ h)
+
+-- a line has at most 97 setpoints
+few-open : (l : List ℕ) → length l ≤ 99 → length (namedOpen l .setpoints) ≤ 97
+few-open [] h = omega arith
+few-open (a ∷ []) h = omega arith
+few-open (a ∷ b ∷ []) h = omega arith
+few-open (a ∷ b ∷ d ∷ l) h = omega arith
+
+few-write : (l : List ℕ) → length l ≤ 99 → length (namedWrite l .setpoints) ≤ 97
+few-write [] h = omega arith
+few-write (a ∷ []) h = omega arith
+few-write (a ∷ b ∷ l) h = omega arith
+
+few-pair : (byte : ℕ) (l : List ℕ) → length (namedPair byte l .setpoints) ≤ 97
+few-pair byte [] = omega arith
+few-pair byte (a ∷ []) = omega arith
+few-pair byte (a ∷ b ∷ []) = rw (pair-alone byte a b) (omega arith)
+few-pair byte (a ∷ b ∷ d ∷ l) = omega arith
+
+few-named : (byte : ℕ) (l : List ℕ) → length l ≤ 99 → length (named byte l .setpoints) ≤ 97
+few-named byte l h =
+    either (λ (n : Named). length (n .setpoints) ≤ 97) (eqb byte 79)
+    (few-open l h)
+    (either (λ (n : Named). length (n .setpoints) ≤ 97) (eqb byte 87) (few-write l h) (few-pair byte l))
+
+pub few-setpoints : (line : List ℕ) → length (stepOf line .setpoints) ≤ 97
+unfolding stepOf
+few-setpoints [] = omega arith
+few-setpoints (byte ∷ rest) =
+    by-test (leb (length (byte ∷ rest)) 200)
+    (λ e. rw e (either (λ (n : Named). length (n .setpoints) ≤ 97) (numbersOf rest .whole)
+    (few-named byte (numbersOf rest .numbers) (omega (arith, numbers-few rest, leb-true (length (byte ∷ rest)) 200 e)))
+    (omega arith)))
+    (λ e. rw e (omega arith))
+
+-- the setpoints stand in front of the place
+pub stored-front : (setpoints held : List ℕ) → take (length setpoints) (stored setpoints held) ≡ setpoints
+stored-front setpoints held = take-append-seam setpoints (drop (length setpoints) held)
+
+-- what the number reader's answer tells
+count-broken : (read : Read) → Broken ≡ countOf read → read .whole ≡ false
+count-broken read e =
+    by-test (read .whole)
+    (λ t. let f : Broken ≡ All (length (read .numbers)) = e ∙ rw t in let z : _≡_ {A = ℕ} 0 1 = cc in let y : ⊥ = omega arith in absurd y)
+    (λ t. t)
+
+count-all : (read : Read) {n : ℕ} → All n ≡ countOf read → (read .whole ≡ true) × (n ≡ length (read .numbers))
+count-all read {n} e =
+    by-test (read .whole)
+    (λ t. let f : All n ≡ All (length (read .numbers)) = e ∙ rw t in (t, cc))
+    (λ t. let f : All n ≡ Broken = e ∙ rw t in let z : _≡_ {A = ℕ} 0 1 = cc in let y : ⊥ = omega arith in absurd y)
+
+-- the number reader gets what stands behind the line's first byte
+module _ (line : List ℕ) (h : length line ≡ 0 → ⊥) (k : length line ≤ 200) where
+  read-behind : stepOf line ≡ namedBy (getD line 0 0) (numbersOf (take (length line - 1) (drop 1 line)))
+  read-behind =
+      let p : 0 < length line = omega arith in
+      let b : take (length line - 1) (drop 1 line) ≡ drop 1 line = take-all (length line - 1) (drop 1 line) (omega (arith, length-drop 1 line)) in
+      rw b (ap stepOf (drop-cons line 0 0 p) ∙ step-read (getD line 0 0) (drop 1 line) (omega (arith, length-drop 1 line)))
+
+  pub line-broken : {a : Numbers} → a ≡ countOf (numbersOf (take (length line - 1) (drop 1 line))) → a ≡ Broken → stepOf line ≡ unreadable
+  line-broken e d = read-behind ∙ rw (count-broken (numbersOf (take (length line - 1) (drop 1 line))) (sym d ∙ e))
+
+  module _ (numbers zeros : List ℕ) {a : Numbers} {count : ℕ}
+      (e : a ≡ countOf (numbersOf (take (length line - 1) (drop 1 line)))) (d : a ≡ All count)
+      (place : numbers ≡ stored (numbersOf (take (length line - 1) (drop 1 line)) .numbers) zeros) where
+    pub count-within : count ≤ length numbers
+    count-within =
+        let n = count-all (numbersOf (take (length line - 1) (drop 1 line))) (sym d ∙ e) .1 in
+        rw (place, length-append) (omega arith)
+
+    numbers-read : take count numbers ≡ numbersOf (take (length line - 1) (drop 1 line)) .numbers
+    numbers-read = rw place (take-at (numbersOf (take (length line - 1) (drop 1 line)) .numbers) _ count (sym (count-all (numbersOf (take (length line - 1) (drop 1 line))) (sym d ∙ e) .1)))
+
+    pub line-names : {held left : List ℕ} {r : Reading} → Names (named (getD line 0 0) (take count numbers)) held r left → Names (stepOf line) held r left
+    line-names n = rw (read-behind, count-all (numbersOf (take (length line - 1) (drop 1 line))) (sym d ∙ e) .0, ← numbers-read) n
+
+    pub part-length : count ≡ length (take count numbers)
+    part-length = sym (length-take-le count numbers count-within)
+
+    pub part-fits : (held : List ℕ) → length numbers ≡ 99 → 97 ≤ length held → Fits (take count numbers) held
+    part-fits held n h = record { few = omega (arith, length-take count numbers); room = h }
