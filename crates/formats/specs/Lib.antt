@@ -1,0 +1,5 @@
+pub mod Grammar
+pub mod Table
+pub mod Format
+pub mod TableLaws
+pub mod FormatLaws

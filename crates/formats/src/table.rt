@@ -1,0 +1,312 @@
+// The constant table by kind: the one source of the format.
+ghost use mathlib.Core.Path.{_≡_};
+ghost use Prim.Native.Nat.{_<_, _≤_};
+ghost use Rattle.formats.specs.Table.{sortAt, bitsOf, leastOf, mostOf, entriesIn, hasNumbers, frameLength};
+
+// What a field holds. NONE: the kind has no such field, which then has no bits.
+const NONE: u8 = 0;
+
+const KIND: u8 = 1;
+
+const CLIENT: u8 = 2;
+
+const SERVER: u8 = 3;
+
+const COORD: u8 = 4;
+
+const TAG: u8 = 5;
+
+const TAG1: u8 = 6; // a tag from 1
+
+const COUNT: u8 = 7;
+
+const COUNT1: u8 = 8; // a count from 1
+
+const OF: u8 = 9; // the client of a key
+
+const OWN: u8 = 10; // the client of a key, which is the frame's own
+
+const VALUE: u8 = 11; // a setpoint
+
+const MASK: u8 = 12;
+
+const KEYS: u8 = 13; // how many keys
+
+const LESS: u8 = 14; // how many entries, less 1
+
+// By kind, from 0: kind, client, target; of the fixed body tag, key's count and client, setpoint or mask, how many entries;
+// of each entry key's count and client, setpoint or mask.
+const FORMAT: [[u8; 11]; 13] = [
+    [
+        KIND,
+        CLIENT,
+        SERVER,
+        NONE,
+        NONE,
+        NONE,
+        NONE,
+        NONE,
+        NONE,
+        NONE,
+        NONE,
+    ], // until the kind is read
+    [
+        KIND,
+        CLIENT,
+        SERVER,
+        NONE,
+        COUNT1,
+        OWN,
+        VALUE,
+        NONE,
+        NONE,
+        NONE,
+        NONE,
+    ], // 1 set
+    [
+        KIND,
+        CLIENT,
+        SERVER,
+        NONE,
+        NONE,
+        NONE,
+        NONE,
+        NONE,
+        NONE,
+        NONE,
+        NONE,
+    ], // 2 set done
+    [
+        KIND,
+        CLIENT,
+        COORD,
+        NONE,
+        COUNT1,
+        OWN,
+        MASK,
+        NONE,
+        NONE,
+        NONE,
+        NONE,
+    ], // 3 enter
+    [
+        KIND,
+        CLIENT,
+        COORD,
+        TAG1,
+        NONE,
+        NONE,
+        NONE,
+        NONE,
+        NONE,
+        NONE,
+        NONE,
+    ], // 4 entered
+    [
+        KIND,
+        CLIENT,
+        COORD,
+        NONE,
+        NONE,
+        NONE,
+        NONE,
+        NONE,
+        NONE,
+        NONE,
+        NONE,
+    ], // 5 which keys
+    [
+        KIND,
+        CLIENT,
+        COORD,
+        TAG,
+        NONE,
+        NONE,
+        NONE,
+        KEYS,
+        COUNT,
+        OF,
+        NONE,
+    ], // 6 keys
+    [
+        KIND,
+        CLIENT,
+        SERVER,
+        NONE,
+        COUNT,
+        OF,
+        NONE,
+        NONE,
+        NONE,
+        NONE,
+        NONE,
+    ], // 7 get
+    [
+        KIND,
+        CLIENT,
+        SERVER,
+        NONE,
+        NONE,
+        NONE,
+        VALUE,
+        NONE,
+        NONE,
+        NONE,
+        NONE,
+    ], // 8 got
+    [
+        KIND,
+        CLIENT,
+        SERVER,
+        NONE,
+        NONE,
+        NONE,
+        NONE,
+        NONE,
+        NONE,
+        NONE,
+        NONE,
+    ], // 9 get all
+    [
+        KIND,
+        CLIENT,
+        SERVER,
+        NONE,
+        NONE,
+        NONE,
+        NONE,
+        LESS,
+        COUNT,
+        OF,
+        VALUE,
+    ], // 10 all
+    [
+        KIND,
+        CLIENT,
+        COORD,
+        NONE,
+        NONE,
+        NONE,
+        NONE,
+        NONE,
+        NONE,
+        NONE,
+        NONE,
+    ], // 11 get log
+    [
+        KIND,
+        CLIENT,
+        COORD,
+        NONE,
+        NONE,
+        NONE,
+        NONE,
+        LESS,
+        COUNT,
+        OF,
+        MASK,
+    ], // 12 log
+];
+
+// By what a field holds: its bits, its least value, its greatest.
+const BITS: [usize; 15] = [0, 4, 4, 5, 5, 8, 8, 8, 8, 4, 4, 32, 16, 5, 8];
+
+const LEAST: [u32; 15] = [0, 1, 0, 0, 16, 0, 1, 0, 1, 0, 0, 0, 1, 1, 0];
+
+const MOST: [u32; 15] = [
+    0,
+    12,
+    15,
+    15,
+    16,
+    255,
+    255,
+    255,
+    255,
+    15,
+    15,
+    4294967295,
+    65535,
+    16,
+    255,
+];
+
+// By kind: the bits of the fixed body, and of each entry.
+const BODY_BITS: [usize; 13] = [0, 44, 0, 28, 8, 0, 13, 12, 32, 0, 8, 0, 8];
+
+const ENTRY_BITS: [usize; 13] = [0, 0, 0, 0, 0, 0, 12, 0, 0, 0, 44, 0, 28];
+
+// What the field at a place of a frame of this kind holds.
+pub fn sort_at(kind: u32, place: usize) -> u8
+    ensures { λ r. ⌜ (r ≡ sortAt kind place) × (r < 15) ⌝ }
+{
+    let row = kind as usize;
+    if 13 <= row {
+        return NONE;
+    }
+    if 11 <= place {
+        return NONE;
+    }
+    FORMAT[row][place]
+}
+
+pub fn bits_of(sort: u8) -> usize
+    requires { ⌜ sort < 15 ⌝ }
+    ensures { λ r. ⌜ (r ≡ bitsOf sort) × (r ≤ 32) ⌝ }
+{
+    BITS[sort as usize]
+}
+
+// The least value of a field in a frame of a client.
+pub fn least_of(sort: u8, client: u32) -> u32
+    requires { ⌜ sort < 15 ⌝ }
+    ensures { λ r. ⌜ r ≡ leastOf sort client ⌝ }
+{
+    if sort == OWN {
+        return client;
+    }
+    LEAST[sort as usize]
+}
+
+// The greatest value of a field in a frame of a client, where `before` is the value of the field before it.
+pub fn most_of(sort: u8, client: u32, before: u32) -> u32
+    requires { ⌜ sort < 15 ⌝ }
+    ensures { λ r. ⌜ r ≡ mostOf sort client before ⌝ }
+{
+    if sort == OWN {
+        return client;
+    }
+    if sort != OF {
+        return MOST[sort as usize];
+    }
+    if before == 0 {
+        return 0;
+    }
+    MOST[sort as usize]
+}
+
+// How many entries a frame of this kind has, by the value that says it.
+pub fn entries_in(kind: u32, value: u32) -> usize
+    ensures { λ r. ⌜ r ≡ entriesIn kind value ⌝ }
+{
+    if sort_at(kind, 7) == LESS {
+        return value as usize + 1;
+    }
+    value as usize
+}
+
+// Whether the entries of this kind have a number beside the key.
+pub fn has_numbers(kind: u32) -> bool
+    ensures { λ r. ⌜ r ≡ hasNumbers kind ⌝ }
+{
+    sort_at(kind, 10) != NONE
+}
+
+// How many bytes a frame of this kind has, with its padding.
+pub fn frame_length(kind: u32, entries: usize) -> usize
+    requires { ⌜ (kind < 13) × (entries ≤ 256) ⌝ }
+    ensures { λ r. ⌜ r ≡ frameLength kind entries ⌝ }
+{
+    let row = kind as usize;
+    (13 + BODY_BITS[row] + entries * ENTRY_BITS[row] + 7) / 8
+}
