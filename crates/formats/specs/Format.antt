@@ -21,8 +21,12 @@ fieldOf st =
       most = mostOf (sortOf st) (st .client) (st .before);
     }
 
-unfoldable pub allowed : State → ℕ → Bool
-allowed st v = leb ((fieldOf st) .least) v && leb v ((fieldOf st) .most)
+-- a value that a field may have
+unfoldable pub within : Field → ℕ → Bool
+within f v = leb (f .least) v && leb v (f .most)
+
+abbrev pub allowed : State → ℕ → Bool
+allowed st v = within (fieldOf st) v
 
 -- behind place 7 come three fields for each entry
 unfoldable pub leftAfter : State → ℕ → ℕ

@@ -11,7 +11,7 @@ use Rattle.formats.specs.declared.state.State.{State}
 use Rattle.formats.specs.Grammar.{Grammar, end, field}
 use Rattle.formats.specs.Table.{sortAt, bitsOf, leastOf, mostOf, entriesIn}
 use Rattle.formats.specs.TableLaws.{entries-most, few-entries}
-use Rattle.formats.specs.Format.{sortOf, widthOf, fieldOf, allowed, leftAfter, placeAfter, nextOf, one, entries, fixed, start, format}
+use Rattle.formats.specs.Format.{sortOf, widthOf, fieldOf, within, allowed, leftAfter, placeAfter, nextOf, one, entries, fixed, start, format}
 
 module _ (place : ℕ) where
   pub place-last : place ≡ 10 → placeAfter place ≡ 8
@@ -95,7 +95,7 @@ later st v h =
 
 -- a value that is allowed is no more than the greatest
 pub at-most : (st : State) (v : ℕ) → allowed st v ≡ true → v ≤ mostOf (sortOf st) (st .client) (st .before)
-unfolding allowed fieldOf
+unfolding within fieldOf
 at-most st v a = leb-true _ _ (both-right (leb (leastOf (sortOf st) (st .client)) v) _ a)
 
 module _ (st : State) (v : ℕ) (g : Goes st) (some : 0 < st .left) where
@@ -184,3 +184,13 @@ rest-one st g h =
         by-equal (st .place) 7
         (λ e. let z : st .left - 1 ≡ 0 = omega (arith, g .counted early) in ap (λ (n : ℕ). fixed n (nextOf st v)) z ∙ sym (rest-late (nextOf st v) (omega arith)))
         (λ d. sym (rest-early (nextOf st v) (omega arith) ∙ ap (λ (n : ℕ). fixed n (nextOf st v)) (next-left st v ∙ sym (left-one-less st v d))))
+
+pub room-start : room start ≡ 776
+unfolding room
+room-start = refl
+
+pub room-left : (st : State) → st .left ≤ room st
+room-left st =
+    by-test (ltb (st .place) 8)
+    (λ b. omega (arith, room-early st (ltb-true _ _ b)))
+    (λ b. omega (arith, room-late st (ltb-false _ _ b)))
