@@ -194,3 +194,7 @@ room-left st =
     by-test (ltb (st .place) 8)
     (λ b. omega (arith, room-early st (ltb-true _ _ b)))
     (λ b. omega (arith, room-late st (ltb-false _ _ b)))
+
+pub width-is : (st : State) {f : Field} → f ≡ fieldOf st → f .width ≡ widthOf st
+unfolding fieldOf
+width-is st e = ap (λ (f : Field). f .width) e

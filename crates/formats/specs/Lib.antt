@@ -5,3 +5,7 @@ pub mod Format
 pub mod TableLaws
 pub mod FormatLaws
 pub mod Reading
+pub mod Zeros
+pub mod Writing
+pub mod Walk
+pub mod Laying

@@ -1,5 +1,5 @@
 -- The rule of the table, proved at each of its entries by one computed test.
-use Prim.Native.Nat.{ℕ, _+_, _*_, _≤_, _<_}
+use Prim.Native.Nat.{ℕ, zero, suc, _+_, _*_, _≤_, _<_}
 use mathlib.Core.Path.{_≡_, refl, sym, ap, _∙_}
 use mathlib.Core.Bool.{Bool, true, false, cond, not, _&&_}
 use mathlib.Core.List.{List, []}
@@ -10,15 +10,15 @@ use lib.ListN.{length, getD, List·getD-eq-default}
 use borrow.Author.Tests.{eqb-true, eqb-false, eq-eqb, ne-eqb, leb-true, ltb-true, ltb-false, not-true}
 use Rattle.ranges.specs.Tests.{either, by-test, both-left, both-right}
 use Rattle.ranges.specs.All.{allBelow, all-at}
-use Rattle.ranges.specs.Sum.{sumBelow}
 use Rattle.formats.specs.Table.{table, own, of, sortAt, bitsOf, leastOf, mostOf, mosts, leasts, less, entriesIn, bodyBits, entryBits}
 
 -- the bits of n fields of a kind from a place on
 unfoldable pub bitsFrom : ℕ → ℕ → ℕ → ℕ
-bitsFrom kind place n = sumBelow (λ i. bitsOf (sortAt kind (place + i))) n
+bitsFrom kind place zero = 0
+bitsFrom kind place (suc n) = bitsOf (sortAt kind place) + bitsFrom kind (place + 1) n
 
 -- What holds of a row: it has eleven places, the header has 13 bits, the columns "fixed body bits" and "bits per entry" are
--- the sums of the fields' bits, and a frame has at most 256 entries.
+-- the sums of the fields' bits, a frame has at most 256 entries, and every row begins with the kind.
 pub record Row (kind : ℕ) : Type 0 where
   pub places : length (getD table kind []) ≡ 11
   pub header : bitsFrom kind 0 3 ≡ 13
@@ -26,6 +26,7 @@ pub record Row (kind : ℕ) : Type 0 where
   pub entry : bitsFrom kind 8 3 ≡ getD entryBits kind 0
   pub few : getD mosts (sortAt kind 7) 0 ≤ 255
   pub plain : eqb (sortAt kind 7) own ≡ false
+  pub begins : sortAt kind 0 ≡ sortAt 0 0
 
 rowRight : ℕ → Bool
 rowRight kind =
@@ -33,11 +34,11 @@ rowRight kind =
     && (eqb (bitsFrom kind 0 3) 13
     && (eqb (bitsFrom kind 3 5) (getD bodyBits kind 0)
     && (eqb (bitsFrom kind 8 3) (getD entryBits kind 0)
-    && (leb (getD mosts (sortAt kind 7) 0) 255 && not (eqb (sortAt kind 7) own)))))
+    && (leb (getD mosts (sortAt kind 7) 0) 255 && (not (eqb (sortAt kind 7) own) && eqb (sortAt kind 0) (sortAt 0 0))))))
 
 -- the test
 table-right : allBelow rowRight 13 ≡ true
-unfolding allBelow rowRight bitsFrom sumBelow sortAt bitsOf
+unfolding allBelow rowRight bitsFrom sortAt bitsOf
 table-right = refl
 
 pub row-right : (kind : ℕ) → kind < 13 → Row kind
@@ -48,13 +49,15 @@ row-right kind h =
     let e₂ = both-right (eqb (bitsFrom kind 0 3) 13) _ e₁ in
     let e₃ = both-right (eqb (bitsFrom kind 3 5) (getD bodyBits kind 0)) _ e₂ in
     let e₄ = both-right (eqb (bitsFrom kind 8 3) (getD entryBits kind 0)) _ e₃ in
+    let e₅ = both-right (leb (getD mosts (sortAt kind 7) 0) 255) _ e₄ in
     record {
       places = eqb-true _ _ (both-left _ _ e₀);
       header = eqb-true _ _ (both-left _ _ e₁);
       body = eqb-true _ _ (both-left _ _ e₂);
       entry = eqb-true _ _ (both-left _ _ e₃);
       few = leb-true _ _ (both-left _ _ e₄);
-      plain = not-true _ (both-right (leb (getD mosts (sortAt kind 7) 0) 255) _ e₄);
+      plain = not-true _ (both-left _ _ e₅);
+      begins = eqb-true _ _ (both-right (not (eqb (sortAt kind 7) own)) _ e₅);
     }
 
 -- beyond the table there are no fields
