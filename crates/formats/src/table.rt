@@ -3,8 +3,8 @@ ghost use mathlib.Core.Path.{_≡_};
 ghost use Prim.Native.Nat.{_<_, _≤_};
 ghost use Rattle.formats.specs.Table.{sortAt, bitsOf, leastOf, mostOf, entriesIn, hasNumbers, frameLength};
 
-// What a field holds. NONE: the kind has no such field, which then has no bits.
-const NONE: u8 = 0;
+// What a field holds. NO: the kind has no such field; it then has no bits and the value 0.
+const NO: u8 = 0;
 
 const KIND: u8 = 1;
 
@@ -37,175 +37,19 @@ const LESS: u8 = 14; // how many entries, less 1
 // By kind, from 0: kind, client, target; of the fixed body tag, key's count and client, setpoint or mask, how many entries;
 // of each entry key's count and client, setpoint or mask.
 const FORMAT: [[u8; 11]; 13] = [
-    [
-        KIND,
-        CLIENT,
-        SERVER,
-        NONE,
-        NONE,
-        NONE,
-        NONE,
-        NONE,
-        NONE,
-        NONE,
-        NONE,
-    ], // until the kind is read
-    [
-        KIND,
-        CLIENT,
-        SERVER,
-        NONE,
-        COUNT1,
-        OWN,
-        VALUE,
-        NONE,
-        NONE,
-        NONE,
-        NONE,
-    ], // 1 set
-    [
-        KIND,
-        CLIENT,
-        SERVER,
-        NONE,
-        NONE,
-        NONE,
-        NONE,
-        NONE,
-        NONE,
-        NONE,
-        NONE,
-    ], // 2 set done
-    [
-        KIND,
-        CLIENT,
-        COORD,
-        NONE,
-        COUNT1,
-        OWN,
-        MASK,
-        NONE,
-        NONE,
-        NONE,
-        NONE,
-    ], // 3 enter
-    [
-        KIND,
-        CLIENT,
-        COORD,
-        TAG1,
-        NONE,
-        NONE,
-        NONE,
-        NONE,
-        NONE,
-        NONE,
-        NONE,
-    ], // 4 entered
-    [
-        KIND,
-        CLIENT,
-        COORD,
-        NONE,
-        NONE,
-        NONE,
-        NONE,
-        NONE,
-        NONE,
-        NONE,
-        NONE,
-    ], // 5 which keys
-    [
-        KIND,
-        CLIENT,
-        COORD,
-        TAG,
-        NONE,
-        NONE,
-        NONE,
-        KEYS,
-        COUNT,
-        OF,
-        NONE,
-    ], // 6 keys
-    [
-        KIND,
-        CLIENT,
-        SERVER,
-        NONE,
-        COUNT,
-        OF,
-        NONE,
-        NONE,
-        NONE,
-        NONE,
-        NONE,
-    ], // 7 get
-    [
-        KIND,
-        CLIENT,
-        SERVER,
-        NONE,
-        NONE,
-        NONE,
-        VALUE,
-        NONE,
-        NONE,
-        NONE,
-        NONE,
-    ], // 8 got
-    [
-        KIND,
-        CLIENT,
-        SERVER,
-        NONE,
-        NONE,
-        NONE,
-        NONE,
-        NONE,
-        NONE,
-        NONE,
-        NONE,
-    ], // 9 get all
-    [
-        KIND,
-        CLIENT,
-        SERVER,
-        NONE,
-        NONE,
-        NONE,
-        NONE,
-        LESS,
-        COUNT,
-        OF,
-        VALUE,
-    ], // 10 all
-    [
-        KIND,
-        CLIENT,
-        COORD,
-        NONE,
-        NONE,
-        NONE,
-        NONE,
-        NONE,
-        NONE,
-        NONE,
-        NONE,
-    ], // 11 get log
-    [
-        KIND,
-        CLIENT,
-        COORD,
-        NONE,
-        NONE,
-        NONE,
-        NONE,
-        LESS,
-        COUNT,
-        OF,
-        MASK,
-    ], // 12 log
+    [KIND, CLIENT, SERVER, NO, NO, NO, NO, NO, NO, NO, NO], // until the kind is read
+    [KIND, CLIENT, SERVER, NO, COUNT1, OWN, VALUE, NO, NO, NO, NO], // 1 set
+    [KIND, CLIENT, SERVER, NO, NO, NO, NO, NO, NO, NO, NO], // 2 set done
+    [KIND, CLIENT, COORD, NO, COUNT1, OWN, MASK, NO, NO, NO, NO], // 3 enter
+    [KIND, CLIENT, COORD, TAG1, NO, NO, NO, NO, NO, NO, NO], // 4 entered
+    [KIND, CLIENT, COORD, NO, NO, NO, NO, NO, NO, NO, NO], // 5 which keys
+    [KIND, CLIENT, COORD, TAG, NO, NO, NO, KEYS, COUNT, OF, NO], // 6 keys
+    [KIND, CLIENT, SERVER, NO, COUNT, OF, NO, NO, NO, NO, NO], // 7 get
+    [KIND, CLIENT, SERVER, NO, NO, NO, VALUE, NO, NO, NO, NO], // 8 got
+    [KIND, CLIENT, SERVER, NO, NO, NO, NO, NO, NO, NO, NO], // 9 get all
+    [KIND, CLIENT, SERVER, NO, NO, NO, NO, LESS, COUNT, OF, VALUE], // 10 all
+    [KIND, CLIENT, COORD, NO, NO, NO, NO, NO, NO, NO, NO], // 11 get log
+    [KIND, CLIENT, COORD, NO, NO, NO, NO, LESS, COUNT, OF, MASK], // 12 log
 ];
 
 // By what a field holds: its bits, its least value, its greatest.
@@ -242,10 +86,10 @@ pub fn sort_at(kind: u32, place: usize) -> u8
 {
     let row = kind as usize;
     if 13 <= row {
-        return NONE;
+        return NO;
     }
     if 11 <= place {
-        return NONE;
+        return NO;
     }
     FORMAT[row][place]
 }
@@ -299,7 +143,7 @@ pub fn entries_in(kind: u32, value: u32) -> usize
 pub fn has_numbers(kind: u32) -> bool
     ensures { λ r. ⌜ r ≡ hasNumbers kind ⌝ }
 {
-    sort_at(kind, 10) != NONE
+    sort_at(kind, 10) != NO
 }
 
 // How many bytes a frame of this kind has, with its padding.
