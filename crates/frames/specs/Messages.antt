@@ -10,7 +10,7 @@ use Rattle.frames.specs.declared.Message.{Message}
 use Rattle.frames.specs.declared.Message.the-variants.{Set, SetDone, Enter, Entered, WhichKeys, Keys, Get, Got, GetAll, All, GetLog, Log}
 
 -- how many entries stand beside a message
-unfoldable pub entriesOf : Message → ℕ
+abbrev pub entriesOf : Message → ℕ
 entriesOf (Set client server key setpoint) = 0
 entriesOf (SetDone client server) = 0
 entriesOf (Enter client key mask) = 0
@@ -25,7 +25,7 @@ entriesOf (GetLog client) = 0
 entriesOf (Log client entries) = entries
 
 -- its header and fixed body: kind, client, target, tag, key's count and client, setpoint or mask, how many entries
-unfoldable pub fixedOf : Message → List ℕ
+abbrev pub fixedOf : Message → List ℕ
 fixedOf (Set client server key setpoint) = 1 ∷ client ∷ server ∷ 0 ∷ key .count ∷ key .client ∷ setpoint ∷ 0 ∷ []
 fixedOf (SetDone client server) = 2 ∷ client ∷ server ∷ 0 ∷ 0 ∷ 0 ∷ 0 ∷ 0 ∷ []
 fixedOf (Enter client key mask) = 3 ∷ client ∷ 16 ∷ 0 ∷ key .count ∷ key .client ∷ mask ∷ 0 ∷ []
@@ -35,9 +35,9 @@ fixedOf (Keys client tag entries) = 6 ∷ client ∷ 16 ∷ tag ∷ 0 ∷ 0 ∷ 
 fixedOf (Get client server key) = 7 ∷ client ∷ server ∷ 0 ∷ key .count ∷ key .client ∷ 0 ∷ 0 ∷ []
 fixedOf (Got client server setpoint) = 8 ∷ client ∷ server ∷ 0 ∷ 0 ∷ 0 ∷ setpoint ∷ 0 ∷ []
 fixedOf (GetAll client server) = 9 ∷ client ∷ server ∷ 0 ∷ 0 ∷ 0 ∷ 0 ∷ 0 ∷ []
-fixedOf (All client server entries) = 10 ∷ client ∷ server ∷ 0 ∷ 0 ∷ 0 ∷ 0 ∷ entries - 1 ∷ []
+fixedOf (All client server entries) = 10 ∷ client ∷ server ∷ 0 ∷ 0 ∷ 0 ∷ 0 ∷ (entries - 1) ∷ []
 fixedOf (GetLog client) = 11 ∷ client ∷ 16 ∷ 0 ∷ 0 ∷ 0 ∷ 0 ∷ 0 ∷ []
-fixedOf (Log client entries) = 12 ∷ client ∷ 16 ∷ 0 ∷ 0 ∷ 0 ∷ 0 ∷ entries - 1 ∷ []
+fixedOf (Log client entries) = 12 ∷ client ∷ 16 ∷ 0 ∷ 0 ∷ 0 ∷ 0 ∷ (entries - 1) ∷ []
 
 -- the message of a kind and the other seven values
 unfoldable pub messageAt : ℕ → (ℕ → ℕ) → Message

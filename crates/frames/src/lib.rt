@@ -1,8 +1,6 @@
 // Frames: the messages that cross the wire, from bytes and to bytes.
 // A message holds what is fixed; the entries of kinds 6, 10 and 12 stand beside it, in two lent slices: keys, as numbers, and setpoints or masks.
 use keys::Key;
-
-
 ghost use mathlib.Core.Path.{_≡_};
 ghost use mathlib.Core.Bool.{true};
 ghost use Prim.Native.Nat.{_≤_, _+_, _-_, _*_};
@@ -86,16 +84,47 @@ pub fn entries_of(message: Message) -> u32
     ensures { λ r. ⌜ r ≡ entriesOf message ⌝ }
 {
     match message {
-        Message::Set { client: _, server: _, key: _, setpoint: _ } => 0,
-        Message::SetDone { client: _, server: _ } => 0,
-        Message::Enter { client: _, key: _, mask: _ } => 0,
+        Message::Set {
+            client: _,
+            server: _,
+            key: _,
+            setpoint: _,
+        } => 0,
+        Message::SetDone {
+            client: _,
+            server: _,
+        } => 0,
+        Message::Enter {
+            client: _,
+            key: _,
+            mask: _,
+        } => 0,
         Message::Entered { client: _, tag: _ } => 0,
         Message::WhichKeys { client: _ } => 0,
-        Message::Keys { client: _, tag: _, entries } => entries,
-        Message::Get { client: _, server: _, key: _ } => 0,
-        Message::Got { client: _, server: _, setpoint: _ } => 0,
-        Message::GetAll { client: _, server: _ } => 0,
-        Message::All { client: _, server: _, entries } => entries,
+        Message::Keys {
+            client: _,
+            tag: _,
+            entries,
+        } => entries,
+        Message::Get {
+            client: _,
+            server: _,
+            key: _,
+        } => 0,
+        Message::Got {
+            client: _,
+            server: _,
+            setpoint: _,
+        } => 0,
+        Message::GetAll {
+            client: _,
+            server: _,
+        } => 0,
+        Message::All {
+            client: _,
+            server: _,
+            entries,
+        } => entries,
         Message::GetLog { client: _ } => 0,
         Message::Log { client: _, entries } => entries,
     }
@@ -120,13 +149,48 @@ fn fixed_of(message: Message) -> [u32; 8]
             server,
             key,
             setpoint,
-        } => [1, client as u32, server as u32, 0, key.count as u32, key.client as u32, setpoint, 0],
+        } => [
+            1,
+            client as u32,
+            server as u32,
+            0,
+            key.count as u32,
+            key.client as u32,
+            setpoint,
+            0,
+        ],
         Message::SetDone { client, server } => [2, client as u32, server as u32, 0, 0, 0, 0, 0],
-        Message::Enter { client, key, mask } => [3, client as u32, 16, 0, key.count as u32, key.client as u32, mask, 0],
+        Message::Enter { client, key, mask } => [
+            3,
+            client as u32,
+            16,
+            0,
+            key.count as u32,
+            key.client as u32,
+            mask,
+            0,
+        ],
         Message::Entered { client, tag } => [4, client as u32, 16, tag as u32, 0, 0, 0, 0],
         Message::WhichKeys { client } => [5, client as u32, 16, 0, 0, 0, 0, 0],
-        Message::Keys { client, tag, entries } => [6, client as u32, 16, tag as u32, 0, 0, 0, entries],
-        Message::Get { client, server, key } => [7, client as u32, server as u32, 0, key.count as u32, key.client as u32, 0, 0],
+        Message::Keys {
+            client,
+            tag,
+            entries,
+        } => [6, client as u32, 16, tag as u32, 0, 0, 0, entries],
+        Message::Get {
+            client,
+            server,
+            key,
+        } => [
+            7,
+            client as u32,
+            server as u32,
+            0,
+            key.count as u32,
+            key.client as u32,
+            0,
+            0,
+        ],
         Message::Got {
             client,
             server,
@@ -137,7 +201,16 @@ fn fixed_of(message: Message) -> [u32; 8]
             client,
             server,
             entries,
-        } => [10, client as u32, server as u32, 0, 0, 0, 0, less_one(entries)],
+        } => [
+            10,
+            client as u32,
+            server as u32,
+            0,
+            0,
+            0,
+            0,
+            less_one(entries),
+        ],
         Message::GetLog { client } => [11, client as u32, 16, 0, 0, 0, 0, 0],
         Message::Log { client, entries } => [12, client as u32, 16, 0, 0, 0, 0, less_one(entries)],
     }
