@@ -1,11 +1,12 @@
 -- What a message is as a row of values, and a row of values as a message.
-use Prim.Native.Nat.{ℕ, _+_, _-_, _*_}
+use Prim.Native.Nat.{ℕ, _+_, _-_, _*_, _≤_, _<_}
 use mathlib.Core.List.{List, [], _∷_}
 use mathlib.Core.Bool.{Bool, cond}
 use lib.Dec.{eqb}
-use lib.ListN.{getD}
+use lib.ListN.{length, getD}
 use Rattle.keys.specs.declared.Key.{Key}
 use Rattle.keys.specs.Keys.{keyOf}
+use Rattle.frames.specs.declared.Fixed.{Fixed}
 use Rattle.frames.specs.declared.Message.{Message}
 use Rattle.frames.specs.declared.Message.the-variants.{Set, SetDone, Enter, Entered, WhichKeys, Keys, Get, Got, GetAll, All, GetLog, Log}
 
@@ -39,21 +40,38 @@ fixedOf (All client server entries) = 10 ∷ client ∷ server ∷ 0 ∷ 0 ∷ 0
 fixedOf (GetLog client) = 11 ∷ client ∷ 16 ∷ 0 ∷ 0 ∷ 0 ∷ 0 ∷ 0 ∷ []
 fixedOf (Log client entries) = 12 ∷ client ∷ 16 ∷ 0 ∷ 0 ∷ 0 ∷ 0 ∷ (entries - 1) ∷ []
 
--- the message of a kind and the other seven values
-unfoldable pub messageAt : ℕ → (ℕ → ℕ) → Message
-messageAt kind v =
-    cond (eqb kind 1) (Set (v 1) (v 2) (keyOf (v 4) (v 5)) (v 6))
-    (cond (eqb kind 2) (SetDone (v 1) (v 2))
-    (cond (eqb kind 3) (Enter (v 1) (keyOf (v 4) (v 5)) (v 6))
-    (cond (eqb kind 4) (Entered (v 1) (v 3))
-    (cond (eqb kind 5) (WhichKeys (v 1))
-    (cond (eqb kind 6) (Keys (v 1) (v 3) (v 7))
-    (cond (eqb kind 7) (Get (v 1) (v 2) (keyOf (v 4) (v 5)))
-    (cond (eqb kind 8) (Got (v 1) (v 2) (v 6))
-    (cond (eqb kind 9) (GetAll (v 1) (v 2))
-    (cond (eqb kind 10) (All (v 1) (v 2) (v 7 + 1))
-    (cond (eqb kind 11) (GetLog (v 1))
-    (Log (v 1) (v 7 + 1))))))))))))
+-- values that fit a message's own types
+pub record Narrow (vs : List ℕ) : Type 0 where
+  pub long : 8 ≤ length vs
+  pub bytes : (i : ℕ) → i < 6 → getD vs i 0 < 256
+  pub few : getD vs 7 0 ≤ 255
+
+abbrev pub fixedAt : List ℕ → Fixed
+fixedAt vs =
+    record {
+      client = getD vs 1 0;
+      server = getD vs 2 0;
+      tag = getD vs 3 0;
+      key = keyOf (getD vs 4 0) (getD vs 5 0);
+      number = getD vs 6 0;
+      entries = getD vs 7 0;
+    }
+
+-- the message of a kind with these values; "n−1 in 8" stands for n entries
+unfoldable pub messageAt : ℕ → Fixed → Message
+messageAt kind f =
+    cond (eqb kind 1) (Set (f .client) (f .server) (f .key) (f .number))
+    (cond (eqb kind 2) (SetDone (f .client) (f .server))
+    (cond (eqb kind 3) (Enter (f .client) (f .key) (f .number))
+    (cond (eqb kind 4) (Entered (f .client) (f .tag))
+    (cond (eqb kind 5) (WhichKeys (f .client))
+    (cond (eqb kind 6) (Keys (f .client) (f .tag) (f .entries))
+    (cond (eqb kind 7) (Get (f .client) (f .server) (f .key))
+    (cond (eqb kind 8) (Got (f .client) (f .server) (f .number))
+    (cond (eqb kind 9) (GetAll (f .client) (f .server))
+    (cond (eqb kind 10) (All (f .client) (f .server) (f .entries + 1))
+    (cond (eqb kind 11) (GetLog (f .client))
+    (Log (f .client) (f .entries + 1))))))))))))
 
 unfoldable pub messageOf : List ℕ → Message
-messageOf vs = messageAt (getD vs 0 0) (λ i. getD vs i 0)
+messageOf vs = messageAt (getD vs 0 0) (fixedAt vs)

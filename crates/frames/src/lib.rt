@@ -1,13 +1,16 @@
 // Frames: the messages that cross the wire, from bytes and to bytes.
 // A message holds what is fixed; the entries of kinds 6, 10 and 12 stand beside it, in two lent slices: keys, as numbers, and setpoints or masks.
 use keys::Key;
+
+pub mod entries; // entries.rt: the entries as values, and back
+
 ghost use mathlib.Core.Path.{_≡_};
 ghost use mathlib.Core.Bool.{true};
 ghost use Prim.Native.Nat.{_≤_, _+_, _-_, _*_};
 ghost use lib.ListN.{length, take};
 ghost use Rattle.formats.specs.Grammar.{good};
 ghost use Rattle.formats.specs.Format.{format};
-ghost use Rattle.frames.specs.Messages.{entriesOf, fixedOf, messageOf};
+ghost use Rattle.frames.specs.Messages.{entriesOf, fixedOf, messageOf, messageAt, fixedAt, Narrow};
 
 // A message by its kind, 1 to 12: set, set done, enter, entered, which keys, keys, get, got, get all, all, get log, log.
 // `entries` is how many entries stand beside it.
@@ -213,5 +216,93 @@ fn fixed_of(message: Message) -> [u32; 8]
         ],
         Message::GetLog { client } => [11, client as u32, 16, 0, 0, 0, 0, 0],
         Message::Log { client, entries } => [12, client as u32, 16, 0, 0, 0, 0, less_one(entries)],
+    }
+}
+
+// What the fixed values hold, in a message's own types.
+struct Fixed {
+    client: u8,
+    server: u8,
+    tag: u8,
+    key: Key,
+    number: u32,
+    entries: u32,
+}
+
+fn fixed_at(values: &[u32]) -> Fixed
+    requires { ⌜ Narrow (now values) ⌝ }
+    ensures { λ r. ⌜ r ≡ fixedAt (now (values .entry)) ⌝ }
+{
+    let key = Key::new(values[4] as u8, values[5] as u8);
+    Fixed {
+        client: values[1] as u8,
+        server: values[2] as u8,
+        tag: values[3] as u8,
+        key: key,
+        number: values[6],
+        entries: values[7],
+    }
+}
+
+fn message_at(kind: u32, fixed: Fixed) -> Message
+    requires { ⌜ fixed .entries ≤ 255 ⌝ }
+    ensures { λ r. ⌜ r ≡ messageAt kind fixed ⌝ }
+{
+    let client = fixed.client;
+    let server = fixed.server;
+    let tag = fixed.tag;
+    let key = fixed.key;
+    let number = fixed.number;
+    let entries = fixed.entries;
+    match kind {
+        1 => Message::Set {
+            client: client,
+            server: server,
+            key: key,
+            setpoint: number,
+        },
+        2 => Message::SetDone {
+            client: client,
+            server: server,
+        },
+        3 => Message::Enter {
+            client: client,
+            key: key,
+            mask: number,
+        },
+        4 => Message::Entered {
+            client: client,
+            tag: tag,
+        },
+        5 => Message::WhichKeys { client: client },
+        6 => Message::Keys {
+            client: client,
+            tag: tag,
+            entries: entries,
+        },
+        7 => Message::Get {
+            client: client,
+            server: server,
+            key: key,
+        },
+        8 => Message::Got {
+            client: client,
+            server: server,
+            setpoint: number,
+        },
+        9 => Message::GetAll {
+            client: client,
+            server: server,
+        },
+        10 => Message::All {
+            client: client,
+            server: server,
+            entries: entries + 1,
+        },
+        11 => Message::GetLog { client: client },
+        _ => Message::Log {
+            client: client,
+            entries: entries + 1,
+        },
     }
 }
