@@ -5,7 +5,7 @@ use native.Mathlib.Omega.{arith}
 use mathlib.Core.Bool.{Bool, true, false, cond, _&&_}
 use lib.Dec.{eqb, ltb, leb}
 use borrow.Author.Tests.{eq-eqb, ne-eqb, eqb-true, eqb-false, lt-ltb, le-ltb, ltb-true, ltb-false, leb-true}
-use Rattle.ranges.specs.Tests.{by-equal, by-test, both-right}
+use Rattle.ranges.specs.Tests.{by-equal, by-test, both-left, both-right}
 use Rattle.formats.specs.declared.state.Field.{Field}
 use Rattle.formats.specs.declared.state.State.{State}
 use Rattle.formats.specs.Grammar.{Grammar, end, field}
@@ -198,3 +198,8 @@ room-left st =
 pub width-is : (st : State) {f : Field} → f ≡ fieldOf st → f .width ≡ widthOf st
 unfolding fieldOf
 width-is st e = ap (λ (f : Field). f .width) e
+
+-- and no less than the least
+pub at-least : (st : State) (v : ℕ) → allowed st v ≡ true → leastOf (sortOf st) (st .client) ≤ v
+unfolding within fieldOf
+at-least st v a = leb-true _ _ (both-left _ _ a)

@@ -1,0 +1,164 @@
+-- On messages with their entries, for all kinds: what was written is read back, and bytes that are read are those that the message is written to.
+-- Both follow from the two theorems over every format, and from a message's values being those that it was made of.
+use Prim.Native.Nat.{ℕ, zero, suc, _+_, _-_, _*_, _/_, _%_, _≤_, _<_}
+use mathlib.Core.Path.{_≡_, refl, sym, ap, ap₂, _∙_}
+use mathlib.Core.Bool.{Bool, true, false, cond, not, _&&_, _||_, true≢false}
+use mathlib.Core.List.{List, [], _∷_, _++_}
+use native.Mathlib.Omega.{arith}
+use lib.Dec.{eqb, leb, ltb}
+use lib.ListN.{length, getD, take, drop, length-append, List·getD-append, take-append-drop}
+use lib.Seq.{ext-getD, getD-append-add, getD-take}
+use borrow.Author.Tests.{leb-true, le-leb, ltb-true, ltb-false, eq-eqb, ne-eqb}
+use Rattle.ranges.specs.Tests.{by-test, both, both-left, both-right}
+use Rattle.fields.specs.BitLaws.{Bytes}
+use Rattle.formats.specs.Grammar.{Outcome, got, fault, read, good, frame}
+use Rattle.formats.specs.RoundTrip as formats
+use Rattle.formats.specs.Table.{entriesIn, sortAt, hasNumbers}
+use Rattle.formats.specs.Format.{format}
+use Rattle.formats.specs.Walk.{entriesSaid, values-length}
+use Rattle.keys.specs.declared.Key.{Key}
+use Rattle.frames.specs.declared.Message.{Message}
+use Rattle.frames.specs.declared.Message.the-variants.{Set, SetDone, Enter, Entered, WhichKeys, Keys, Get, Got, GetAll, All, GetLog, Log}
+use Rattle.frames.specs.declared.Reading.{Reading}
+use Rattle.frames.specs.declared.Reading.the-variants.{Read, Refused}
+use Rattle.frames.specs.Lists.{built, built-length, built-at, built-same, built-take, laid}
+use Rattle.frames.specs.Messages.{entriesOf, fixedOf, fixedAt, messageAt, messageOf}
+use Rattle.frames.specs.Entries.{keyIn, numberIn, entryValue, kindOf, valuesOf}
+use Rattle.frames.specs.Good.{fixed-back, entries-back, kind-back, count-byte, client-byte, no-number}
+use Rattle.frames.specs.Frames.{hasPlaces, writable, frameOf, readingOf, keysRead, numbersRead, found}
+
+-- ---- the values of an entry
+
+module _ (numbered : Bool) (keys numbers : List ℕ) (i : ℕ) where
+  count-value : entryValue numbered keys numbers (3 * i) ≡ getD keys i 0 / 256
+  unfolding entryValue
+  count-value =
+      let r : 3 * i % 3 ≡ 0 = omega arith in
+      let q : 3 * i / 3 ≡ i = omega arith in
+      rw (r, q)
+
+  client-value : entryValue numbered keys numbers (3 * i + 1) ≡ getD keys i 0 % 256
+  unfolding entryValue
+  client-value =
+      let r : (3 * i + 1) % 3 ≡ 1 = omega arith in
+      let q : (3 * i + 1) / 3 ≡ i = omega arith in
+      rw (r, q)
+
+  number-value : entryValue numbered keys numbers (3 * i + 2) ≡ cond numbered (getD numbers i 0) 0
+  unfolding entryValue
+  number-value =
+      let r : (3 * i + 2) % 3 ≡ 2 = omega arith in
+      let q : (3 * i + 2) / 3 ≡ i = omega arith in
+      rw (r, q)
+
+-- ---- from a message to its values and back
+
+fixed-length : (m : Message) → length (fixedOf m) ≡ 8
+fixed-length (Set client server key setpoint) = refl
+fixed-length (SetDone client server) = refl
+fixed-length (Enter client key mask) = refl
+fixed-length (Entered client tag) = refl
+fixed-length (WhichKeys client) = refl
+fixed-length (Keys client tag entries) = refl
+fixed-length (Get client server key) = refl
+fixed-length (Got client server setpoint) = refl
+fixed-length (GetAll client server) = refl
+fixed-length (All client server entries) = refl
+fixed-length (GetLog client) = refl
+fixed-length (Log client entries) = refl
+
+-- the message of a message's values, whose number of entries they say
+message-back : (m : Message) (es : List ℕ) → entriesOf m ≡ entriesSaid (fixedOf m ++ es) → messageOf (fixedOf m ++ es) ≡ m
+unfolding messageOf messageAt entriesIn sortAt
+message-back (Set client server key setpoint) es e = refl
+message-back (SetDone client server) es e = refl
+message-back (Enter client key mask) es e = refl
+message-back (Entered client tag) es e = refl
+message-back (WhichKeys client) es e = refl
+message-back (Keys client tag entries) es e = refl
+message-back (Get client server key) es e = refl
+message-back (Got client server setpoint) es e = refl
+message-back (GetAll client server) es e = refl
+message-back (All client server entries) es e = ap (All client server) (sym e)
+message-back (GetLog client) es e = refl
+message-back (Log client entries) es e = ap (Log client) (sym e)
+
+values-at : (m : Message) (keys numbers : List ℕ) (j : ℕ) → j < 3 * entriesOf m → getD (valuesOf m keys numbers) (8 + j) 0 ≡ entryValue (hasNumbers (kindOf m)) keys numbers j
+unfolding valuesOf
+values-at m keys numbers j h =
+    let f = entryValue (hasNumbers (kindOf m)) keys numbers in
+    ap (λ (k : ℕ). getD (fixedOf m ++ built f (3 * entriesOf m)) (k + j) 0) (sym (fixed-length m))
+    ∙ getD-append-add (fixedOf m) (built f (3 * entriesOf m)) j 0 ∙ built-at f (3 * entriesOf m) j h
+
+values-many : (m : Message) (keys numbers : List ℕ) → length (valuesOf m keys numbers) ≡ 8 + 3 * entriesOf m
+unfolding valuesOf
+values-many m keys numbers =
+    length-append (fixedOf m) _ ∙ ap₂ (λ (a b : ℕ). a + b) (fixed-length m) (built-length (entryValue (hasNumbers (kindOf m)) keys numbers) (3 * entriesOf m))
+
+-- What places there are for the entries.
+pub record Places (m : Message) (keys numbers : List ℕ) : Type 0 where
+  pub for-keys : entriesOf m ≤ length keys
+  pub for-numbers : hasNumbers (kindOf m) ≡ true → entriesOf m ≤ length numbers
+
+pub are-places : (m : Message) (keys numbers : List ℕ) → hasPlaces m keys numbers ≡ true → Places m keys numbers
+unfolding hasPlaces
+are-places m keys numbers e =
+    record {
+      for-keys = leb-true _ _ (both-left _ _ e);
+      for-numbers = λ h. leb-true _ _ (rw h at (both-right (leb (entriesOf m) (length keys)) _ e));
+    }
+
+-- ---- round trip
+
+module _ (m : Message) (keys numbers : List ℕ) (w : writable m keys numbers ≡ true) where
+  right : good format (valuesOf m keys numbers) ≡ true
+  unfolding writable
+  right = both-right (hasPlaces m keys numbers) _ w
+
+  places : Places m keys numbers
+  unfolding writable
+  places = are-places m keys numbers (both-left _ _ w)
+
+  said : entriesOf m ≡ entriesSaid (valuesOf m keys numbers)
+  said = omega (arith, values-many m keys numbers, values-length (valuesOf m keys numbers) right)
+
+  back : messageOf (valuesOf m keys numbers) ≡ m
+  unfolding valuesOf
+  back = message-back m _ said
+
+  key-back : (i : ℕ) → i < entriesOf m → keyIn (valuesOf m keys numbers) i ≡ getD keys i 0
+  key-back i h =
+      let c = values-at m keys numbers (3 * i) (omega arith) ∙ count-value (hasNumbers (kindOf m)) keys numbers i in
+      let p : getD (valuesOf m keys numbers) (9 + 3 * i) 0 ≡ getD keys i 0 % 256 =
+      ap (λ (k : ℕ). getD (valuesOf m keys numbers) k 0) (omega arith) ∙ values-at m keys numbers (3 * i + 1) (omega arith) ∙ client-value (hasNumbers (kindOf m)) keys numbers i in
+      omega (arith, c)
+
+  number-back : (i : ℕ) → i < entriesOf m → hasNumbers (kindOf m) ≡ true → numberIn (valuesOf m keys numbers) i ≡ getD numbers i 0
+  number-back i h e =
+      ap (λ (k : ℕ). getD (valuesOf m keys numbers) k 0) (omega arith) ∙ values-at m keys numbers (3 * i + 2) (omega arith)
+      ∙ number-value (hasNumbers (kindOf m)) keys numbers i ∙ rw e
+
+  found-back : found (frameOf m keys numbers) ≡ got (valuesOf m keys numbers)
+  unfolding frameOf
+  found-back = formats.round-trip format (valuesOf m keys numbers) right
+
+  -- what was written is read back, where the slices lent for its entries have places for them
+  module _ (keys′ numbers′ : List ℕ) (room : hasPlaces m keys′ numbers′ ≡ true) where
+    pub message-round-trip : readingOf (found (frameOf m keys numbers)) keys′ numbers′ ≡ Read m
+    unfolding readingOf
+    message-round-trip = ap (λ (o : Outcome). readingOf o keys′ numbers′) found-back ∙ rw (back, room)
+
+    pub keys-round-trip : keysRead (found (frameOf m keys numbers)) keys′ numbers′ ≡ take (entriesOf m) keys ++ drop (entriesOf m) keys′
+    unfolding keysRead
+    keys-round-trip =
+        ap (λ (o : Outcome). keysRead o keys′ numbers′) found-back
+        ∙ rw (back, room) (ap (λ (l : List ℕ). l ++ drop (entriesOf m) keys′) (built-same _ _ (entriesOf m) key-back ∙ built-take keys (entriesOf m) (places .for-keys)))
+
+    pub numbers-round-trip : numbersRead (found (frameOf m keys numbers)) keys′ numbers′ ≡ cond (hasNumbers (kindOf m)) (take (entriesOf m) numbers ++ drop (entriesOf m) numbers′) numbers′
+    unfolding numbersRead
+    numbers-round-trip =
+        ap (λ (o : Outcome). numbersRead o keys′ numbers′) found-back
+        ∙ rw (back, room)
+        (by-test (hasNumbers (kindOf m))
+        (λ e. rw e (ap (λ (l : List ℕ). l ++ drop (entriesOf m) numbers′) (built-same _ _ (entriesOf m) (λ i h. number-back i h e) ∙ built-take numbers (entriesOf m) (places .for-numbers e))))
+        (λ e. rw e))
