@@ -59,3 +59,6 @@ pub built-take : (l : List ℕ) (n : ℕ) → n ≤ length l → built (λ i. ge
 unfolding built
 built-take l zero h = refl
 built-take l (suc n) h = ap (λ (k : List ℕ). k ++ (getD l n 0 ∷ [])) (built-take l n (omega arith)) ∙ sym (take-suc l n 0 (omega arith))
+
+pub laid-at : (f : ℕ → ℕ) (n : ℕ) (row : List ℕ) (i : ℕ) → i < n → getD (laid f n row) i 0 ≡ f i
+laid-at f n row i h = List·getD-append (built f n) (drop n row) 0 i (omega (arith, built-length f n)) ∙ built-at f n i h

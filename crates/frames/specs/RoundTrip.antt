@@ -21,7 +21,7 @@ use Rattle.frames.specs.declared.Message.{Message}
 use Rattle.frames.specs.declared.Message.the-variants.{Set, SetDone, Enter, Entered, WhichKeys, Keys, Get, Got, GetAll, All, GetLog, Log}
 use Rattle.frames.specs.declared.Reading.{Reading}
 use Rattle.frames.specs.declared.Reading.the-variants.{Read, Refused}
-use Rattle.frames.specs.Lists.{built, built-length, built-at, built-same, built-take, laid}
+use Rattle.frames.specs.Lists.{built, built-length, built-at, built-same, built-take, laid, laid-length, laid-at}
 use Rattle.frames.specs.Messages.{entriesOf, fixedOf, fixedAt, messageAt, messageOf}
 use Rattle.frames.specs.Entries.{keyIn, numberIn, entryValue, kindOf, valuesOf}
 use Rattle.frames.specs.Good.{fixed-back, entries-back, kind-back, count-byte, client-byte, no-number}
@@ -162,3 +162,132 @@ module _ (m : Message) (keys numbers : List ℕ) (w : writable m keys numbers �
         (by-test (hasNumbers (kindOf m))
         (λ e. rw e (ap (λ (l : List ℕ). l ++ drop (entriesOf m) numbers′) (built-same _ _ (entriesOf m) (λ i h. number-back i h e) ∙ built-take numbers (entriesOf m) (places .for-numbers e))))
         (λ e. rw e))
+
+-- ---- uniqueness
+
+-- the values of a frame are those of its message with its entries
+module _ (vs : List ℕ) (g : good format vs ≡ true) (keys numbers : List ℕ) where
+  many : length (valuesOf (messageOf vs) keys numbers) ≡ length vs
+  many = values-many (messageOf vs) keys numbers ∙ omega (arith, entries-back vs g, values-length vs g)
+
+  fixed-value : (j : ℕ) → j < 8 → getD (valuesOf (messageOf vs) keys numbers) j 0 ≡ getD vs j 0
+  unfolding valuesOf
+  fixed-value j h =
+      List·getD-append (fixedOf (messageOf vs)) _ 0 j (omega (arith, fixed-length (messageOf vs)))
+      ∙ ap (λ (l : List ℕ). getD l j 0) (fixed-back vs g) ∙ getD-take 8 vs j 0 h
+
+  module _ (ks : (i : ℕ) → i < entriesSaid vs → getD keys i 0 ≡ keyIn vs i) (ns : (i : ℕ) → i < entriesSaid vs → hasNumbers (getD vs 0 0) ≡ true → getD numbers i 0 ≡ numberIn vs i) where
+    -- value d of entry i
+    entry-is : (i d : ℕ) → i < entriesSaid vs → d < 3 → entryValue (hasNumbers (getD vs 0 0)) keys numbers (3 * i + d) ≡ getD vs (8 + (3 * i + d)) 0
+    entry-is i zero h l =
+        let p = client-byte vs g i h in
+        let e : 8 + 3 * i ≡ 8 + (3 * i + 0) = omega arith in
+        let z : 3 * i + 0 ≡ 3 * i = omega arith in
+        ap (entryValue (hasNumbers (getD vs 0 0)) keys numbers) z ∙ count-value (hasNumbers (getD vs 0 0)) keys numbers i ∙ omega (arith, ks i h) ∙ ap (λ (k : ℕ). getD vs k 0) e
+    entry-is i (suc zero) h l =
+        let p = client-byte vs g i h in
+        let e : 9 + 3 * i ≡ 8 + (3 * i + 1) = omega arith in
+        client-value (hasNumbers (getD vs 0 0)) keys numbers i ∙ omega (arith, ks i h) ∙ ap (λ (k : ℕ). getD vs k 0) e
+    entry-is i (suc (suc zero)) h l =
+        let e : 10 + 3 * i ≡ 8 + (3 * i + 2) = omega arith in
+        number-value (hasNumbers (getD vs 0 0)) keys numbers i
+        ∙ by-test (hasNumbers (getD vs 0 0)) (λ t. rw t (ns i h t)) (λ t. rw t (sym (no-number vs g i h t)))
+        ∙ ap (λ (k : ℕ). getD vs k 0) e
+    entry-is i (suc (suc (suc d))) h l = let z : ⊥ = omega arith in absurd z
+
+    late-value : (j : ℕ) → 8 ≤ j → j < length vs → getD (valuesOf (messageOf vs) keys numbers) j 0 ≡ getD vs j 0
+    late-value j l h =
+        let i = (j - 8) / 3 in
+        let d = (j - 8) % 3 in
+        let n = entries-back vs g in
+        let q : j ≡ 8 + (3 * i + d) = omega arith in
+        let b : 3 * i + d < 3 * entriesOf (messageOf vs) = omega (arith, values-length vs g) in
+        ap (λ (k : ℕ). getD (valuesOf (messageOf vs) keys numbers) k 0) q
+        ∙ values-at (messageOf vs) keys numbers (3 * i + d) b
+        ∙ ap (λ (k : ℕ). entryValue (hasNumbers k) keys numbers (3 * i + d)) (kind-back vs g)
+        ∙ entry-is i d (omega arith) (omega arith)
+        ∙ ap (λ (k : ℕ). getD vs k 0) (sym q)
+
+    all-values : valuesOf (messageOf vs) keys numbers ≡ vs
+    all-values =
+        ext-getD 0 (valuesOf (messageOf vs) keys numbers) vs many
+        (λ j h. by-test (ltb j 8) (λ b. fixed-value j (ltb-true _ _ b)) (λ b. late-value j (ltb-false _ _ b) (omega (arith, many))))
+
+-- what a message that was read was made of
+pub record Was-read (o : Outcome) (keys numbers : List ℕ) (m : Message) : Type 0 where
+  pub values : List ℕ
+  pub got-values : o ≡ got values
+  pub has-places : hasPlaces (messageOf values) keys numbers ≡ true
+  pub is-message : messageOf values ≡ m
+
+was-read : (o : Outcome) (keys numbers : List ℕ) (m : Message) → readingOf o keys numbers ≡ Read m → Was-read o keys numbers m
+unfolding readingOf
+was-read (fault n) keys numbers m e = absurd (let z : _≡_ {A = ℕ} 0 1 = cc in omega arith)
+was-read (got vs) keys numbers m e =
+    by-test (hasPlaces (messageOf vs) keys numbers)
+    (λ t. record { values = vs; got-values = refl; has-places = t; is-message = (let r : Read (messageOf vs) ≡ Read m = rw t at e in cc) })
+    (λ t. absurd (let r : Refused 12 ≡ Read m = rw t at e in let z : _≡_ {A = ℕ} 0 1 = cc in omega arith))
+
+-- places go by lengths
+same-places : (m : Message) (keys numbers keys′ numbers′ : List ℕ) → length keys′ ≡ length keys → length numbers′ ≡ length numbers → hasPlaces m keys′ numbers′ ≡ hasPlaces m keys numbers
+unfolding hasPlaces
+same-places m keys numbers keys′ numbers′ e f =
+    ap₂ (λ (a b : ℕ). leb (entriesOf m) a && (not (hasNumbers (kindOf m)) || leb (entriesOf m) b)) e f
+
+-- the slices as a message that was read leaves them
+module _ (vs : List ℕ) (g : good format vs ≡ true) (keys numbers : List ℕ) (t : hasPlaces (messageOf vs) keys numbers ≡ true) where
+  keys-are : keysRead (got vs) keys numbers ≡ laid (keyIn vs) (entriesOf (messageOf vs)) keys
+  unfolding keysRead
+  keys-are = rw t
+
+  keys-length : length (keysRead (got vs) keys numbers) ≡ length keys
+  keys-length = ap length keys-are ∙ laid-length (keyIn vs) (entriesOf (messageOf vs)) keys (are-places (messageOf vs) keys numbers t .for-keys)
+
+  key-is : (i : ℕ) → i < entriesSaid vs → getD (keysRead (got vs) keys numbers) i 0 ≡ keyIn vs i
+  key-is i h = ap (λ (l : List ℕ). getD l i 0) keys-are ∙ laid-at (keyIn vs) (entriesOf (messageOf vs)) keys i (omega (arith, entries-back vs g))
+
+  numbers-are : numbersRead (got vs) keys numbers ≡ cond (hasNumbers (kindOf (messageOf vs))) (laid (numberIn vs) (entriesOf (messageOf vs)) numbers) numbers
+  unfolding numbersRead
+  numbers-are = rw t
+
+  numbers-length : length (numbersRead (got vs) keys numbers) ≡ length numbers
+  numbers-length =
+      ap length numbers-are
+      ∙ by-test (hasNumbers (kindOf (messageOf vs)))
+      (λ b. rw b (laid-length (numberIn vs) (entriesOf (messageOf vs)) numbers (are-places (messageOf vs) keys numbers t .for-numbers b)))
+      (λ b. rw b)
+
+  number-is : (i : ℕ) → i < entriesSaid vs → hasNumbers (getD vs 0 0) ≡ true → getD (numbersRead (got vs) keys numbers) i 0 ≡ numberIn vs i
+  number-is i h b =
+      let b′ : hasNumbers (kindOf (messageOf vs)) ≡ true = ap hasNumbers (kind-back vs g) ∙ b in
+      let e : numbersRead (got vs) keys numbers ≡ laid (numberIn vs) (entriesOf (messageOf vs)) numbers = numbers-are ∙ rw b′ in
+      ap (λ (l : List ℕ). getD l i 0) e ∙ laid-at (numberIn vs) (entriesOf (messageOf vs)) numbers i (omega (arith, entries-back vs g))
+
+  values-are : valuesOf (messageOf vs) (keysRead (got vs) keys numbers) (numbersRead (got vs) keys numbers) ≡ vs
+  values-are = all-values vs g (keysRead (got vs) keys numbers) (numbersRead (got vs) keys numbers) key-is number-is
+
+-- bytes that are read as a message are the frame of that message, with the entries as they were stored
+module _ (bytes keys numbers : List ℕ) (m : Message) (h : Bytes bytes) (e : readingOf (found bytes) keys numbers ≡ Read m) where
+  was : Was-read (found bytes) keys numbers m
+  was = was-read (found bytes) keys numbers m e
+
+  its-good : good format (was .values) ≡ true
+  its-good = formats.read-good format bytes 0 (was .values) (was .got-values)
+
+  same-values : valuesOf m (keysRead (found bytes) keys numbers) (numbersRead (found bytes) keys numbers) ≡ was .values
+  same-values =
+      (λ i. valuesOf (sym (was .is-message) i) (keysRead (was .got-values i) keys numbers) (numbersRead (was .got-values i) keys numbers))
+      ∙ values-are (was .values) its-good keys numbers (was .has-places)
+
+  pub message-only : bytes ≡ frameOf m (keysRead (found bytes) keys numbers) (numbersRead (found bytes) keys numbers)
+  unfolding frameOf
+  message-only = formats.only-frame format bytes (was .values) h (was .got-values) ∙ ap (frame format) (sym same-values)
+
+  pub message-writable : writable m (keysRead (found bytes) keys numbers) (numbersRead (found bytes) keys numbers) ≡ true
+  unfolding writable
+  message-writable =
+      both _ _
+      ((λ i. hasPlaces (sym (was .is-message) i) (keysRead (was .got-values i) keys numbers) (numbersRead (was .got-values i) keys numbers))
+      ∙ same-places (messageOf (was .values)) keys numbers _ _ (keys-length (was .values) its-good keys numbers (was .has-places)) (numbers-length (was .values) its-good keys numbers (was .has-places))
+      ∙ was .has-places)
+      (ap (good format) same-values ∙ its-good)
