@@ -16,10 +16,13 @@ use Rattle.frames.specs.Lists.{laid}
 use Rattle.frames.specs.Messages.{entriesOf, messageOf}
 use Rattle.frames.specs.Entries.{keyIn, numberIn, kindOf, valuesOf}
 
--- the lent slices have a place for each entry; kind 6 has no numbers and needs no place for them
+-- as many places for keys as there are entries, and for numbers where the entries of the kind have them: those of kind 6 have none
+abbrev pub enough : ℕ → ℕ → ℕ → ℕ → Bool
+enough kind entries keys numbers = leb entries keys && (not (hasNumbers kind) || leb entries numbers)
+
+-- the lent slices have a place for each entry of a message
 unfoldable pub hasPlaces : Message → List ℕ → List ℕ → Bool
-hasPlaces m keys numbers =
-    leb (entriesOf m) (length keys) && (not (hasNumbers (kindOf m)) || leb (entriesOf m) (length numbers))
+hasPlaces m keys numbers = enough (kindOf m) (entriesOf m) (length keys) (length numbers)
 
 -- ---- writing
 

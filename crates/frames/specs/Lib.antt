@@ -5,3 +5,4 @@ pub mod Entries
 pub mod Good
 pub mod Frames
 pub mod RoundTrip
+pub mod Answers

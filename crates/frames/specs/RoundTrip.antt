@@ -53,7 +53,7 @@ module _ (numbered : Bool) (keys numbers : List ℕ) (i : ℕ) where
 
 -- ---- from a message to its values and back
 
-fixed-length : (m : Message) → length (fixedOf m) ≡ 8
+pub fixed-length : (m : Message) → length (fixedOf m) ≡ 8
 fixed-length (Set client server key setpoint) = refl
 fixed-length (SetDone client server) = refl
 fixed-length (Enter client key mask) = refl
@@ -119,7 +119,7 @@ module _ (m : Message) (keys numbers : List ℕ) (w : writable m keys numbers �
   unfolding writable
   places = are-places m keys numbers (both-left _ _ w)
 
-  said : entriesOf m ≡ entriesSaid (valuesOf m keys numbers)
+  pub said : entriesOf m ≡ entriesSaid (valuesOf m keys numbers)
   said = omega (arith, values-many m keys numbers, values-length (valuesOf m keys numbers) right)
 
   back : messageOf (valuesOf m keys numbers) ≡ m

@@ -8,8 +8,13 @@ ghost use mathlib.Core.Path.{_≡_};
 ghost use mathlib.Core.Bool.{true};
 ghost use Prim.Native.Nat.{_≤_, _+_, _-_, _*_};
 ghost use lib.ListN.{length, take};
-ghost use Rattle.formats.specs.Grammar.{good};
+ghost use Rattle.formats.specs.Grammar.{got, good};
 ghost use Rattle.formats.specs.Format.{format};
+ghost use Rattle.formats.specs.Writing.{wroteOf, bytesAfter};
+ghost use Rattle.frames.specs.Lists.{built};
+ghost use Rattle.frames.specs.Entries.{entryValue};
+ghost use Rattle.frames.specs.Frames.{enough, readingOf, keysRead, numbersRead, found, writtenOf, bytesWritten};
+ghost use Rattle.frames.specs.Answers.{writtenBy, valuesBy, Packable};
 ghost use Rattle.frames.specs.Messages.{entriesOf, fixedOf, messageOf, messageAt, fixedAt, Narrow};
 
 // A message by its kind, 1 to 12: set, set done, enter, entered, which keys, keys, get, got, get all, all, get log, log.
@@ -305,4 +310,76 @@ fn message_at(kind: u32, fixed: Fixed) -> Message
             entries: entries + 1,
         },
     }
+}
+
+fn message_of(values: &[u32]) -> Message
+    requires { ⌜ Narrow (now values) ⌝ }
+    ensures { λ r. ⌜ r ≡ messageOf (now (values .entry)) ⌝ }
+{
+    let fixed = fixed_at(values);
+    message_at(values[0], fixed)
+}
+
+// The message of a frame's values, its entries stored; 12 where a lent slice has too few places for them.
+fn deliver(values: &[u32], keys: &mut [u32], numbers: &mut [u32]) -> Reading
+    requires { ⌜ good format (now values) ≡ true ⌝ }
+    ensures { λ r. ⌜ (r ≡ readingOf (got (now (values .entry))) (now (keys .entry)) (now (numbers .entry))) × (now (keys .exit) ≡ keysRead (got (now (values .entry))) (now (keys .entry)) (now (numbers .entry))) × (now (numbers .exit) ≡ numbersRead (got (now (values .entry))) (now (keys .entry)) (now (numbers .entry))) ⌝ }
+{
+    let message = message_of(values);
+    let entries = entries_of(message) as usize;
+    let kind = values[0];
+    if !entries::enough_places(kind, entries, keys.len(), numbers.len()) {
+        return Reading::Refused(12);
+    }
+    entries::store(kind, values, keys, numbers, entries);
+    Reading::Read(message)
+}
+
+// Reads a frame: the message, and its entries at the front of the two lent slices. The bytes may be any.
+// Refused by 10, 11 or 12, and then the slices are as before.
+pub fn read_frame(bytes: &[u8], keys: &mut [u32], numbers: &mut [u32]) -> Reading
+    ensures { λ r. ⌜ (r ≡ readingOf (found (now (bytes .entry))) (now (keys .entry)) (now (numbers .entry))) × (now (keys .exit) ≡ keysRead (found (now (bytes .entry))) (now (keys .entry)) (now (numbers .entry))) × (now (numbers .exit) ≡ numbersRead (found (now (bytes .entry))) (now (keys .entry)) (now (numbers .entry))) ⌝ }
+{
+    let mut values = [0u32; 776];
+    let scan = formats::reading::read_values(bytes, &mut values);
+    let fault = scan.fault;
+    let fields = scan.fields;
+    if fault != 0 {
+        return Reading::Refused(fault);
+    }
+    deliver(&values[..fields], keys, numbers)
+}
+
+// The values of a message with its entries, written.
+fn send(fixed: &[u32], keys: &[u32], numbers: &[u32], entries: usize, bytes: &mut [u8]) -> Written
+    requires { ⌜ Packable (now fixed) (now keys) (now numbers) entries ⌝ }
+    ensures { λ r. ⌜ (r ≡ writtenBy (wroteOf (valuesBy (now (fixed .entry)) (now (keys .entry)) (now (numbers .entry)) entries) (now (bytes .entry)))) × (now (bytes .exit) ≡ bytesAfter (valuesBy (now (fixed .entry)) (now (keys .entry)) (now (numbers .entry)) entries) (now (bytes .entry))) ⌝ }
+{
+    let mut values = [0u32; 776];
+    let count = 8 + 3 * entries;
+    entries::pack(fixed, keys, numbers, &mut values[..count]);
+    let wrote = formats::writing::write_values(&values[..count], bytes);
+    let fault = wrote.fault;
+    let length = wrote.length;
+    if fault != 0 {
+        return Written::Refused(fault);
+    }
+    Written::Length(length)
+}
+
+// Writes a message with its entries, the first of the two slices: the frame stands at the front of the lent bytes.
+// Refused by 11, then 12, and then the bytes are as before.
+pub fn write_frame(message: Message, keys: &[u32], numbers: &[u32], bytes: &mut [u8]) -> Written
+    ensures { λ r. ⌜ (r ≡ writtenOf message (now (keys .entry)) (now (numbers .entry)) (now (bytes .entry))) × (now (bytes .exit) ≡ bytesWritten message (now (keys .entry)) (now (numbers .entry)) (now (bytes .entry))) ⌝ }
+{
+    let entries = entries_of(message) as usize;
+    let fixed = fixed_of(message);
+    let kind = fixed[0];
+    if !entries::enough_places(kind, entries, keys.len(), numbers.len()) {
+        return Written::Refused(11);
+    }
+    if 256 < entries {
+        return Written::Refused(11);
+    }
+    send(&fixed, keys, numbers, entries, bytes)
 }
