@@ -5,23 +5,27 @@ use mathlib.Core.Bool.{Bool, true, false, cond, not, _&&_, _||_, true≢false}
 use mathlib.Core.List.{List, [], _∷_, _++_}
 use native.Mathlib.Omega.{arith}
 use lib.Dec.{eqb, leb, ltb}
-use lib.ListN.{length, getD, drop, length-append, List·getD-append}
-use lib.Seq.{ext-getD, getD-append-add}
+use lib.ListN.{length, getD, take, drop, length-append, List·getD-append}
+use lib.Seq.{ext-getD, getD-append-add, length-take-le, take-at}
 use borrow.Author.Tests.{lt-ltb, le-ltb, lt-leb, le-leb, leb-true, ltb-true, ltb-false, eq-eqb, ne-eqb}
 use Rattle.ranges.specs.Tests.{by-test, both, both-left, both-right, not-both}
 use Rattle.formats.specs.declared.writing.Wrote.{Wrote}
-use Rattle.formats.specs.Grammar.{good, frame}
+use Rattle.formats.specs.Grammar.{Outcome, got, fault, read, good, frame}
 use Rattle.formats.specs.Table.{hasNumbers}
 use Rattle.formats.specs.Format.{format}
+use Rattle.formats.specs.Reading.{outcome}
 use Rattle.formats.specs.Writing.{wroteOf, bytesAfter}
 use Rattle.formats.specs.Walk.{entriesSaid, entries-few}
 use Rattle.frames.specs.declared.Message.{Message}
+use Rattle.frames.specs.declared.Reading.{Reading}
+use Rattle.frames.specs.declared.Reading.the-variants as reading
 use Rattle.frames.specs.declared.Written.{Written}
 use Rattle.frames.specs.declared.Written.the-variants.{Length, Refused}
-use Rattle.frames.specs.Lists.{built, built-length, built-at}
+use Rattle.frames.specs.Lists.{built, built-length, built-at, laid}
 use Rattle.frames.specs.Messages.{entriesOf, fixedOf, messageOf}
-use Rattle.frames.specs.Entries.{entryValue, kindOf, valuesOf}
-use Rattle.frames.specs.Frames.{enough, hasPlaces, writable, frameOf, fits, writtenOf, bytesWritten}
+use Rattle.frames.specs.Entries.{keyIn, numberIn, entryValue, kindOf, valuesOf}
+use Rattle.frames.specs.Good.{kind-back, entries-back}
+use Rattle.frames.specs.Frames.{enough, hasPlaces, writable, frameOf, fits, writtenOf, bytesWritten, readingOf, keysRead, numbersRead, found}
 use Rattle.frames.specs.RoundTrip.{fixed-length, said}
 
 -- ---- definitions
@@ -166,3 +170,83 @@ stored-none l r e = rw e
 
 pub stored-some : {b : Bool} (l r : List ℕ) → b ≡ true → l ≡ cond b l r
 stored-some l r e = rw e
+
+-- ---- the reader's answer
+
+module _ (vs keys numbers : List ℕ) (g : good format vs ≡ true) where
+  places-are : hasPlaces (messageOf vs) keys numbers ≡ enough (getD vs 0 0) (entriesOf (messageOf vs)) (length keys) (length numbers)
+  unfolding hasPlaces
+  places-are = ap (λ (k : ℕ). enough k (entriesOf (messageOf vs)) (length keys) (length numbers)) (kind-back vs g)
+
+  module _ {m : Message} {n : ℕ} (em : m ≡ messageOf vs) (en : n ≡ entriesOf m) where
+    its-entries : n ≡ entriesOf (messageOf vs)
+    its-entries = en ∙ ap entriesOf em
+
+    pub are-stored : Stored vs n
+    are-stored = record { right = g; is-said = its-entries ∙ entries-back vs g }
+
+    found-places : hasPlaces (messageOf vs) keys numbers ≡ enough (getD vs 0 0) n (length keys) (length numbers)
+    found-places = places-are ∙ ap (λ (k : ℕ). enough (getD vs 0 0) k (length keys) (length numbers)) (sym its-entries)
+
+    -- too few places
+    pub read-small : enough (getD vs 0 0) n (length keys) (length numbers) ≡ false → (reading.Refused 12 ≡ readingOf (got vs) keys numbers) × (keys ≡ keysRead (got vs) keys numbers) × (numbers ≡ numbersRead (got vs) keys numbers)
+    unfolding readingOf keysRead numbersRead
+    read-small e = let t = found-places ∙ e in (rw t, rw t, rw t)
+
+    -- the entries are stored
+    pub read-done : {k x : List ℕ} → enough (getD vs 0 0) n (length keys) (length numbers) ≡ true → k ≡ laid (keyIn vs) n keys → x ≡ cond (hasNumbers (getD vs 0 0)) (laid (numberIn vs) n numbers) numbers → (reading.Read m ≡ readingOf (got vs) keys numbers) × (k ≡ keysRead (got vs) keys numbers) × (x ≡ numbersRead (got vs) keys numbers)
+    unfolding readingOf keysRead numbersRead
+    read-done e dk dx =
+        let t = found-places ∙ e in (
+          rw t (ap reading.Read em),
+          rw t (dk ∙ ap (λ (j : ℕ). laid (keyIn vs) j keys) its-entries),
+          rw t (dx ∙ (λ i. cond (hasNumbers (sym (kind-back vs g) i)) (laid (numberIn vs) (its-entries i) numbers) numbers)),
+        )
+
+-- the bytes are refused
+pub read-refused : (o : Outcome) (us keys numbers : List ℕ) {f : ℕ} → o ≡ outcome f us → (f ≡ 0 → ⊥) → (reading.Refused f ≡ readingOf o keys numbers) × (keys ≡ keysRead o keys numbers) × (numbers ≡ numbersRead o keys numbers)
+unfolding outcome readingOf keysRead numbersRead
+read-refused o us keys numbers {f} e d =
+    let q : o ≡ fault f = e ∙ rw (ne-eqb f 0 d) in (
+      ap (λ (p : Outcome). readingOf p keys numbers) (sym q),
+      ap (λ (p : Outcome). keysRead p keys numbers) (sym q),
+      ap (λ (p : Outcome). numbersRead p keys numbers) (sym q),
+    )
+
+pub got-all : (o : Outcome) (us : List ℕ) {f : ℕ} → o ≡ outcome f us → f ≡ 0 → o ≡ got us
+unfolding outcome
+got-all o us {f} e z = e ∙ rw (eq-eqb f 0 z)
+
+-- the cases of the writer's enum
+pub written-fault : (w : Wrote) → (w .fault ≡ 0 → ⊥) → Refused (w .fault) ≡ writtenBy w
+written-fault w d = rw (ne-eqb (w .fault) 0 d)
+
+pub written-length : (w : Wrote) → w .fault ≡ 0 → Length (w .length) ≡ writtenBy w
+written-length w e = rw (eq-eqb (w .fault) 0 e)
+
+-- a message's own fixed values and number of entries, as the code has them
+module _ (m : Message) (keys numbers : List ℕ) {fixed : List ℕ} {n : ℕ} (ef : fixed ≡ fixedOf m) (en : n ≡ entriesOf m) where
+  pub enough-is : enough (getD fixed 0 0) n (length keys) (length numbers) ≡ hasPlaces m keys numbers
+  unfolding hasPlaces
+  enough-is i = enough (getD (ef i) 0 0) (en i) (length keys) (length numbers)
+
+  pub values-is : valuesBy fixed keys numbers n ≡ valuesOf m keys numbers
+  unfolding valuesOf
+  values-is i = valuesBy (ef i) keys numbers (en i)
+
+  pub is-packable : enough (getD fixed 0 0) n (length keys) (length numbers) ≡ true → n ≤ 256 → Packable fixed keys numbers n
+  is-packable e h =
+      record {
+        eight = ap length ef ∙ fixed-length m;
+        few = h;
+        for-keys = enough-for-keys (getD fixed 0 0) n (length keys) (length numbers) e;
+        for-numbers = enough-for-numbers (getD fixed 0 0) n (length keys) (length numbers) e;
+      }
+
+-- the front of a row that was packed
+pub packed-front : (fixed keys numbers row : List ℕ) (n : ℕ) {front : List ℕ} → length fixed ≡ 8 → 8 + 3 * n ≤ length row → front ≡ built (valueBy fixed (hasNumbers (getD fixed 0 0)) keys numbers) (length (take (8 + 3 * n) row)) → take (8 + 3 * n) (front ++ drop (8 + 3 * n) row) ≡ valuesBy fixed keys numbers n
+packed-front fixed keys numbers row n {front} l h e =
+    let f = valueBy fixed (hasNumbers (getD fixed 0 0)) keys numbers in
+    let k = length-take-le (8 + 3 * n) row h in
+    let q : front ≡ built f (8 + 3 * n) = e ∙ ap (built f) k in
+    take-at front (drop (8 + 3 * n) row) (8 + 3 * n) (ap length q ∙ built-length f (8 + 3 * n)) ∙ q ∙ values-by fixed keys numbers n l

@@ -3,7 +3,7 @@ use formats::table;
 ghost use mathlib.Core.Path.{_≡_};
 ghost use mathlib.Core.Bool.{true, cond};
 ghost use Prim.Native.Nat.{_+_, _*_, _/_, _≤_, _<_};
-ghost use lib.ListN.{length, getD};
+ghost use lib.ListN.{length, getD, take};
 ghost use Rattle.formats.specs.Grammar.{good};
 ghost use Rattle.formats.specs.Table.{hasNumbers};
 ghost use Rattle.formats.specs.Format.{format};
@@ -11,7 +11,7 @@ ghost use Rattle.formats.specs.Walk.{entriesSaid};
 ghost use Rattle.frames.specs.Lists.{built, laid};
 ghost use Rattle.frames.specs.Entries.{keyIn, numberIn, entryValue};
 ghost use Rattle.frames.specs.Frames.{enough};
-ghost use Rattle.frames.specs.Answers.{valueBy, Reaches, Room, Stored};
+ghost use Rattle.frames.specs.Answers.{valueBy, valuesBy, Reaches, Room, Packable, Stored};
 
 // Whether slices have places for the entries of a kind.
 pub fn enough_places(kind: u32, entries: usize, keys: usize, numbers: usize) -> bool
@@ -92,7 +92,7 @@ fn value_at(fixed: &[u32], numbered: bool, keys: &[u32], numbers: &[u32], i: usi
 }
 
 // The values of a message: the fixed ones, then those of its entries, as many as there is room for.
-pub fn pack(fixed: &[u32], keys: &[u32], numbers: &[u32], values: &mut [u32])
+fn pack(fixed: &[u32], keys: &[u32], numbers: &[u32], values: &mut [u32])
     requires { ⌜ Room (now fixed) (now keys) (now numbers) (length (now values)) ⌝ }
     ensures { λ _. ⌜ now (values .exit) ≡ built (valueBy (now (fixed .entry)) (hasNumbers (getD (now (fixed .entry)) 0 0)) (now (keys .entry)) (now (numbers .entry))) (length (now (values .entry))) ⌝ }
 {
@@ -102,4 +102,19 @@ pub fn pack(fixed: &[u32], keys: &[u32], numbers: &[u32], values: &mut [u32])
         values[i] = value_at(fixed, numbered, keys, numbers, i);
         i += 1;
     }
+}
+
+// The values of a message with this many entries at the front of a row that has room for the most.
+pub fn pack_entries(
+    fixed: &[u32],
+    keys: &[u32],
+    numbers: &[u32],
+    entries: usize,
+    values: &mut [u32],
+)
+    requires { ⌜ Packable (now fixed) (now keys) (now numbers) entries × (length (now values) ≡ 776) ⌝ }
+    ensures { λ _. ⌜ take (8 + 3 * entries) (now (values .exit)) ≡ valuesBy (now (fixed .entry)) (now (keys .entry)) (now (numbers .entry)) entries ⌝ }
+{
+    let count = 8 + 3 * entries;
+    pack(fixed, keys, numbers, &mut values[..count]);
 }

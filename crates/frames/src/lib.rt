@@ -350,21 +350,34 @@ pub fn read_frame(bytes: &[u8], keys: &mut [u32], numbers: &mut [u32]) -> Readin
     deliver(&values[..fields], keys, numbers)
 }
 
-// The values of a message with its entries, written.
-fn send(fixed: &[u32], keys: &[u32], numbers: &[u32], entries: usize, bytes: &mut [u8]) -> Written
-    requires { ⌜ Packable (now fixed) (now keys) (now numbers) entries ⌝ }
-    ensures { λ r. ⌜ (r ≡ writtenBy (wroteOf (valuesBy (now (fixed .entry)) (now (keys .entry)) (now (numbers .entry)) entries) (now (bytes .entry)))) × (now (bytes .exit) ≡ bytesAfter (valuesBy (now (fixed .entry)) (now (keys .entry)) (now (numbers .entry)) entries) (now (bytes .entry))) ⌝ }
+// The frame of the values, with the answer as an enum.
+fn send(values: &[u32], bytes: &mut [u8]) -> Written
+    ensures { λ r. ⌜ (r ≡ writtenBy (wroteOf (now (values .entry)) (now (bytes .entry)))) × (now (bytes .exit) ≡ bytesAfter (now (values .entry)) (now (bytes .entry))) ⌝ }
 {
-    let mut values = [0u32; 776];
-    let count = 8 + 3 * entries;
-    entries::pack(fixed, keys, numbers, &mut values[..count]);
-    let wrote = formats::writing::write_values(&values[..count], bytes);
+    let wrote = formats::writing::write_values(values, bytes);
     let fault = wrote.fault;
     let length = wrote.length;
     if fault != 0 {
         return Written::Refused(fault);
     }
     Written::Length(length)
+}
+
+// The frame of a message whose entries are there.
+fn write_present(
+    fixed: &[u32],
+    keys: &[u32],
+    numbers: &[u32],
+    entries: usize,
+    bytes: &mut [u8],
+) -> Written
+    requires { ⌜ Packable (now fixed) (now keys) (now numbers) entries ⌝ }
+    ensures { λ r. ⌜ (r ≡ writtenBy (wroteOf (valuesBy (now (fixed .entry)) (now (keys .entry)) (now (numbers .entry)) entries) (now (bytes .entry)))) × (now (bytes .exit) ≡ bytesAfter (valuesBy (now (fixed .entry)) (now (keys .entry)) (now (numbers .entry)) entries) (now (bytes .entry))) ⌝ }
+{
+    let mut values = [0u32; 776];
+    entries::pack_entries(fixed, keys, numbers, entries, &mut values);
+    let count = 8 + 3 * entries;
+    send(&values[..count], bytes)
 }
 
 // Writes a message with its entries, the first of the two slices: the frame stands at the front of the lent bytes.
@@ -381,5 +394,5 @@ pub fn write_frame(message: Message, keys: &[u32], numbers: &[u32], bytes: &mut 
     if 256 < entries {
         return Written::Refused(11);
     }
-    send(&fixed, keys, numbers, entries, bytes)
+    write_present(&fixed, keys, numbers, entries, bytes)
 }

@@ -1,64 +1,50 @@
+-- A frame's values are narrow, and say how many entries to store.
 use borrow.Author.Needs.{needs}
+use borrow.Author.Tests.{not-true, not-false}
+use mathlib.Core.Path.{_≡_, sym, ap, _∙_}
+use native.Mathlib.Omega.{arith}
+use Rattle.frames.specs.Good.{is-narrow}
+use Rattle.frames.specs.Answers.{read-small, read-done, are-stored}
 use Rattle.frames.proofs.deliver.Statement.{statement}
 use Rattle.frames.proofs.deliver.Tie as tie
-use Rattle.frames.proofs.deliver.Reads as reads
-use Rattle.frames.proofs.deliver.Lts as lts
-use Rattle.frames.proofs.entries.enough_places.Reads as enough-places-reads
-use Rattle.frames.proofs.entries.store.Reads as store-reads
-use Rattle.frames.proofs.entries_of.Reads as entries-of-reads
-use Rattle.frames.proofs.message_of.Reads as message-of-reads
 
--- src/lib.rt:328:9
 message-of-requires : tie.Need-message-of-requires
-message-of-requires c κs = search needs
+message-of-requires c κs = let s = c .before .before .before in is-narrow (s .args .values .now) (s .pre)
 
--- src/lib.rt:329:19
-entries-of-requires : tie.Need-entries-of-requires
-entries-of-requires c κs = search needs
-
--- src/lib.rt:329:19
-cast-entries : tie.Need-cast-entries
-cast-entries c = search needs
-
--- src/lib.rt:330:16
 shared-slice-read-kind : tie.Need-shared-slice-read-kind
-shared-slice-read-kind c = search needs
+shared-slice-read-kind c = let s = c .before .before .before .before .before .before in let n = is-narrow (s .args .values .now) (s .pre) in omega (arith, n .long)
 
--- src/lib.rt:331:9
-enough-places-requires : tie.Need-enough-places-requires
-enough-places-requires c κs = search needs
-
--- src/lib.rt:332:9
 returns : tie.Need-returns
-returns c = search needs
+returns c =
+    let s = c .before .before .before .before .before .before .before .before in
+    read-small (s .args .values .now) (s .args .keys .now) (s .args .numbers .now) (s .pre) (c .before .before .before .before .message-of .ensures) (c .before .before .before .entries-of .ensures)
+    (sym (c .before .enough-places .ensures) ∙ not-true _ (c .if1 .taken))
 
--- src/lib.rt:334:5
 store-requires : tie.Need-store-requires
-store-requires c κs = search needs
+store-requires c κs =
+    let s = c .before .before .before .before .before .before .before .before .before .before in (
+      are-stored (s .args .values .now) (s .args .keys .now) (s .args .numbers .now) (s .pre) (c .before .before .before .before .before .before .message-of .ensures) (c .before .before .before .before .before .entries-of .ensures),
+      sym (c .before .before .before .enough-places .ensures) ∙ not-false _ (c .before .before .if1 .left),
+    )
 
--- src/lib.rt:324:1
-same-length : tie.Need-same-length
-same-length c = search needs
-
--- src/lib.rt:324:1
-same-length-2 : tie.Need-same-length-2
-same-length-2 c = search needs
-
--- src/lib.rt:324:1
 returns-2 : tie.Need-returns-2
-returns-2 c = search needs
+returns-2 c =
+    let s = c .before .before .before .before .before .before .before .before .before .before .before .before .before .before .before in
+    let t = c .before .before .before .before .store .ensures in
+    read-done (s .args .values .now) (s .args .keys .now) (s .args .numbers .now) (s .pre) (c .before .before .before .before .before .before .before .before .before .before .before .message-of .ensures) (c .before .before .before .before .before .before .before .before .before .before .entries-of .ensures)
+    (sym (c .before .before .before .before .before .before .before .before .enough-places .ensures) ∙ not-false _ (c .before .before .before .before .before .before .before .if1 .left)) (t .0) (t .1)
 
 pub deliver-spec : {M : Type 1} → statement M
 deliver-spec =
     tie.close
     (tie.spec
     message-of-requires
-    entries-of-requires
-    cast-entries
+    (λ c κs. search needs)
+    (λ c. search needs)
     shared-slice-read-kind
-    enough-places-requires
+    (λ c κs. search needs)
     returns
     store-requires
-    same-length
-    same-length-2
+    (λ c. search needs)
+    (λ c. search needs)
     returns-2)

@@ -22,9 +22,10 @@ store-numbers-requires c κs =
     (s .pre .0, enough-for-numbers (s .args .kind) (s .args .entries) _ _ (s .pre .1) (sym (c .before .before .has-numbers .ensures) ∙ not-false _ (c .before .if1 .left)))
 
 returns-2 : tie.Need-returns-2
-returns-2 c =
-    ( c .before .before .before .before .before .before .before .before .store-keys .ensures
-    , c .before .before .store-numbers .ensures ∙ stored-some _ _ (sym (c .before .before .before .before .before .has-numbers .ensures) ∙ not-false _ (c .before .before .before .before .if1 .left)))
+returns-2 c = (
+  c .before .before .before .before .before .before .before .before .store-keys .ensures,
+  c .before .before .store-numbers .ensures ∙ stored-some _ _ (sym (c .before .before .before .before .before .has-numbers .ensures) ∙ not-false _ (c .before .before .before .before .if1 .left)),
+)
 
 pub store-spec : {M : Type 1} → statement M
 store-spec =

@@ -70,9 +70,10 @@ slice-write-keys c =
 loop-again : tie.Need-loop-again Inv-loop μ-loop
 loop-again c =
     let s = c .before .before .before .before in
-    let l = c .before .before .before .loop in
-    ( omega arith
-    , ap (λ (r : List ℕ). set r (l .i) (keyIn (s .args .values .now) (l .i))) (l .inv .1) ∙ laid-more (keyIn (s .args .values .now)) (l .i) (s .args .keys .now) (omega (arith, s .pre .1)) refl)
+    let l = c .before .before .before .loop in (
+      omega arith,
+      ap (λ (r : List ℕ). set r (l .i) (keyIn (s .args .values .now) (l .i))) (l .inv .1) ∙ laid-more (keyIn (s .args .values .now)) (l .i) (s .args .keys .now) (omega (arith, s .pre .1)) refl,
+    )
 
 same-length : tie.Need-same-length Inv-loop μ-loop
 same-length c =

@@ -44,9 +44,10 @@ slice-write-numbers c =
 loop-again : tie.Need-loop-again Inv-loop μ-loop
 loop-again c =
     let s = c .before .before .before in
-    let l = c .before .before .loop in
-    ( omega arith
-    , ap (λ (r : List ℕ). set r (l .i) (numberIn (s .args .values .now) (l .i))) (l .inv .1) ∙ laid-more (numberIn (s .args .values .now)) (l .i) (s .args .numbers .now) (omega (arith, s .pre .1)) refl)
+    let l = c .before .before .loop in (
+      omega arith,
+      ap (λ (r : List ℕ). set r (l .i) (numberIn (s .args .values .now) (l .i))) (l .inv .1) ∙ laid-more (numberIn (s .args .values .now)) (l .i) (s .args .numbers .now) (omega (arith, s .pre .1)) refl,
+    )
 
 same-length : tie.Need-same-length Inv-loop μ-loop
 same-length c =
