@@ -355,10 +355,10 @@ fn send(values: &[u32], bytes: &mut [u8]) -> Written
     ensures { λ r. ⌜ (r ≡ writtenBy (wroteOf (now (values .entry)) (now (bytes .entry)))) × (now (bytes .exit) ≡ bytesAfter (now (values .entry)) (now (bytes .entry))) ⌝ }
 {
     let wrote = formats::writing::write_values(values, bytes);
-    let fault = wrote.fault;
+    let refusal = wrote.fault;
     let length = wrote.length;
-    if fault != 0 {
-        return Written::Refused(fault);
+    if refusal != 0 {
+        return Written::Refused(refusal);
     }
     Written::Length(length)
 }
