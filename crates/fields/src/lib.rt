@@ -1,5 +1,6 @@
 // A field of up to 32 bits at any place of a row of bits, which bytes hold most significant bit first.
-// Callers reach bits by `read_field` and `write_field` alone, and use the laws of `fieldAt` and `putField`.
+// Callers reach bits by `read_field` and `write_field` alone, and use the laws of `fieldAt` and `putField`; they prove that the
+// field is narrow enough and, to be written, inside.
 ghost use mathlib.Core.Path.{_≡_};
 ghost use Prim.Native.Nat.{_*_, _<_};
 ghost use lib.ListN.{length};

@@ -1,7 +1,7 @@
 -- The format of all frames: which field comes next, by the table, and the grammar that this makes.
 use Prim.Native.Nat.{ℕ, zero, suc, _+_, _-_, _*_}
 use mathlib.Core.Bool.{Bool, cond, _&&_}
-use lib.Dec.{leb, eqb, ltb}
+use lib.Dec.{leb, eqb}
 use Rattle.formats.specs.declared.state.Field.{Field}
 use Rattle.formats.specs.declared.state.State.{State}
 use Rattle.formats.specs.Grammar.{Grammar, end, field}

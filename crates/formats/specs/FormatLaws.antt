@@ -2,13 +2,13 @@
 use mathlib.Core.Path.{_≡_, refl, sym, ap, _∙_}
 use Prim.Native.Nat.{ℕ, zero, suc, _+_, _-_, _*_, _≤_, _<_}
 use native.Mathlib.Omega.{arith}
-use mathlib.Core.Bool.{Bool, true, false, cond, _&&_}
+use mathlib.Core.Bool.{true, cond}
 use lib.Dec.{eqb, ltb, leb}
-use borrow.Author.Tests.{eq-eqb, ne-eqb, eqb-true, eqb-false, lt-ltb, le-ltb, ltb-true, ltb-false, leb-true}
+use borrow.Author.Tests.{eq-eqb, ne-eqb, lt-ltb, le-ltb, ltb-true, ltb-false, leb-true}
 use Rattle.ranges.specs.Tests.{by-equal, by-test, both-left, both-right}
 use Rattle.formats.specs.declared.state.Field.{Field}
 use Rattle.formats.specs.declared.state.State.{State}
-use Rattle.formats.specs.Grammar.{Grammar, end, field}
+use Rattle.formats.specs.Grammar.{Grammar, end}
 use Rattle.formats.specs.Table.{sortAt, bitsOf, leastOf, mostOf, entriesIn}
 use Rattle.formats.specs.TableLaws.{entries-most, few-entries}
 use Rattle.formats.specs.Format.{sortOf, widthOf, fieldOf, within, allowed, leftAfter, placeAfter, nextOf, one, entries, fixed, start, format}

@@ -1,11 +1,10 @@
 -- How the writer lays the fields of a frame's values, one behind the other.
 use mathlib.Core.Path.{_≡_, refl, sym, ap, ap₂, _∙_}
-use Prim.Native.Nat.{ℕ, zero, suc, _+_, _-_, _*_, _/_, _≤_, _<_}
+use Prim.Native.Nat.{ℕ, _+_, _*_, _≤_, _<_}
 use native.Mathlib.Omega.{arith}
 use native.Mathlib.Numerals.{add-one}
-use mathlib.Core.List.{List, [], _∷_, _++_}
-use mathlib.Core.Bool.{Bool, true, false, cond}
-use lib.Dec.{leb}
+use mathlib.Core.List.{List, [], _++_}
+use mathlib.Core.Bool.{true, false}
 use lib.ListN.{length, getD, drop}
 use lib.Seq.{drop-cons, drop-length}
 use borrow.Author.Tests.{le-leb, lt-leb}
@@ -13,7 +12,6 @@ use Rattle.ranges.specs.Sum.{sumBelow, sum-none, sum-more}
 use Rattle.fields.specs.Bits.{putField}
 use Rattle.fields.specs.FieldLaws.{length-putField}
 use Rattle.formats.specs.declared.state.State.{State}
-use Rattle.formats.specs.declared.writing.Wrote.{Wrote}
 use Rattle.formats.specs.Grammar.{Grammar, end, field, good, size, lay, zeros, frame}
 use Rattle.formats.specs.RoundTrip.{length-frame}
 use Rattle.formats.specs.TableLaws.{columns-small, entries-fit}

@@ -8,14 +8,14 @@ use mathlib.Core.Bool.{Bool, true, false, cond, _&&_}
 use lib.Dec.{leb, eqb}
 use lib.ListN.{length, take, set}
 use lib.Seq.{take-suc-set}
-use borrow.Author.Tests.{le-leb, lt-leb, leb-true, leb-false, eq-eqb, ne-eqb}
+use borrow.Author.Tests.{le-leb, lt-leb, leb-true, eq-eqb, ne-eqb}
 use Rattle.ranges.specs.Tests.{by-equal}
 use Rattle.fields.specs.Bits.{fieldAt}
 use Rattle.formats.specs.declared.state.Field.{Field}
 use Rattle.formats.specs.declared.state.State.{State}
 use Rattle.formats.specs.declared.reading.Took.{Took}
 use Rattle.formats.specs.declared.reading.Scan.{Scan}
-use Rattle.formats.specs.Grammar.{Grammar, field, Outcome, got, fault, ahead, judged, ended, read}
+use Rattle.formats.specs.Grammar.{Grammar, Outcome, got, fault, ahead, judged, ended, read}
 use Rattle.formats.specs.Format.{widthOf, fieldOf, within, allowed, nextOf, one, start, format}
 use Rattle.formats.specs.FormatLaws.{Goes, goes-start, goes-next, rest, rest-start, rest-one, rest-end}
 

@@ -1,13 +1,13 @@
 -- The rule of the table, proved at each of its entries by one computed test.
 use Prim.Native.Nat.{ℕ, zero, suc, _+_, _*_, _≤_, _<_}
-use mathlib.Core.Path.{_≡_, refl, sym, ap, _∙_}
-use mathlib.Core.Bool.{Bool, true, false, cond, not, _&&_}
+use mathlib.Core.Path.{_≡_, refl, sym, ap}
+use mathlib.Core.Bool.{Bool, true, false, not, _&&_}
 use mathlib.Core.List.{List, []}
 use native.Mathlib.Nat.{mul-le-mul}
 use native.Mathlib.Omega.{arith}
 use lib.Dec.{eqb, leb, ltb}
 use lib.ListN.{length, getD, List·getD-eq-default}
-use borrow.Author.Tests.{eqb-true, eqb-false, eq-eqb, ne-eqb, leb-true, ltb-true, ltb-false, not-true}
+use borrow.Author.Tests.{eqb-true, eq-eqb, ne-eqb, leb-true, ltb-true, ltb-false, not-true}
 use Rattle.ranges.specs.Tests.{either, by-test, both-left, both-right}
 use Rattle.ranges.specs.All.{allBelow, all-at}
 use Rattle.formats.specs.Table.{table, own, of, sortAt, bitsOf, leastOf, mostOf, mosts, leasts, less, entriesIn, bodyBits, entryBits}

@@ -4,20 +4,20 @@ use Prim.Native.Nat.{ℕ, zero, suc, _+_, _-_, _*_, _/_, _%_, _^_, _≤_, _<_}
 use native.Mathlib.Omega.{arith}
 use native.Mathlib.Numerals.{add-one}
 use native.Mathlib.Nat.{suc-mul}
-use mathlib.Core.List.{List, [], _∷_}
-use mathlib.Core.Bool.{Bool, true, false, cond, _&&_, true≢false}
-use lib.Dec.{leb, ltb, eqb}
+use mathlib.Core.List.{List}
+use mathlib.Core.Bool.{true, cond, _&&_, true≢false}
+use lib.Dec.{ltb}
 use lib.ListN.{length, getD, drop}
-use lib.Seq.{drop-cons, drop-length}
-use borrow.Author.Tests.{lt-ltb, le-ltb, ltb-true, ltb-false, leb-true, eq-eqb, ne-eqb, eqb-true}
+use lib.Seq.{drop-cons}
+use borrow.Author.Tests.{lt-ltb, le-ltb, ltb-true, ltb-false, eqb-true}
 use Rattle.ranges.specs.Tests.{by-equal, by-test, both-left, both-right}
 use Rattle.ranges.specs.Sum.{sumBelow, sum-more}
 use Rattle.formats.specs.declared.state.State.{State}
-use Rattle.formats.specs.Grammar.{Grammar, end, good, size, frame}
-use Rattle.formats.specs.Table.{sortAt, bitsOf, leastOf, mostOf, entriesIn, bodyBits, entryBits, frameLength}
-use Rattle.formats.specs.TableLaws.{Row, row-right, bitsFrom, few-entries, entries-most}
-use Rattle.formats.specs.Format.{sortOf, widthOf, fieldOf, within, allowed, nextOf, one, start, format}
-use Rattle.formats.specs.FormatLaws.{Goes, rest, rest-start, rest-one, rest-end, next-place, next-left, next-kind, place-last, place-inner, left-entries, left-one-less, at-most}
+use Rattle.formats.specs.Grammar.{Grammar, good, size, frame}
+use Rattle.formats.specs.Table.{sortAt, bitsOf, mostOf, entriesIn, bodyBits, entryBits, frameLength}
+use Rattle.formats.specs.TableLaws.{row-right, bitsFrom, few-entries, entries-most}
+use Rattle.formats.specs.Format.{sortOf, widthOf, allowed, nextOf, start, format}
+use Rattle.formats.specs.FormatLaws.{rest, rest-start, rest-one, rest-end, next-place, next-left, next-kind, place-last, place-inner, left-entries, left-one-less, at-most}
 use Rattle.formats.specs.Writing.{Tested, tested-start, tested-end, tested-short, tested-bad, tested-on}
 use Rattle.formats.specs.RoundTrip.{length-frame}
 

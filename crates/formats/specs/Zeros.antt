@@ -1,10 +1,10 @@
 -- A row that is cleared from the front.
-use Prim.Native.Nat.{ℕ, suc, zero, _+_, _≤_, _<_}
+use Prim.Native.Nat.{ℕ, _+_, _≤_, _<_}
 use mathlib.Core.Path.{_≡_, refl, sym, ap, _∙_}
 use mathlib.Core.List.{List, [], _∷_, _++_}
 use native.Mathlib.Omega.{arith}
 use native.Mathlib.Numerals.{add-one}
-use lib.ListN.{length, take, set, replicate, replicate-append-replicate}
+use lib.ListN.{length, take, set, replicate-append-replicate}
 use lib.Seq.{take-suc-set, take-all}
 use Rattle.formats.specs.Grammar.{zeros}
 

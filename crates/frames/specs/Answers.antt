@@ -1,31 +1,30 @@
 -- What the code computes on the way, and that it comes to what the definitions say.
-use Prim.Native.Nat.{ℕ, zero, suc, _+_, _-_, _*_, _/_, _%_, _≤_, _<_}
-use mathlib.Core.Path.{_≡_, refl, sym, ap, ap₂, _∙_}
-use mathlib.Core.Bool.{Bool, true, false, cond, not, _&&_, _||_, true≢false}
-use mathlib.Core.List.{List, [], _∷_, _++_}
+use Prim.Native.Nat.{ℕ, _+_, _-_, _*_, _/_, _%_, _≤_, _<_}
+use mathlib.Core.Path.{_≡_, refl, sym, ap, _∙_}
+use mathlib.Core.Bool.{Bool, true, false, cond}
+use mathlib.Core.List.{List, _++_}
 use native.Mathlib.Omega.{arith}
 use lib.Dec.{eqb, leb, ltb}
 use lib.ListN.{length, getD, take, drop, length-append, List·getD-append}
 use lib.Seq.{ext-getD, getD-append-add, length-take-le, take-at}
 use borrow.Author.Tests.{lt-ltb, le-ltb, lt-leb, le-leb, leb-true, ltb-true, ltb-false, eq-eqb, ne-eqb}
-use Rattle.ranges.specs.Tests.{by-test, both, both-left, both-right, not-both}
+use Rattle.ranges.specs.Tests.{by-test, both-left, both-right}
 use Rattle.formats.specs.declared.writing.Wrote.{Wrote}
-use Rattle.formats.specs.Grammar.{Outcome, got, fault, read, good, frame}
+use Rattle.formats.specs.Grammar.{Outcome, got, fault, good, frame}
 use Rattle.formats.specs.Table.{hasNumbers}
 use Rattle.formats.specs.Format.{format}
 use Rattle.formats.specs.Reading.{outcome}
 use Rattle.formats.specs.Writing.{wroteOf, bytesAfter}
 use Rattle.formats.specs.Walk.{entriesSaid, entries-few}
 use Rattle.frames.specs.declared.Message.{Message}
-use Rattle.frames.specs.declared.Reading.{Reading}
 use Rattle.frames.specs.declared.Reading.the-variants as reading
 use Rattle.frames.specs.declared.Written.{Written}
 use Rattle.frames.specs.declared.Written.the-variants.{Length, Refused}
 use Rattle.frames.specs.Lists.{built, built-length, built-at, laid}
 use Rattle.frames.specs.Messages.{entriesOf, fixedOf, messageOf}
-use Rattle.frames.specs.Entries.{keyIn, numberIn, entryValue, kindOf, valuesOf}
+use Rattle.frames.specs.Entries.{keyIn, numberIn, entryValue, valuesOf}
 use Rattle.frames.specs.Good.{kind-back, entries-back}
-use Rattle.frames.specs.Frames.{enough, hasPlaces, writable, frameOf, fits, writtenOf, bytesWritten, readingOf, keysRead, numbersRead, found}
+use Rattle.frames.specs.Frames.{enough, hasPlaces, writable, frameOf, fits, writtenOf, bytesWritten, readingOf, keysRead, numbersRead}
 use Rattle.frames.specs.RoundTrip.{fixed-length, said}
 
 -- ---- definitions

@@ -1,25 +1,23 @@
 -- What is known of a frame's values: they are narrow enough for a message's types, and the message's own values are those that it was made of.
-use Prim.Native.Nat.{ℕ, zero, suc, _+_, _-_, _*_, _/_, _%_, _^_, _≤_, _<_}
+use Prim.Native.Nat.{ℕ, zero, suc, _+_, _-_, _*_, _≤_, _<_}
 use mathlib.Core.Path.{_≡_, refl, sym, ap, ap₂, _∙_}
-use mathlib.Core.Bool.{Bool, true, false, cond, not, _&&_, _||_}
-use mathlib.Core.List.{List, [], _∷_, _++_}
+use mathlib.Core.Bool.{Bool, true, false, cond, _||_}
+use mathlib.Core.List.{List, [], _∷_}
 use native.Mathlib.Omega.{arith}
 use native.Mathlib.Nat.{lt-of-lt-of-le}
-use lib.Dec.{eqb, leb, ltb}
+use lib.Dec.{eqb, leb}
 use lib.Pow.{pow-mono}
 use lib.ListN.{length, getD, take}
 use lib.Seq.{getD-take}
-use borrow.Author.Tests.{leb-true, eqb-true, eqb-false, eq-eqb, ne-eqb, not-false}
-use Rattle.ranges.specs.Tests.{by-equal, both-left, both-right}
+use borrow.Author.Tests.{leb-true, eq-eqb, ne-eqb, not-false}
+use Rattle.ranges.specs.Tests.{by-equal}
 use Rattle.ranges.specs.All.{allBelow, all-at}
 use Rattle.formats.specs.Grammar.{good}
 use Rattle.formats.specs.Table.{none, coord, sortAt, bitsOf, leastOf, mostOf, entriesIn, hasNumbers}
 use Rattle.formats.specs.Format.{sortOf, widthOf, format}
 use Rattle.formats.specs.FormatLaws.{at-most, at-least}
-use Rattle.formats.specs.Walk.{stateAt, placeAt, place-early, place-late, walk-place, walk-kind, entriesSaid, values-length, value-fits, value-allowed, value-width, kind-below, entries-few}
-use Rattle.keys.specs.Keys.{keyOf}
+use Rattle.formats.specs.Walk.{stateAt, placeAt, place-early, place-late, walk-place, walk-kind, entriesSaid, values-length, value-fits, value-allowed, value-width, kind-below}
 use Rattle.frames.specs.declared.Fixed.{Fixed}
-use Rattle.frames.specs.declared.Message.{Message}
 use Rattle.frames.specs.Lists.{built, built-take}
 use Rattle.frames.specs.Messages.{entriesOf, fixedOf, Narrow, fixedAt, messageAt, messageOf}
 use Rattle.frames.specs.Entries.{kindOf}

@@ -1,11 +1,11 @@
 -- A list given place by place, and a row whose first places are so given.
-use Prim.Native.Nat.{ℕ, zero, suc, _+_, _-_, _*_, _≤_, _<_}
+use Prim.Native.Nat.{ℕ, zero, suc, _+_, _≤_, _<_}
 use mathlib.Core.Path.{_≡_, refl, sym, ap, ap₂, _∙_}
-use mathlib.Core.List.{List, [], _∷_, _++_, append-assoc}
+use mathlib.Core.List.{List, [], _∷_, _++_}
 use native.Mathlib.Omega.{arith}
 use native.Mathlib.Numerals.{add-one}
 use lib.ListN.{length, getD, take, drop, set, length-append, length-drop, List·getD-append}
-use lib.Seq.{ext-getD, getD-append-seam, set-at, drop-cons, append-snoc, take-suc, take-suc-set, take-all, take-length}
+use lib.Seq.{getD-append-seam, set-at, drop-cons, append-snoc, take-suc}
 use Rattle.ranges.specs.Tests.{by-equal}
 
 -- f 0, f 1, .. up to n of them

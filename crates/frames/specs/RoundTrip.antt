@@ -2,29 +2,27 @@
 -- Both follow from the two theorems over every format, and from a message's values being those that it was made of.
 use Prim.Native.Nat.{ℕ, zero, suc, _+_, _-_, _*_, _/_, _%_, _≤_, _<_}
 use mathlib.Core.Path.{_≡_, refl, sym, ap, ap₂, _∙_}
-use mathlib.Core.Bool.{Bool, true, false, cond, not, _&&_, _||_, true≢false}
-use mathlib.Core.List.{List, [], _∷_, _++_}
+use mathlib.Core.Bool.{Bool, true, cond, not, _&&_, _||_}
+use mathlib.Core.List.{List, _++_}
 use native.Mathlib.Omega.{arith}
-use lib.Dec.{eqb, leb, ltb}
-use lib.ListN.{length, getD, take, drop, length-append, List·getD-append, take-append-drop}
+use lib.Dec.{leb, ltb}
+use lib.ListN.{length, getD, take, drop, length-append, List·getD-append}
 use lib.Seq.{ext-getD, getD-append-add, getD-take}
-use borrow.Author.Tests.{leb-true, le-leb, ltb-true, ltb-false, eq-eqb, ne-eqb}
+use borrow.Author.Tests.{leb-true, ltb-true, ltb-false}
 use Rattle.ranges.specs.Tests.{by-test, both, both-left, both-right}
 use Rattle.fields.specs.BitLaws.{Bytes}
-use Rattle.formats.specs.Grammar.{Outcome, got, fault, read, good, frame}
+use Rattle.formats.specs.Grammar.{Outcome, got, fault, good, frame}
 use Rattle.formats.specs.RoundTrip as formats
 use Rattle.formats.specs.Table.{entriesIn, sortAt, hasNumbers}
 use Rattle.formats.specs.Format.{format}
 use Rattle.formats.specs.Walk.{entriesSaid, values-length}
-use Rattle.keys.specs.declared.Key.{Key}
 use Rattle.frames.specs.declared.Message.{Message}
 use Rattle.frames.specs.declared.Message.the-variants.{Set, SetDone, Enter, Entered, WhichKeys, Keys, Get, Got, GetAll, All, GetLog, Log}
-use Rattle.frames.specs.declared.Reading.{Reading}
 use Rattle.frames.specs.declared.Reading.the-variants.{Read, Refused}
 use Rattle.frames.specs.Lists.{built, built-length, built-at, built-same, built-take, laid, laid-length, laid-at}
-use Rattle.frames.specs.Messages.{entriesOf, fixedOf, fixedAt, messageAt, messageOf}
+use Rattle.frames.specs.Messages.{entriesOf, fixedOf, messageAt, messageOf}
 use Rattle.frames.specs.Entries.{keyIn, numberIn, entryValue, kindOf, valuesOf}
-use Rattle.frames.specs.Good.{fixed-back, entries-back, kind-back, count-byte, client-byte, no-number}
+use Rattle.frames.specs.Good.{fixed-back, entries-back, kind-back, client-byte, no-number}
 use Rattle.frames.specs.Frames.{hasPlaces, writable, frameOf, readingOf, keysRead, numbersRead, found}
 
 -- ---- the values of an entry

@@ -1,7 +1,7 @@
 -- A frame's values are narrow, and say how many entries to store.
 use borrow.Author.Needs.{needs}
 use borrow.Author.Tests.{not-true, not-false}
-use mathlib.Core.Path.{_≡_, sym, ap, _∙_}
+use mathlib.Core.Path.{sym, _∙_}
 use native.Mathlib.Omega.{arith}
 use Rattle.frames.specs.Good.{is-narrow}
 use Rattle.frames.specs.Answers.{read-small, read-done, are-stored}

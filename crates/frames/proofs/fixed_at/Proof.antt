@@ -1,9 +1,7 @@
 -- The values are narrow enough for their types.
 use borrow.Author.Needs.{needs}
-use mathlib.Core.Path.{_≡_}
 use native.Mathlib.Omega.{arith}
 use lib.ListN.{getD}
-use Rattle.keys.specs.declared.Key.{Key}
 use Rattle.frames.proofs.fixed_at.Statement.{statement}
 use Rattle.frames.proofs.fixed_at.Tie as tie
 

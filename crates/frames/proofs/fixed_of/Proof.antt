@@ -1,6 +1,6 @@
 -- In each arm the message is its variant, and the list is the definition's clause.
 use borrow.Author.Needs.{needs}
-use mathlib.Core.Path.{sym, ap, _∙_}
+use mathlib.Core.Path.{sym, ap}
 use Rattle.frames.specs.Messages.{fixedOf}
 use Rattle.frames.proofs.fixed_of.Statement.{statement}
 use Rattle.frames.proofs.fixed_of.Tie as tie

@@ -1,9 +1,8 @@
 -- What was read is a frame's values, unless the bytes are refused.
 use borrow.Author.Needs.{needs}
-use mathlib.Core.Path.{_≡_, sym, ap, _∙_}
-use mathlib.Core.List.{List}
+use mathlib.Core.Path.{sym, ap, _∙_}
 use native.Mathlib.Omega.{arith}
-use lib.ListN.{length, take}
+use lib.ListN.{take}
 use lib.Seq.{length-take-le}
 use Rattle.formats.specs.Grammar.{Outcome}
 use Rattle.formats.specs.Format.{format}

@@ -1,6 +1,6 @@
 -- The answer by its case.
 use borrow.Author.Needs.{needs}
-use mathlib.Core.Path.{_≡_, ap, _∙_}
+use mathlib.Core.Path.{ap, _∙_}
 use Rattle.frames.specs.Answers.{writtenBy, written-fault, written-length}
 use Rattle.frames.proofs.send.Statement.{statement}
 use Rattle.frames.proofs.send.Tie as tie

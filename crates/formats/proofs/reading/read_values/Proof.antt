@@ -1,12 +1,9 @@
 -- The row holds the values so far, and what is left of the format is read from the next bit on; each field leaves less room.
 use borrow.Author.Needs.{needs}
-use mathlib.Core.Path.{_≡_, refl, sym, ap, _∙_}
+use mathlib.Core.Path.{_≡_, sym, ap, _∙_}
 use Prim.Native.Nat.{ℕ, _+_, _≤_}
 use native.Mathlib.Omega.{arith}
-use mathlib.Core.List.{List}
 use lib.ListN.{length, take, length-set}
-use Rattle.formats.specs.declared.state.State.{State}
-use Rattle.formats.specs.Format.{start}
 use Rattle.formats.specs.FormatLaws.{room, room-next, room-start, room-left}
 use Rattle.formats.specs.Reading.{Come, come-start, come-end, turn-fault, turn-allowed, turn-on, outcome}
 use Rattle.formats.proofs.reading.read_values.Statement.{statement}

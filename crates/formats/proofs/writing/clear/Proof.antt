@@ -1,9 +1,9 @@
 -- The first i bytes are zero.
 use borrow.Author.Needs.{needs}
-use mathlib.Core.Path.{_≡_, refl, sym, ap, _∙_}
-use Prim.Native.Nat.{ℕ, _-_, _≤_}
+use mathlib.Core.Path.{_≡_, refl, ap, _∙_}
+use Prim.Native.Nat.{_-_, _≤_}
 use native.Mathlib.Omega.{arith}
-use lib.ListN.{length, take, set, length-set}
+use lib.ListN.{length, take, length-set}
 use Rattle.formats.specs.Grammar.{zeros}
 use Rattle.formats.specs.Zeros.{cleared-none, cleared-more, cleared-all}
 use Rattle.formats.proofs.writing.clear.Statement.{statement}

@@ -1,13 +1,13 @@
 -- One law a branch; the frame is laid over the first bytes, and those behind it are as before.
 use borrow.Author.Needs.{needs}
 use borrow.Author.Tests.{not-true, not-false}
-use mathlib.Core.Path.{_≡_, sym, ap, _∙_}
+use mathlib.Core.Path.{sym, ap, _∙_}
 use mathlib.Core.List.{List, _++_}
 use Prim.Native.Nat.{ℕ}
 use native.Mathlib.Omega.{arith}
-use lib.ListN.{length, drop, take}
+use lib.ListN.{drop}
 use lib.Seq.{length-take-le}
-use Rattle.formats.specs.Grammar.{lay, zeros, frame}
+use Rattle.formats.specs.Grammar.{lay, zeros}
 use Rattle.formats.specs.Format.{format}
 use Rattle.formats.specs.Laying.{write-bad, write-small, write-done, frame-over, size-inside}
 use Rattle.formats.proofs.writing.write_values.Statement.{statement}

@@ -5,7 +5,7 @@ use mathlib.Core.Bool.{Bool}
 use mathlib.Core.List.{List, _++_, append-nil}
 use Prim.Native.Nat.{ℕ, _+_, _-_, _≤_}
 use native.Mathlib.Omega.{arith}
-use lib.ListN.{length, set, drop}
+use lib.ListN.{length, set}
 use lib.Seq.{drop-length}
 use Rattle.frames.specs.Lists.{built, laid, laid-none, laid-more, laid-length}
 use Rattle.frames.specs.Answers.{valueBy}

@@ -1,8 +1,7 @@
 -- The keys, then the numbers where there are any.
 use borrow.Author.Needs.{needs}
 use borrow.Author.Tests.{not-true, not-false}
-use mathlib.Core.Path.{_≡_, sym, ap, _∙_}
-use native.Mathlib.Omega.{arith}
+use mathlib.Core.Path.{sym, _∙_}
 use Rattle.frames.specs.Answers.{enough-for-keys, enough-for-numbers, stored-none, stored-some}
 use Rattle.frames.proofs.entries.store.Statement.{statement}
 use Rattle.frames.proofs.entries.store.Tie as tie
