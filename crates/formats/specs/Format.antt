@@ -5,7 +5,21 @@ use lib.Dec.{leb, eqb}
 use Rattle.formats.specs.declared.state.Field.{Field}
 use Rattle.formats.specs.declared.state.State.{State}
 use Rattle.formats.specs.Grammar.{Grammar, end, field}
-use Rattle.formats.specs.Table.{sortAt, bitsOf, leastOf, mostOf, entriesIn}
+use Rattle.formats.specs.Table.{sortAt, bitsOf, leastOf, mostOf, mostEntries, entriesIn}
+
+-- the fields of the header and the fixed body, and of an entry
+abbrev pub fixedFields : ℕ
+fixedFields = 8
+
+abbrev pub entryFields : ℕ
+entryFields = 3
+
+-- the most values that a frame can have, and the bits that they can have at most
+abbrev pub mostValues : ℕ
+mostValues = fixedFields + entryFields * mostEntries
+
+abbrev pub mostBits : ℕ
+mostBits = 32 * mostValues
 
 abbrev pub sortOf : State → ℕ
 sortOf st = sortAt (st .kind) (st .place)
@@ -30,7 +44,7 @@ allowed st v = within (fieldOf st) v
 
 -- behind place 7 come three fields for each entry
 unfoldable pub leftAfter : State → ℕ → ℕ
-leftAfter st v = cond (eqb (st .place) 7) (3 * entriesIn (st .kind) v) (st .left - 1)
+leftAfter st v = cond (eqb (st .place) 7) (entryFields * entriesIn (st .kind) v) (st .left - 1)
 
 -- behind an entry's last field comes the next entry's first
 unfoldable pub placeAfter : ℕ → ℕ
@@ -61,8 +75,8 @@ fixed zero st = entries (st .left) st
 fixed (suc n) st = one st (λ v. fixed n (nextOf st v))
 
 abbrev pub start : State
-start = record { kind = 0; client = 0; before = 0; left = 8; place = 0 }
+start = record { kind = 0; client = 0; before = 0; left = fixedFields; place = 0 }
 
 -- every frame
 unfoldable pub format : Grammar
-format = fixed 8 start
+format = fixed fixedFields start

@@ -9,9 +9,9 @@ use Rattle.ranges.specs.Tests.{by-equal, by-test, both-left, both-right}
 use Rattle.formats.specs.declared.state.Field.{Field}
 use Rattle.formats.specs.declared.state.State.{State}
 use Rattle.formats.specs.Grammar.{Grammar, end}
-use Rattle.formats.specs.Table.{sortAt, bitsOf, leastOf, mostOf, entriesIn}
+use Rattle.formats.specs.Table.{sortAt, bitsOf, leastOf, mostOf, mostEntries, entriesIn}
 use Rattle.formats.specs.TableLaws.{entries-most, few-entries}
-use Rattle.formats.specs.Format.{sortOf, widthOf, fieldOf, within, allowed, leftAfter, placeAfter, nextOf, one, entries, fixed, start, format}
+use Rattle.formats.specs.Format.{entryFields, mostValues, sortOf, widthOf, fieldOf, within, allowed, leftAfter, placeAfter, nextOf, one, entries, fixed, start, format}
 
 module _ (place : ℕ) where
   pub place-last : place ≡ 10 → placeAfter place ≡ 8
@@ -73,12 +73,12 @@ pub record Goes (st : State) : Type 0 where
 pub goes-start : Goes start
 goes-start = record { counted = λ h. refl; inside = omega arith }
 
--- how many fields can be left: until the number of entries is known, 256 entries of three
+-- how many fields can be left: until the number of entries is known, the most that there can be
 unfoldable pub room : State → ℕ
-room st = cond (ltb (st .place) 8) (st .left + 768) (st .left)
+room st = cond (ltb (st .place) 8) (st .left + entryFields * mostEntries) (st .left)
 
 module _ (st : State) where
-  pub room-early : st .place < 8 → room st ≡ st .left + 768
+  pub room-early : st .place < 8 → room st ≡ st .left + entryFields * mostEntries
   unfolding room
   room-early h = rw (lt-ltb (st .place) 8 h)
 
@@ -185,7 +185,7 @@ rest-one st g h =
         (λ e. let z : st .left - 1 ≡ 0 = omega (arith, g .counted early) in ap (λ (n : ℕ). fixed n (nextOf st v)) z ∙ sym (rest-late (nextOf st v) (omega arith)))
         (λ d. sym (rest-early (nextOf st v) (omega arith) ∙ ap (λ (n : ℕ). fixed n (nextOf st v)) (next-left st v ∙ sym (left-one-less st v d))))
 
-pub room-start : room start ≡ 776
+pub room-start : room start ≡ mostValues
 unfolding room
 room-start = refl
 

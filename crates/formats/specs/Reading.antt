@@ -16,7 +16,7 @@ use Rattle.formats.specs.declared.state.State.{State}
 use Rattle.formats.specs.declared.reading.Took.{Took}
 use Rattle.formats.specs.declared.reading.Scan.{Scan}
 use Rattle.formats.specs.Grammar.{Grammar, Outcome, got, fault, ahead, judged, ended, read}
-use Rattle.formats.specs.Format.{widthOf, fieldOf, within, allowed, nextOf, one, start, format}
+use Rattle.formats.specs.Format.{mostValues, widthOf, fieldOf, within, allowed, nextOf, one, start, format}
 use Rattle.formats.specs.FormatLaws.{Goes, goes-start, goes-next, rest, rest-start, rest-one, rest-end}
 
 -- ---- definitions
@@ -37,7 +37,7 @@ endFault bytes at = cond (leb (8 * length bytes) (at + 7) && eqb (fieldAt bytes 
 
 -- what a scan tells of the bytes, with the row that it filled
 pub record Scanned (bytes values : List ℕ) (r : Scan) : Type 0 where
-  pub inside : r .fields ≤ 776
+  pub inside : r .fields ≤ mostValues
   pub found : read format bytes 0 ≡ outcome (r .fault) (take (r .fields) values)
 
 -- ---- the cases, as the code meets them

@@ -105,6 +105,10 @@ unfoldable pub mostOf : ℕ → ℕ → ℕ → ℕ
 mostOf sort client before =
     cond (eqb sort own) client (cond (eqb sort of && eqb before 0) 0 (getD mosts sort 0))
 
+-- a frame has at most as many entries as n−1 in 8 bits can say
+abbrev pub mostEntries : ℕ
+mostEntries = 256
+
 -- how many entries, by the value that says it
 unfoldable pub entriesIn : ℕ → ℕ → ℕ
 entriesIn kind v = cond (eqb (sortAt kind 7) less) (v + 1) v

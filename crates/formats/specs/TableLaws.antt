@@ -10,7 +10,7 @@ use lib.ListN.{length, getD, List·getD-eq-default}
 use borrow.Author.Tests.{eqb-true, eq-eqb, ne-eqb, leb-true, ltb-true, ltb-false, not-true}
 use Rattle.ranges.specs.Tests.{either, by-test, both-left, both-right}
 use Rattle.ranges.specs.All.{allBelow, all-at}
-use Rattle.formats.specs.Table.{table, own, of, sortAt, bitsOf, leastOf, mostOf, mosts, leasts, less, entriesIn, bodyBits, entryBits}
+use Rattle.formats.specs.Table.{table, mostEntries, own, of, sortAt, bitsOf, leastOf, mostOf, mosts, leasts, less, entriesIn, bodyBits, entryBits}
 
 -- the bits of n fields of a kind from a place on
 unfoldable pub bitsFrom : ℕ → ℕ → ℕ → ℕ
@@ -136,6 +136,6 @@ pub entries-most : (kind v : ℕ) → entriesIn kind v ≤ v + 1
 unfolding entriesIn
 entries-most kind v = either (λ n. n ≤ v + 1) (eqb (sortAt kind 7) less) (omega arith) (omega arith)
 
--- 256 entries are not too many bits
-pub entries-fit : (kind n : ℕ) → kind < 13 → n ≤ 256 → n * getD entryBits kind 0 ≤ 11264
+-- the bits of the most entries that there can be are not too many
+pub entries-fit : (kind n : ℕ) → kind < 13 → n ≤ mostEntries → n * getD entryBits kind 0 ≤ 11264
 entries-fit kind n h l = mul-le-mul l (columns-small kind h .1)

@@ -14,7 +14,7 @@ use Rattle.ranges.specs.Tests.{by-equal, by-test, both-left, both-right}
 use Rattle.ranges.specs.Sum.{sumBelow, sum-more}
 use Rattle.formats.specs.declared.state.State.{State}
 use Rattle.formats.specs.Grammar.{Grammar, good, size, frame}
-use Rattle.formats.specs.Table.{sortAt, bitsOf, mostOf, entriesIn, bodyBits, entryBits, frameLength}
+use Rattle.formats.specs.Table.{mostEntries, sortAt, bitsOf, mostOf, entriesIn, bodyBits, entryBits, frameLength}
 use Rattle.formats.specs.TableLaws.{row-right, bitsFrom, few-entries, entries-most}
 use Rattle.formats.specs.Format.{sortOf, widthOf, allowed, nextOf, start, format}
 use Rattle.formats.specs.FormatLaws.{rest, rest-start, rest-one, rest-end, next-place, next-left, next-kind, place-last, place-inner, left-entries, left-one-less, at-most}
@@ -231,8 +231,8 @@ module _ (vs : List ℕ) (g : good format vs ≡ true) where
   unfolding frameLength
   frame-length = sym (length-frame format vs ∙ ap (λ (n : ℕ). (n + 7) / 8) frame-bits)
 
-  -- at most 256 entries
-  pub entries-few : entriesSaid vs ≤ 256
+  -- no more entries than there can be
+  pub entries-few : entriesSaid vs ≤ mostEntries
   entries-few =
       let st = stateAt vs 7 in
       let e : mostOf (sortOf st) (st .client) (st .before) ≡ mostOf (sortAt (getD vs 0 0) 7) (st .client) (st .before) =

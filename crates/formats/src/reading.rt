@@ -4,6 +4,7 @@ use crate::state::Field;
 ghost use mathlib.Core.Path.{_≡_};
 ghost use Prim.Native.Nat.{_*_, _≤_};
 ghost use lib.ListN.{length};
+ghost use Rattle.formats.specs.Format.{mostValues, mostBits};
 ghost use Rattle.formats.specs.Reading.{tookAt, endFault, Scanned};
 
 // A field as it was read: its value, and what is wrong with it.
@@ -14,7 +15,7 @@ pub struct Took {
 
 // 10 where the field is cut short, 11 where its value is not one that it may have, else 0.
 fn take(bytes: &[u8], at: usize, field: Field) -> Took
-    requires { ⌜ (at ≤ 24832) × (field .width ≤ 32) ⌝ }
+    requires { ⌜ (at ≤ mostBits) × (field .width ≤ 32) ⌝ }
     ensures { λ r. ⌜ r ≡ tookAt (now (bytes .entry)) at field ⌝ }
 {
     let width = field.width;
@@ -45,7 +46,7 @@ fn take(bytes: &[u8], at: usize, field: Field) -> Took
 
 // What is wrong behind the last field: 11 where more than padding is left, or padding that is not zero, else 0.
 fn finish(bytes: &[u8], at: usize) -> u8
-    requires { ⌜ (at ≤ 24832) × (at ≤ 8 * length (now bytes)) ⌝ }
+    requires { ⌜ (at ≤ mostBits) × (at ≤ 8 * length (now bytes)) ⌝ }
     ensures { λ r. ⌜ r ≡ endFault (now (bytes .entry)) at ⌝ }
 {
     let n = bytes.len();
@@ -58,6 +59,9 @@ fn finish(bytes: &[u8], at: usize) -> u8
     11
 }
 
+// As many values as a frame can have: those of 256 entries.
+pub const MOST_VALUES: usize = 776;
+
 // What reading found: the number that refuses the bytes, or 0 and how many values there are.
 pub struct Scan {
     pub fault: u8,
@@ -66,7 +70,7 @@ pub struct Scan {
 
 // The values of a frame, in order, into a row that has room for those of the longest. Where the bytes are refused the row holds what came before the fault.
 pub fn read_values(bytes: &[u8], values: &mut [u32]) -> Scan
-    requires { ⌜ length (now values) ≡ 776 ⌝ }
+    requires { ⌜ length (now values) ≡ mostValues ⌝ }
     ensures { λ r. ⌜ Scanned (now (bytes .entry)) (now (values .exit)) r ⌝ }
 {
     let mut state = state::first();

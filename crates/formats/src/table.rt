@@ -1,7 +1,7 @@
 // The constant table by kind: the one source of the format.
 ghost use mathlib.Core.Path.{_≡_};
 ghost use Prim.Native.Nat.{_<_, _≤_};
-ghost use Rattle.formats.specs.Table.{sortAt, bitsOf, leastOf, mostOf, entriesIn, hasNumbers, frameLength};
+ghost use Rattle.formats.specs.Table.{mostEntries, sortAt, bitsOf, leastOf, mostOf, entriesIn, hasNumbers, frameLength};
 
 // What a field holds. NO: the kind has no such field; it then has no bits and the value 0.
 const NO: u8 = 0;
@@ -146,9 +146,12 @@ pub fn has_numbers(kind: u32) -> bool
     sort_at(kind, 10) != NO
 }
 
+// As many entries as a frame can have.
+pub const MOST_ENTRIES: usize = 256;
+
 // How many bytes a frame of this kind has, with its padding.
 pub fn frame_length(kind: u32, entries: usize) -> usize
-    requires { ⌜ (kind < 13) × (entries ≤ 256) ⌝ }
+    requires { ⌜ (kind < 13) × (entries ≤ mostEntries) ⌝ }
     ensures { λ r. ⌜ r ≡ frameLength kind entries ⌝ }
 {
     let row = kind as usize;

@@ -11,7 +11,7 @@ use borrow.Author.Tests.{lt-ltb, le-ltb, lt-leb, le-leb, leb-true, ltb-true, ltb
 use Rattle.ranges.specs.Tests.{by-test, both-left, both-right}
 use Rattle.formats.specs.declared.writing.Wrote.{Wrote}
 use Rattle.formats.specs.Grammar.{Outcome, got, fault, good, frame}
-use Rattle.formats.specs.Table.{hasNumbers}
+use Rattle.formats.specs.Table.{mostEntries, hasNumbers}
 use Rattle.formats.specs.Format.{format}
 use Rattle.formats.specs.Reading.{outcome}
 use Rattle.formats.specs.Writing.{wroteOf, bytesAfter}
@@ -53,7 +53,7 @@ pub record Room (fixed keys numbers : List ℕ) (count : ℕ) : Type 0 where
 
 pub record Packable (fixed keys numbers : List ℕ) (entries : ℕ) : Type 0 where
   pub eight : length fixed ≡ 8
-  pub few : entries ≤ 256
+  pub few : entries ≤ mostEntries
   pub for-keys : entries ≤ length keys
   pub for-numbers : hasNumbers (getD fixed 0 0) ≡ true → entries ≤ length numbers
 
@@ -134,7 +134,7 @@ module _ (m : Message) (keys numbers bytes : List ℕ) where
   written-missing e = not-written (rw e)
 
   -- more entries than any frame has
-  pub written-many : 256 < entriesOf m → (Refused 11 ≡ writtenOf m keys numbers bytes) × (bytes ≡ bytesWritten m keys numbers bytes)
+  pub written-many : mostEntries < entriesOf m → (Refused 11 ≡ writtenOf m keys numbers bytes) × (bytes ≡ bytesWritten m keys numbers bytes)
   unfolding writable
   written-many h =
       not-written
@@ -233,7 +233,7 @@ module _ (m : Message) (keys numbers : List ℕ) {fixed : List ℕ} {n : ℕ} (e
   unfolding valuesOf
   values-is i = valuesBy (ef i) keys numbers (en i)
 
-  pub is-packable : enough (getD fixed 0 0) n (length keys) (length numbers) ≡ true → n ≤ 256 → Packable fixed keys numbers n
+  pub is-packable : enough (getD fixed 0 0) n (length keys) (length numbers) ≡ true → n ≤ mostEntries → Packable fixed keys numbers n
   is-packable e h =
       record {
         eight = ap length ef ∙ fixed-length m;

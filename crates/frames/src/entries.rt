@@ -6,7 +6,7 @@ ghost use Prim.Native.Nat.{_+_, _*_, _/_, _≤_, _<_};
 ghost use lib.ListN.{length, getD, take};
 ghost use Rattle.formats.specs.Grammar.{good};
 ghost use Rattle.formats.specs.Table.{hasNumbers};
-ghost use Rattle.formats.specs.Format.{format};
+ghost use Rattle.formats.specs.Format.{mostValues, format};
 ghost use Rattle.formats.specs.Walk.{entriesSaid};
 ghost use Rattle.frames.specs.Lists.{built, laid};
 ghost use Rattle.frames.specs.Entries.{keyIn, numberIn, entryValue};
@@ -112,7 +112,7 @@ pub fn pack_entries(
     entries: usize,
     values: &mut [u32],
 )
-    requires { ⌜ Packable (now fixed) (now keys) (now numbers) entries × (length (now values) ≡ 776) ⌝ }
+    requires { ⌜ Packable (now fixed) (now keys) (now numbers) entries × (length (now values) ≡ mostValues) ⌝ }
     ensures { λ _. ⌜ take (8 + 3 * entries) (now (values .exit)) ≡ valuesBy (now (fixed .entry)) (now (keys .entry)) (now (numbers .entry)) entries ⌝ }
 {
     let count = 8 + 3 * entries;

@@ -1,5 +1,7 @@
 // Frames: the messages that cross the wire, from bytes and to bytes.
 // A message holds what is fixed; the entries of kinds 6, 10 and 12 stand beside it, in two lent slices: keys, as numbers, and setpoints or masks.
+use formats::reading::MOST_VALUES;
+use formats::table::MOST_ENTRIES;
 use keys::Key;
 
 pub mod entries; // entries.rt: the entries as values, and back
@@ -340,7 +342,7 @@ fn deliver(values: &[u32], keys: &mut [u32], numbers: &mut [u32]) -> Reading
 pub fn read_frame(bytes: &[u8], keys: &mut [u32], numbers: &mut [u32]) -> Reading
     ensures { λ r. ⌜ (r ≡ readingOf (found (now (bytes .entry))) (now (keys .entry)) (now (numbers .entry))) × (now (keys .exit) ≡ keysRead (found (now (bytes .entry))) (now (keys .entry)) (now (numbers .entry))) × (now (numbers .exit) ≡ numbersRead (found (now (bytes .entry))) (now (keys .entry)) (now (numbers .entry))) ⌝ }
 {
-    let mut values = [0u32; 776];
+    let mut values = [0u32; MOST_VALUES];
     let scan = formats::reading::read_values(bytes, &mut values);
     let fault = scan.fault;
     let fields = scan.fields;
@@ -374,7 +376,7 @@ fn write_present(
     requires { ⌜ Packable (now fixed) (now keys) (now numbers) entries ⌝ }
     ensures { λ r. ⌜ (r ≡ writtenBy (wroteOf (valuesBy (now (fixed .entry)) (now (keys .entry)) (now (numbers .entry)) entries) (now (bytes .entry)))) × (now (bytes .exit) ≡ bytesAfter (valuesBy (now (fixed .entry)) (now (keys .entry)) (now (numbers .entry)) entries) (now (bytes .entry))) ⌝ }
 {
-    let mut values = [0u32; 776];
+    let mut values = [0u32; MOST_VALUES];
     entries::pack_entries(fixed, keys, numbers, entries, &mut values);
     let count = 8 + 3 * entries;
     send(&values[..count], bytes)
@@ -391,7 +393,7 @@ pub fn write_frame(message: Message, keys: &[u32], numbers: &[u32], bytes: &mut 
     if !entries::enough_places(kind, entries, keys.len(), numbers.len()) {
         return Written::Refused(11);
     }
-    if 256 < entries {
+    if MOST_ENTRIES < entries {
         return Written::Refused(11);
     }
     write_present(&fixed, keys, numbers, entries, bytes)

@@ -4,6 +4,7 @@ use mathlib.Core.Path.{_≡_, sym, ap, _∙_}
 use Prim.Native.Nat.{ℕ, _+_, _≤_}
 use native.Mathlib.Omega.{arith}
 use lib.ListN.{length, take, length-set}
+use Rattle.formats.specs.Format.{mostValues}
 use Rattle.formats.specs.FormatLaws.{room, room-next, room-start, room-left}
 use Rattle.formats.specs.Reading.{Come, come-start, come-end, turn-fault, turn-allowed, turn-on, outcome}
 use Rattle.formats.proofs.reading.read_values.Statement.{statement}
@@ -11,7 +12,7 @@ use Rattle.formats.proofs.reading.read_values.Tie as tie
 
 abbrev Inv-loop : tie.InvT-loop
 Inv-loop bytes values₀ state₀ at₀ i₀ values state at i =
-    (Come bytes values i at state) × (i + room state ≤ 776) × (length values ≡ 776)
+    (Come bytes values i at state) × (i + room state ≤ mostValues) × (length values ≡ mostValues)
 
 abbrev μ-loop : tie.MeasureT-loop
 μ-loop bytes values₀ state₀ at₀ i₀ values state at i = room state
