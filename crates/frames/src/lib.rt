@@ -94,49 +94,18 @@ pub fn entries_of(message: Message) -> u32
     ensures { λ r. ⌜ r ≡ entriesOf message ⌝ }
 {
     match message {
-        Message::Set {
-            client: _,
-            server: _,
-            key: _,
-            setpoint: _,
-        } => 0,
-        Message::SetDone {
-            client: _,
-            server: _,
-        } => 0,
-        Message::Enter {
-            client: _,
-            key: _,
-            mask: _,
-        } => 0,
-        Message::Entered { client: _, tag: _ } => 0,
-        Message::WhichKeys { client: _ } => 0,
-        Message::Keys {
-            client: _,
-            tag: _,
-            entries,
-        } => entries,
-        Message::Get {
-            client: _,
-            server: _,
-            key: _,
-        } => 0,
-        Message::Got {
-            client: _,
-            server: _,
-            setpoint: _,
-        } => 0,
-        Message::GetAll {
-            client: _,
-            server: _,
-        } => 0,
-        Message::All {
-            client: _,
-            server: _,
-            entries,
-        } => entries,
-        Message::GetLog { client: _ } => 0,
-        Message::Log { client: _, entries } => entries,
+        Message::Set { .. } => 0,
+        Message::SetDone { .. } => 0,
+        Message::Enter { .. } => 0,
+        Message::Entered { .. } => 0,
+        Message::WhichKeys { .. } => 0,
+        Message::Keys { entries, .. } => entries,
+        Message::Get { .. } => 0,
+        Message::Got { .. } => 0,
+        Message::GetAll { .. } => 0,
+        Message::All { entries, .. } => entries,
+        Message::GetLog { .. } => 0,
+        Message::Log { entries, .. } => entries,
     }
 }
 
