@@ -1,0 +1,89 @@
+-- What is left of the values, laid into the bytes as they are, gives the frame in each turn.
+use borrow.Author.Needs.{needs}
+use Prim.Native.Nat.{_-_}
+use native.Mathlib.Omega.{arith}
+use lib.ListN.{length}
+use Rattle.formats.specs.FormatLaws.{width-is}
+use Rattle.formats.specs.Laying.{Laid, laid-start, laid-end, laid-goes, laid-fits, laid-on, size-small}
+use Rattle.formats.proofs.writing.lay_fields.Statement.{statement}
+use Rattle.formats.proofs.writing.lay_fields.Tie as tie
+
+abbrev Inv-loop : tie.InvT-loop
+Inv-loop values bytes₀ state₀ at₀ i₀ bytes state at i = Laid values bytes₀ bytes i at state
+
+abbrev μ-loop : tie.MeasureT-loop
+μ-loop values bytes₀ state₀ at₀ i₀ bytes state at i = length values - i
+
+loop-holds : tie.Need-loop-holds Inv-loop μ-loop
+loop-holds c = let a = c .before .before .before .args in rw (c .first .ensures) (laid-start (a .values .now) (a .bytes .now))
+
+write-field-requires : tie.Need-write-field-requires Inv-loop μ-loop
+write-field-requires c κs =
+    let l = c .before .before .before .before .loop in
+    let s = c .before .before .before .before .before .before .before .before in
+    let vs = s .args .values .now in
+    let bs = s .args .bytes .now in
+    let f = c .before .field-at in
+    let w = width-is (l .state) (f .ensures .0) in
+    let h = laid-fits vs (s .pre .0) bs (l .bytes) (l .i) (l .at) (l .state) (l .inv) (c .before .before .before .loop-test .taken) in
+    record {
+      narrow = f .ensures .1;
+      near = omega (arith, h, size-small vs (s .pre .0));
+      inside = omega (arith, h, w, s .pre .1, l .inv .same);
+    }
+
+add-at : tie.Need-add-at Inv-loop μ-loop
+add-at c =
+    let l = c .before .before .before .before .before .before .before .loop in
+    let s = c .before .before .before .before .before .before .before .before .before .before .before in
+    let vs = s .args .values .now in
+    let f = c .before .before .before .before .field-at in
+    omega (
+      arith,
+      laid-fits vs (s .pre .0) (s .args .bytes .now) (l .bytes) (l .i) (l .at) (l .state) (l .inv) (c .before .before .before .before .before .before .loop-test .taken),
+      size-small vs (s .pre .0),
+      f .ensures .1,
+    )
+
+next-requires : tie.Need-next-requires Inv-loop μ-loop
+next-requires c κs =
+    let l = c .before .before .before .before .before .before .before .loop in
+    let s = c .before .before .before .before .before .before .before .before .before .before .before in
+    laid-goes (s .args .values .now) (s .pre .0) (s .args .bytes .now) (l .bytes) (l .i) (l .at) (l .state) (l .inv) (c .before .before .before .before .before .before .loop-test .taken)
+
+loop-again : tie.Need-loop-again Inv-loop μ-loop
+loop-again c =
+    let l = c .before .before .before .before .before .before .before .before .loop in
+    let s = c .before .before .before .before .before .before .before .before .before .before .before .before in
+    let f = c .before .before .before .before .before .field-at in
+    laid-on (s .args .values .now) (s .pre .0) (s .args .bytes .now) (l .bytes) (l .i) (l .at) (l .state) (l .inv) (c .before .before .before .before .before .before .before .loop-test .taken)
+    (width-is (l .state) (f .ensures .0)) (c .before .before .before .write-field .ensures) (c .next .ensures)
+
+same-length : tie.Need-same-length Inv-loop μ-loop
+same-length c = c .before .loop .inv .same
+
+returns : tie.Need-returns Inv-loop μ-loop
+returns c =
+    let l = c .before .loop in
+    let s = c .before .before .before .before .before in
+    laid-end (s .args .values .now) (s .pre .0) (s .args .bytes .now) (l .bytes) (l .i) (l .at) (l .state) (l .inv) (c .loop-test .left)
+
+pub lay-fields-spec : {M : Type 1} → statement M
+lay-fields-spec =
+    tie.close
+    (tie.spec
+    Inv-loop
+    μ-loop
+    (λ c κs. search needs)
+    loop-holds
+    (λ c. search needs)
+    (λ c. search needs)
+    (λ c κs. search needs)
+    write-field-requires
+    add-at
+    (λ c. search needs)
+    next-requires
+    (λ c. search needs)
+    loop-again
+    same-length
+    returns)

@@ -1,0 +1,93 @@
+-- What is left of the values is good for what is left of the format exactly where all are good; each value leaves less room.
+use borrow.Author.Needs.{needs}
+use borrow.Author.Tests.{not-true, not-false}
+use mathlib.Core.Path.{_≡_, sym, _∙_}
+use mathlib.Core.Bool.{true, _&&_}
+use Prim.Native.Nat.{_^_}
+use native.Mathlib.Omega.{arith}
+use lib.Dec.{ltb}
+use lib.ListN.{getD}
+use Rattle.ranges.specs.Tests.{both-right}
+use Rattle.formats.specs.Format.{widthOf, allowed}
+use Rattle.formats.specs.FormatLaws.{room, room-next}
+use Rattle.formats.specs.Writing.{Tested, tested-start, tested-end, tested-short, tested-bad, tested-on, allows-is}
+use Rattle.formats.proofs.writing.writable.Statement.{statement}
+use Rattle.formats.proofs.writing.writable.Tie as tie
+
+abbrev Inv-loop : tie.InvT-loop
+Inv-loop values state₀ i₀ state i = Tested values i state
+
+abbrev μ-loop : tie.MeasureT-loop
+μ-loop values state₀ i₀ state i = room state
+
+loop-holds : tie.Need-loop-holds Inv-loop μ-loop
+loop-holds c = rw (c .first .ensures) (tested-start (c .before .before .args .values .now))
+
+returns : tie.Need-returns Inv-loop μ-loop
+returns c =
+    let l = c .before .before .before .loop in
+    let vs = c .before .before .before .before .before .before .args .values .now in
+    tested-short vs (l .i) (l .state) (l .inv) (c .before .if1 .taken) (c .if2 .taken)
+
+allows-requires : tie.Need-allows-requires Inv-loop μ-loop
+allows-requires c κs = c .field-at .ensures .1
+
+returns-2 : tie.Need-returns-2 Inv-loop μ-loop
+returns-2 c =
+    let l = c .before .before .before .before .before .before .before .loop in
+    let vs = c .before .before .before .before .before .before .before .before .before .before .args .values .now in
+    tested-bad vs (l .i) (l .state) (l .inv) (c .before .before .before .before .before .if1 .taken) (c .before .before .before .before .if2 .left)
+    (sym (allows-is (l .state) (getD vs (l .i) 0) (c .before .before .field-at .ensures .0) (c .before .allows .ensures)) ∙ not-true _ (c .if3 .taken))
+
+next-requires : tie.Need-next-requires Inv-loop μ-loop
+next-requires c κs = (c .before .before .before .before .before .if1 .taken, c .before .before .before .before .before .before .before .loop .inv .goes .inside)
+
+module _ (c : tie.After-next Inv-loop μ-loop) where
+  right :
+      let l = c .before .before .before .before .before .before .before .before .loop in
+      let v = getD (c .before .before .before .before .before .before .before .before .before .before .before .args .values .now) (l .i) 0 in
+      (ltb v (2 ^ widthOf (l .state)) && allowed (l .state) v) ≡ true
+  right =
+      let l = c .before .before .before .before .before .before .before .before .loop in
+      let vs = c .before .before .before .before .before .before .before .before .before .before .before .args .values .now in
+      sym (allows-is (l .state) (getD vs (l .i) 0) (c .before .before .before .field-at .ensures .0) (c .before .before .allows .ensures)) ∙ not-false _ (c .before .if3 .left)
+
+loop-less : tie.Need-loop-less Inv-loop μ-loop
+loop-less c =
+    let l = c .before .before .before .before .before .before .before .before .loop in
+    let v = getD (c .before .before .before .before .before .before .before .before .before .before .before .args .values .now) (l .i) 0 in
+    rw (c .next .ensures)
+    (room-next (l .state) v (l .inv .goes) (c .before .before .before .before .before .before .if1 .taken) (both-right (ltb v (2 ^ widthOf (l .state))) _ (right c)))
+
+loop-again : tie.Need-loop-again Inv-loop μ-loop
+loop-again c =
+    let l = c .before .before .before .before .before .before .before .before .loop in
+    let vs = c .before .before .before .before .before .before .before .before .before .before .before .args .values .now in
+    rw (c .next .ensures)
+    (tested-on vs (l .i) (l .state) (l .inv) (c .before .before .before .before .before .before .if1 .taken) (c .before .before .before .before .before .if2 .left) (right c))
+
+returns-3 : tie.Need-returns-3 Inv-loop μ-loop
+returns-3 c =
+    let l = c .before .before .loop in
+    let vs = c .before .before .before .before .before .args .values .now in
+    tested-end vs (l .i) (l .state) (l .inv) (omega (arith, c .if1 .left))
+
+pub writable-spec : {M : Type 1} → statement M
+writable-spec =
+    tie.close
+    (tie.spec
+    Inv-loop
+    μ-loop
+    (λ c κs. search needs)
+    loop-holds
+    returns
+    (λ c. search needs)
+    (λ c. search needs)
+    (λ c κs. search needs)
+    allows-requires
+    returns-2
+    next-requires
+    (λ c. search needs)
+    loop-less
+    loop-again
+    returns-3)

@@ -1,0 +1,129 @@
+-- The table of document 01's section "Frames", by kind.
+use Prim.Native.Nat.{ℕ, _+_, _*_, _/_}
+use mathlib.Core.List.{List, [], _∷_}
+use mathlib.Core.Bool.{Bool, cond, not, _&&_}
+use lib.Dec.{eqb}
+use lib.ListN.{getD}
+
+-- What a field holds. A kind that lacks a field has `none` there: no bits, and value 0.
+abbrev pub none : ℕ
+none = 0
+
+abbrev pub kind : ℕ
+kind = 1
+
+abbrev pub client : ℕ
+client = 2
+
+abbrev pub server : ℕ
+server = 3
+
+abbrev pub coord : ℕ
+coord = 4
+
+abbrev pub tag : ℕ
+tag = 5
+
+-- "tag 8, from 1"
+abbrev pub tag1 : ℕ
+tag1 = 6
+
+abbrev pub count : ℕ
+count = 7
+
+-- "In kinds 1 and 3 .. its count at least 1"
+abbrev pub count1 : ℕ
+count1 = 8
+
+-- the client of a key; "a key of count 0 with a panel above 0" is broken
+abbrev pub of : ℕ
+of = 9
+
+-- "In kinds 1 and 3 the key's panel is the header's"
+abbrev pub own : ℕ
+own = 10
+
+-- a setpoint
+abbrev pub value : ℕ
+value = 11
+
+-- "A zero mask is broken"
+abbrev pub mask : ℕ
+mask = 12
+
+-- "number 5 (1 to 16)"
+abbrev pub keys : ℕ
+keys = 13
+
+-- "n−1 in 8"
+abbrev pub less : ℕ
+less = 14
+
+-- a row: kind, client, target; tag, key's count and client, setpoint or mask, how many entries; of an entry key's count and client, setpoint or mask
+abbrev pub row : ℕ → ℕ → ℕ → ℕ → ℕ → ℕ → ℕ → ℕ → ℕ → List ℕ
+row target t c p x n c′ p′ x′ = kind ∷ client ∷ target ∷ t ∷ c ∷ p ∷ x ∷ n ∷ c′ ∷ p′ ∷ x′ ∷ []
+
+-- until the kind is read; set, set done, enter, entered, which keys, keys, get, got, get all, all, get log, log
+abbrev pub table : List (List ℕ)
+table =
+    row server none none none none none none none none
+    ∷ row server none count1 own value none none none none
+    ∷ row server none none none none none none none none
+    ∷ row coord none count1 own mask none none none none
+    ∷ row coord tag1 none none none none none none none
+    ∷ row coord none none none none none none none none
+    ∷ row coord tag none none none keys count of none
+    ∷ row server none count of none none none none none
+    ∷ row server none none none value none none none none
+    ∷ row server none none none none none none none none
+    ∷ row server none none none none less count of value
+    ∷ row coord none none none none none none none none
+    ∷ row coord none none none none less count of mask
+    ∷ []
+
+unfoldable pub sortAt : ℕ → ℕ → ℕ
+sortAt kind place = getD (getD table kind []) place none
+
+-- By what a field holds: its bits, its least and its greatest value.
+abbrev pub bits : List ℕ
+bits = 0 ∷ 4 ∷ 4 ∷ 5 ∷ 5 ∷ 8 ∷ 8 ∷ 8 ∷ 8 ∷ 4 ∷ 4 ∷ 32 ∷ 16 ∷ 5 ∷ 8 ∷ []
+
+abbrev pub leasts : List ℕ
+leasts = 0 ∷ 1 ∷ 0 ∷ 0 ∷ 16 ∷ 0 ∷ 1 ∷ 0 ∷ 1 ∷ 0 ∷ 0 ∷ 0 ∷ 1 ∷ 1 ∷ 0 ∷ []
+
+abbrev pub mosts : List ℕ
+mosts = 0 ∷ 12 ∷ 15 ∷ 15 ∷ 16 ∷ 255 ∷ 255 ∷ 255 ∷ 255 ∷ 15 ∷ 15 ∷ 4294967295 ∷ 65535 ∷ 16 ∷ 255 ∷ []
+
+unfoldable pub bitsOf : ℕ → ℕ
+bitsOf sort = getD bits sort 0
+
+unfoldable pub leastOf : ℕ → ℕ → ℕ
+leastOf sort client = cond (eqb sort own) client (getD leasts sort 0)
+
+-- `before` is the value of the field before: of a key's client, the key's count
+unfoldable pub mostOf : ℕ → ℕ → ℕ → ℕ
+mostOf sort client before =
+    cond (eqb sort own) client (cond (eqb sort of && eqb before 0) 0 (getD mosts sort 0))
+
+-- a frame has at most as many entries as n−1 in 8 bits can say
+abbrev pub mostEntries : ℕ
+mostEntries = 256
+
+-- how many entries, by the value that says it
+unfoldable pub entriesIn : ℕ → ℕ → ℕ
+entriesIn kind v = cond (eqb (sortAt kind 7) less) (v + 1) v
+
+-- an entry has a setpoint or a mask beside its key
+unfoldable pub hasNumbers : ℕ → Bool
+hasNumbers kind = not (eqb (sortAt kind 10) none)
+
+-- the columns "fixed body bits" and "bits per entry"
+abbrev pub bodyBits : List ℕ
+bodyBits = 0 ∷ 44 ∷ 0 ∷ 28 ∷ 8 ∷ 0 ∷ 13 ∷ 12 ∷ 32 ∷ 0 ∷ 8 ∷ 0 ∷ 8 ∷ []
+
+abbrev pub entryBits : List ℕ
+entryBits = 0 ∷ 0 ∷ 0 ∷ 0 ∷ 0 ∷ 0 ∷ 12 ∷ 0 ∷ 0 ∷ 0 ∷ 44 ∷ 0 ∷ 28 ∷ []
+
+-- header, body and entries, up to the next byte
+unfoldable pub frameLength : ℕ → ℕ → ℕ
+frameLength kind entries = (13 + getD bodyBits kind 0 + entries * getD entryBits kind 0 + 7) / 8

@@ -1,0 +1,141 @@
+-- The rule of the table, proved at each of its entries by one computed test.
+use Prim.Native.Nat.{ℕ, zero, suc, _+_, _*_, _≤_, _<_}
+use mathlib.Core.Path.{_≡_, refl, sym, ap}
+use mathlib.Core.Bool.{Bool, true, false, not, _&&_}
+use mathlib.Core.List.{List, []}
+use native.Mathlib.Nat.{mul-le-mul}
+use native.Mathlib.Omega.{arith}
+use lib.Dec.{eqb, leb, ltb}
+use lib.ListN.{length, getD, List·getD-eq-default}
+use borrow.Author.Tests.{eqb-true, eq-eqb, ne-eqb, leb-true, ltb-true, ltb-false, not-true}
+use Rattle.ranges.specs.Tests.{either, by-test, both-left, both-right}
+use Rattle.ranges.specs.All.{allBelow, all-at}
+use Rattle.formats.specs.Table.{table, mostEntries, own, of, sortAt, bitsOf, leastOf, mostOf, mosts, leasts, less, entriesIn, bodyBits, entryBits}
+
+-- the bits of n fields of a kind from a place on
+unfoldable pub bitsFrom : ℕ → ℕ → ℕ → ℕ
+bitsFrom kind place zero = 0
+bitsFrom kind place (suc n) = bitsOf (sortAt kind place) + bitsFrom kind (place + 1) n
+
+-- What holds of a row: it has eleven places, the header has 13 bits, the columns "fixed body bits" and "bits per entry" are
+-- the sums of the fields' bits, a frame has at most 256 entries, and every row begins with the kind.
+pub record Row (kind : ℕ) : Type 0 where
+  pub places : length (getD table kind []) ≡ 11
+  pub header : bitsFrom kind 0 3 ≡ 13
+  pub body : bitsFrom kind 3 5 ≡ getD bodyBits kind 0
+  pub entry : bitsFrom kind 8 3 ≡ getD entryBits kind 0
+  pub few : getD mosts (sortAt kind 7) 0 ≤ 255
+  pub plain : eqb (sortAt kind 7) own ≡ false
+  pub begins : sortAt kind 0 ≡ sortAt 0 0
+
+rowRight : ℕ → Bool
+rowRight kind =
+    eqb (length (getD table kind [])) 11
+    && (eqb (bitsFrom kind 0 3) 13
+    && (eqb (bitsFrom kind 3 5) (getD bodyBits kind 0)
+    && (eqb (bitsFrom kind 8 3) (getD entryBits kind 0)
+    && (leb (getD mosts (sortAt kind 7) 0) 255 && (not (eqb (sortAt kind 7) own) && eqb (sortAt kind 0) (sortAt 0 0))))))
+
+-- the test
+table-right : allBelow rowRight 13 ≡ true
+unfolding allBelow rowRight bitsFrom sortAt bitsOf
+table-right = refl
+
+pub row-right : (kind : ℕ) → kind < 13 → Row kind
+unfolding rowRight
+row-right kind h =
+    let e₀ = all-at rowRight 13 table-right kind h in
+    let e₁ = both-right (eqb (length (getD table kind [])) 11) _ e₀ in
+    let e₂ = both-right (eqb (bitsFrom kind 0 3) 13) _ e₁ in
+    let e₃ = both-right (eqb (bitsFrom kind 3 5) (getD bodyBits kind 0)) _ e₂ in
+    let e₄ = both-right (eqb (bitsFrom kind 8 3) (getD entryBits kind 0)) _ e₃ in
+    let e₅ = both-right (leb (getD mosts (sortAt kind 7) 0) 255) _ e₄ in
+    record {
+      places = eqb-true _ _ (both-left _ _ e₀);
+      header = eqb-true _ _ (both-left _ _ e₁);
+      body = eqb-true _ _ (both-left _ _ e₂);
+      entry = eqb-true _ _ (both-left _ _ e₃);
+      few = leb-true _ _ (both-left _ _ e₄);
+      plain = not-true _ (both-left _ _ e₅);
+      begins = eqb-true _ _ (both-right (not (eqb (sortAt kind 7) own)) _ e₅);
+    }
+
+-- beyond the table there are no fields
+pub beyond-kind : (kind place : ℕ) → 13 ≤ kind → 0 ≡ sortAt kind place
+unfolding sortAt
+beyond-kind kind place h = ap (λ (r : List ℕ). getD r place 0) (sym (List·getD-eq-default table [] h))
+
+pub beyond-place : (kind place : ℕ) → kind < 13 → 11 ≤ place → 0 ≡ sortAt kind place
+unfolding sortAt
+beyond-place kind place h g = sym (List·getD-eq-default (getD table kind []) 0 (let p = row-right kind h .places in omega arith))
+
+-- each entry is one of the fifteen sorts, and none of them has more than 32 bits
+pub sort-below : (kind place : ℕ) → kind < 13 → place < 11 → sortAt kind place < 15
+unfolding allBelow sortAt
+sort-below kind place h g =
+    ltb-true _ _ (all-at (λ p. ltb (sortAt kind p) 15) 11 (all-at (λ k. allBelow (λ p. ltb (sortAt k p) 15) 11) 13 refl kind h) place g)
+
+pub bits-most : (sort : ℕ) → sort < 15 → bitsOf sort ≤ 32
+unfolding allBelow bitsOf
+bits-most sort h = leb-true _ _ (all-at (λ s. leb (bitsOf s) 32) 15 refl sort h)
+
+-- the columns are small
+pub columns-small : (kind : ℕ) → kind < 13 → (getD bodyBits kind 0 ≤ 44) × (getD entryBits kind 0 ≤ 44)
+unfolding allBelow
+columns-small kind h =
+    let e = all-at (λ k. leb (getD bodyBits k 0) 44 && leb (getD entryBits k 0) 44) 13 refl kind h in
+    (leb-true _ _ (both-left _ _ e), leb-true _ _ (both-right (leb (getD bodyBits kind 0) 44) _ e))
+
+-- a value that says how many entries there are is at most 255
+pub few-entries : (kind client before : ℕ) → mostOf (sortAt kind 7) client before ≤ 255
+unfolding mostOf
+few-entries kind client before =
+    by-test (ltb kind 13)
+    (λ e.
+    let r = row-right kind (ltb-true _ _ e) in
+    rw (r .plain) (either (λ n. n ≤ 255) (eqb (sortAt kind 7) of && eqb before 0) (omega arith) (r .few)))
+    (λ e. rw (← beyond-kind kind 7 (ltb-false _ _ e)) (omega arith))
+
+-- the cases of the limits, as the code meets them
+module _ (sort client before : ℕ) where
+  pub least-own : sort ≡ own → client ≡ leastOf sort client
+  unfolding leastOf
+  least-own e = rw (eq-eqb sort own e)
+
+  pub least-other : (sort ≡ own → ⊥) → getD leasts sort 0 ≡ leastOf sort client
+  unfolding leastOf
+  least-other d = rw (ne-eqb sort own d)
+
+  pub most-own : sort ≡ own → client ≡ mostOf sort client before
+  unfolding mostOf
+  most-own e = rw (eq-eqb sort own e)
+
+  pub most-other : (sort ≡ own → ⊥) → (sort ≡ of → ⊥) → getD mosts sort 0 ≡ mostOf sort client before
+  unfolding mostOf
+  most-other d f = rw (ne-eqb sort own d, ne-eqb sort of f)
+
+  pub most-opening : (sort ≡ own → ⊥) → before ≡ 0 → sort ≡ of → 0 ≡ mostOf sort client before
+  unfolding mostOf
+  most-opening d z e = rw (ne-eqb sort own d, eq-eqb sort of e, eq-eqb before 0 z)
+
+  pub most-of-key : (sort ≡ own → ⊥) → (before ≡ 0 → ⊥) → sort ≡ of → getD mosts sort 0 ≡ mostOf sort client before
+  unfolding mostOf
+  most-of-key d z e = rw (ne-eqb sort own d, eq-eqb sort of e, ne-eqb before 0 z)
+
+-- the cases of the number of entries
+module _ (kind v : ℕ) where
+  pub entries-less : sortAt kind 7 ≡ less → v + 1 ≡ entriesIn kind v
+  unfolding entriesIn
+  entries-less e = rw (eq-eqb (sortAt kind 7) less e)
+
+  pub entries-plain : (sortAt kind 7 ≡ less → ⊥) → v ≡ entriesIn kind v
+  unfolding entriesIn
+  entries-plain d = rw (ne-eqb (sortAt kind 7) less d)
+
+pub entries-most : (kind v : ℕ) → entriesIn kind v ≤ v + 1
+unfolding entriesIn
+entries-most kind v = either (λ n. n ≤ v + 1) (eqb (sortAt kind 7) less) (omega arith) (omega arith)
+
+-- the bits of the most entries that there can be are not too many
+pub entries-fit : (kind n : ℕ) → kind < 13 → n ≤ mostEntries → n * getD entryBits kind 0 ≤ 11264
+entries-fit kind n h l = mul-le-mul l (columns-small kind h .1)

@@ -1,0 +1,95 @@
+// Which field comes next: a frame's fields are the three of its header, the five of its fixed body, and three for each entry.
+use crate::table;
+ghost use mathlib.Core.Path.{_≡_};
+ghost use Prim.Native.Nat.{_<_, _≤_};
+ghost use mathlib.Core.Bool.{cond};
+ghost use lib.Dec.{eqb};
+ghost use Rattle.formats.specs.Format.{fieldOf, leftAfter, nextOf, start};
+
+// A field: its bits, and the least and the greatest value that it may have.
+pub struct Field {
+    pub width: usize,
+    pub least: u32,
+    pub most: u32,
+}
+
+// What is known ahead of a field: the kind and the client once they are read, the value before it, how many fields are left
+// (until the number of entries is read, of the header and the fixed body alone), and its place in the table.
+pub struct State {
+    pub kind: u32,
+    pub client: u32,
+    pub before: u32,
+    pub left: usize,
+    pub place: usize,
+}
+
+pub fn first() -> State
+    ensures { λ r. ⌜ r ≡ start ⌝ }
+{
+    State {
+        kind: 0,
+        client: 0,
+        before: 0,
+        left: 8,
+        place: 0,
+    }
+}
+
+pub fn field_at(state: State) -> Field
+    ensures { λ r. ⌜ (r ≡ fieldOf state) × (r .width ≤ 32) ⌝ }
+{
+    let sort = table::sort_at(state.kind, state.place);
+    let width = table::bits_of(sort);
+    let least = table::least_of(sort, state.client);
+    let most = table::most_of(sort, state.client, state.before);
+    Field {
+        width: width,
+        least: least,
+        most: most,
+    }
+}
+
+// A value that is taken over at one place and kept at the others.
+fn taken_at(wanted: usize, place: usize, new: u32, old: u32) -> u32
+    ensures { λ r. ⌜ r ≡ cond (eqb place wanted) new old ⌝ }
+{
+    if place == wanted { new } else { old }
+}
+
+// How many fields are left behind this one.
+fn left_after(state: State, value: u32) -> usize
+    requires { ⌜ 0 < state .left ⌝ }
+    ensures { λ r. ⌜ r ≡ leftAfter state value ⌝ }
+{
+    if state.place == 7 {
+        return 3 * table::entries_in(state.kind, value);
+    }
+    state.left - 1
+}
+
+// The state behind a field with this value.
+pub fn next(state: State, value: u32) -> State
+    requires { ⌜ (0 < state .left) × (state .place ≤ 10) ⌝ }
+    ensures { λ r. ⌜ r ≡ nextOf state value ⌝ }
+{
+    let place = state.place;
+    let kind = taken_at(0, place, value, state.kind);
+    let client = taken_at(1, place, value, state.client);
+    let left = left_after(state, value);
+    if place == 10 {
+        return State {
+            kind: kind,
+            client: client,
+            before: value,
+            left: left,
+            place: 8,
+        };
+    }
+    State {
+        kind: kind,
+        client: client,
+        before: value,
+        left: left,
+        place: place + 1,
+    }
+}

@@ -1,0 +1,251 @@
+-- What the code computes on the way, and that it comes to what the definitions say.
+use Prim.Native.Nat.{ℕ, _+_, _-_, _*_, _/_, _%_, _≤_, _<_}
+use mathlib.Core.Path.{_≡_, refl, sym, ap, _∙_}
+use mathlib.Core.Bool.{Bool, true, false, cond}
+use mathlib.Core.List.{List, _++_}
+use native.Mathlib.Omega.{arith}
+use lib.Dec.{eqb, leb, ltb}
+use lib.ListN.{length, getD, take, drop, length-append, List·getD-append}
+use lib.Seq.{ext-getD, getD-append-add, length-take-le, take-at}
+use borrow.Author.Tests.{lt-ltb, le-ltb, lt-leb, le-leb, leb-true, ltb-true, ltb-false, eq-eqb, ne-eqb}
+use Rattle.ranges.specs.Tests.{by-test, both-left, both-right}
+use Rattle.formats.specs.declared.writing.Wrote.{Wrote}
+use Rattle.formats.specs.Grammar.{Outcome, got, fault, good, frame}
+use Rattle.formats.specs.Table.{mostEntries, hasNumbers}
+use Rattle.formats.specs.Format.{format}
+use Rattle.formats.specs.Reading.{outcome}
+use Rattle.formats.specs.Writing.{wroteOf, bytesAfter}
+use Rattle.formats.specs.Walk.{entriesSaid, entries-few}
+use Rattle.frames.specs.declared.Message.{Message}
+use Rattle.frames.specs.declared.Reading.the-variants as reading
+use Rattle.frames.specs.declared.Written.{Written}
+use Rattle.frames.specs.declared.Written.the-variants.{Length, Refused}
+use Rattle.frames.specs.Lists.{built, built-length, built-at, laid}
+use Rattle.frames.specs.Messages.{entriesOf, fixedOf, messageOf}
+use Rattle.frames.specs.Entries.{keyIn, numberIn, entryValue, valuesOf}
+use Rattle.frames.specs.Good.{kind-back, entries-back}
+use Rattle.frames.specs.Frames.{enough, hasPlaces, writable, frameOf, fits, writtenOf, bytesWritten, readingOf, keysRead, numbersRead}
+use Rattle.frames.specs.RoundTrip.{fixed-length, said}
+
+-- ---- definitions
+
+-- value i of a message whose fixed values these are
+abbrev pub valueBy : List ℕ → Bool → List ℕ → List ℕ → ℕ → ℕ
+valueBy fixed numbered keys numbers i = cond (ltb i 8) (getD fixed i 0) (entryValue numbered keys numbers (i - 8))
+
+-- all of them, with this many entries
+abbrev pub valuesBy : List ℕ → List ℕ → List ℕ → ℕ → List ℕ
+valuesBy fixed keys numbers entries = fixed ++ built (entryValue (hasNumbers (getD fixed 0 0)) keys numbers) (3 * entries)
+
+abbrev pub writtenBy : Wrote → Written
+writtenBy w = cond (eqb (w .fault) 0) (Length (w .length)) (Refused (w .fault))
+
+-- What the functions ask: that a value is there; that all up to a count are; that the entries are and fit; that the values are a frame's.
+pub record Reaches (fixed : List ℕ) (numbered : Bool) (keys numbers : List ℕ) (i : ℕ) : Type 0 where
+  pub eight : length fixed ≡ 8
+  pub key : 8 ≤ i → (i - 8) / 3 < length keys
+  pub number : 8 ≤ i → numbered ≡ true → (i - 8) / 3 < length numbers
+
+pub record Room (fixed keys numbers : List ℕ) (count : ℕ) : Type 0 where
+  pub eight : length fixed ≡ 8
+  pub for-keys : count ≤ 8 + 3 * length keys
+  pub for-numbers : hasNumbers (getD fixed 0 0) ≡ true → count ≤ 8 + 3 * length numbers
+
+pub record Packable (fixed keys numbers : List ℕ) (entries : ℕ) : Type 0 where
+  pub eight : length fixed ≡ 8
+  pub few : entries ≤ mostEntries
+  pub for-keys : entries ≤ length keys
+  pub for-numbers : hasNumbers (getD fixed 0 0) ≡ true → entries ≤ length numbers
+
+pub record Stored (values : List ℕ) (entries : ℕ) : Type 0 where
+  pub right : good format values ≡ true
+  pub is-said : entries ≡ entriesSaid values
+
+-- ---- the cases, as the code meets them
+
+module _ (kind entries keys numbers : ℕ) where
+  pub enough-keys : keys < entries → false ≡ enough kind entries keys numbers
+  enough-keys h = rw (lt-leb entries keys h)
+
+  module _ (h : entries ≤ keys) where
+    pub enough-plain : hasNumbers kind ≡ false → true ≡ enough kind entries keys numbers
+    enough-plain e = rw (le-leb entries keys h, e)
+
+    pub enough-numbers : hasNumbers kind ≡ true → leb entries numbers ≡ enough kind entries keys numbers
+    enough-numbers e = rw (le-leb entries keys h, e)
+
+module _ (numbered : Bool) (keys numbers : List ℕ) (j : ℕ) where
+  pub part-count : j % 3 ≡ 0 → getD keys (j / 3) 0 / 256 ≡ entryValue numbered keys numbers j
+  unfolding entryValue
+  part-count e = rw e
+
+  pub part-client : j % 3 ≡ 1 → getD keys (j / 3) 0 % 256 ≡ entryValue numbered keys numbers j
+  unfolding entryValue
+  part-client e = rw e
+
+  module _ (c : j % 3 ≡ 0 → ⊥) (p : j % 3 ≡ 1 → ⊥) where
+    pub part-number : numbered ≡ true → getD numbers (j / 3) 0 ≡ entryValue numbered keys numbers j
+    unfolding entryValue
+    part-number e = rw (ne-eqb (j % 3) 0 c, ne-eqb (j % 3) 1 p, e)
+
+    pub part-none : numbered ≡ false → 0 ≡ entryValue numbered keys numbers j
+    unfolding entryValue
+    part-none e = rw (ne-eqb (j % 3) 0 c, ne-eqb (j % 3) 1 p, e)
+
+module _ (fixed : List ℕ) (numbered : Bool) (keys numbers : List ℕ) (i : ℕ) where
+  pub value-fixed : i < 8 → getD fixed i 0 ≡ valueBy fixed numbered keys numbers i
+  value-fixed h = rw (lt-ltb i 8 h)
+
+  pub value-entry : 8 ≤ i → {v : ℕ} → v ≡ entryValue numbered keys numbers (i - 8) → v ≡ valueBy fixed numbered keys numbers i
+  value-entry h e = rw (le-ltb i 8 h) e
+
+-- the values, place by place
+pub values-by : (fixed keys numbers : List ℕ) (entries : ℕ) → length fixed ≡ 8 → built (valueBy fixed (hasNumbers (getD fixed 0 0)) keys numbers) (8 + 3 * entries) ≡ valuesBy fixed keys numbers entries
+values-by fixed keys numbers entries l =
+    ext-getD 0 (built v (8 + 3 * entries)) (fixed ++ built e (3 * entries)) (built-length v (8 + 3 * entries) ∙ omega (arith, length-append fixed (built e (3 * entries)), built-length e (3 * entries)))
+    (λ i h.
+    let k : i < 8 + 3 * entries = omega (arith, built-length v (8 + 3 * entries)) in
+    built-at v (8 + 3 * entries) i k
+    ∙ by-test (ltb i 8)
+    (λ b. rw b (sym (List·getD-append fixed (built e (3 * entries)) 0 i (omega (arith, ltb-true i 8 b)))))
+    (λ b. rw b (sym (late i (ltb-false _ _ b) k))))
+  where
+    e : ℕ → ℕ
+    e = entryValue (hasNumbers (getD fixed 0 0)) keys numbers
+
+    v : ℕ → ℕ
+    v = valueBy fixed (hasNumbers (getD fixed 0 0)) keys numbers
+
+    late : (i : ℕ) → 8 ≤ i → i < 8 + 3 * entries → getD (fixed ++ built e (3 * entries)) i 0 ≡ e (i - 8)
+    late i h k =
+        let q : i ≡ length fixed + (i - 8) = omega arith in
+        ap (λ (n : ℕ). getD (fixed ++ built e (3 * entries)) n 0) q ∙ getD-append-add fixed (built e (3 * entries)) (i - 8) 0 ∙ built-at e (3 * entries) (i - 8) (omega arith)
+
+-- ---- the writer's answer
+
+module _ (m : Message) (keys numbers bytes : List ℕ) where
+  not-written : writable m keys numbers ≡ false → (Refused 11 ≡ writtenOf m keys numbers bytes) × (bytes ≡ bytesWritten m keys numbers bytes)
+  unfolding writtenOf bytesWritten
+  not-written e = (rw e, rw e)
+
+  -- the entries are not all there
+  pub written-missing : hasPlaces m keys numbers ≡ false → (Refused 11 ≡ writtenOf m keys numbers bytes) × (bytes ≡ bytesWritten m keys numbers bytes)
+  unfolding writable
+  written-missing e = not-written (rw e)
+
+  -- more entries than any frame has
+  pub written-many : mostEntries < entriesOf m → (Refused 11 ≡ writtenOf m keys numbers bytes) × (bytes ≡ bytesWritten m keys numbers bytes)
+  unfolding writable
+  written-many h =
+      not-written
+      (by-test (writable m keys numbers)
+      (λ w. let z : ⊥ = omega (arith, said m keys numbers w, entries-few (valuesOf m keys numbers) (both-right (hasPlaces m keys numbers) _ w)) in absurd z)
+      (λ w. w))
+
+  -- what writing the values answers
+  pub written-values : hasPlaces m keys numbers ≡ true → (writtenBy (wroteOf (valuesOf m keys numbers) bytes) ≡ writtenOf m keys numbers bytes) × (bytesAfter (valuesOf m keys numbers) bytes ≡ bytesWritten m keys numbers bytes)
+  unfolding writtenOf bytesWritten writable fits frameOf wroteOf bytesAfter
+  written-values t =
+      rw t
+      (by-test (good format (valuesOf m keys numbers))
+      (λ g.
+      rw g
+      (by-test (leb (length (frame format (valuesOf m keys numbers))) (length bytes))
+      (λ l. rw l (refl, refl))
+      (λ l. rw l (refl, refl))))
+      (λ g. rw g (refl, refl)))
+
+-- ---- storing
+
+module _ (kind entries keys numbers : ℕ) (e : enough kind entries keys numbers ≡ true) where
+  pub enough-for-keys : entries ≤ keys
+  enough-for-keys = leb-true _ _ (both-left _ _ e)
+
+  pub enough-for-numbers : hasNumbers kind ≡ true → entries ≤ numbers
+  enough-for-numbers h = leb-true _ _ (rw h at (both-right (leb entries keys) _ e))
+
+pub stored-none : {b : Bool} (l r : List ℕ) → b ≡ false → r ≡ cond b l r
+stored-none l r e = rw e
+
+pub stored-some : {b : Bool} (l r : List ℕ) → b ≡ true → l ≡ cond b l r
+stored-some l r e = rw e
+
+-- ---- the reader's answer
+
+module _ (vs keys numbers : List ℕ) (g : good format vs ≡ true) where
+  places-are : hasPlaces (messageOf vs) keys numbers ≡ enough (getD vs 0 0) (entriesOf (messageOf vs)) (length keys) (length numbers)
+  unfolding hasPlaces
+  places-are = ap (λ (k : ℕ). enough k (entriesOf (messageOf vs)) (length keys) (length numbers)) (kind-back vs g)
+
+  module _ {m : Message} {n : ℕ} (em : m ≡ messageOf vs) (en : n ≡ entriesOf m) where
+    its-entries : n ≡ entriesOf (messageOf vs)
+    its-entries = en ∙ ap entriesOf em
+
+    pub are-stored : Stored vs n
+    are-stored = record { right = g; is-said = its-entries ∙ entries-back vs g }
+
+    found-places : hasPlaces (messageOf vs) keys numbers ≡ enough (getD vs 0 0) n (length keys) (length numbers)
+    found-places = places-are ∙ ap (λ (k : ℕ). enough (getD vs 0 0) k (length keys) (length numbers)) (sym its-entries)
+
+    -- too few places
+    pub read-small : enough (getD vs 0 0) n (length keys) (length numbers) ≡ false → (reading.Refused 12 ≡ readingOf (got vs) keys numbers) × (keys ≡ keysRead (got vs) keys numbers) × (numbers ≡ numbersRead (got vs) keys numbers)
+    unfolding readingOf keysRead numbersRead
+    read-small e = let t = found-places ∙ e in (rw t, rw t, rw t)
+
+    -- the entries are stored
+    pub read-done : {k x : List ℕ} → enough (getD vs 0 0) n (length keys) (length numbers) ≡ true → k ≡ laid (keyIn vs) n keys → x ≡ cond (hasNumbers (getD vs 0 0)) (laid (numberIn vs) n numbers) numbers → (reading.Read m ≡ readingOf (got vs) keys numbers) × (k ≡ keysRead (got vs) keys numbers) × (x ≡ numbersRead (got vs) keys numbers)
+    unfolding readingOf keysRead numbersRead
+    read-done e dk dx =
+        let t = found-places ∙ e in (
+          rw t (ap reading.Read em),
+          rw t (dk ∙ ap (λ (j : ℕ). laid (keyIn vs) j keys) its-entries),
+          rw t (dx ∙ (λ i. cond (hasNumbers (sym (kind-back vs g) i)) (laid (numberIn vs) (its-entries i) numbers) numbers)),
+        )
+
+-- the bytes are refused
+pub read-refused : (o : Outcome) (us keys numbers : List ℕ) {f : ℕ} → o ≡ outcome f us → (f ≡ 0 → ⊥) → (reading.Refused f ≡ readingOf o keys numbers) × (keys ≡ keysRead o keys numbers) × (numbers ≡ numbersRead o keys numbers)
+unfolding outcome readingOf keysRead numbersRead
+read-refused o us keys numbers {f} e d =
+    let q : o ≡ fault f = e ∙ rw (ne-eqb f 0 d) in (
+      ap (λ (p : Outcome). readingOf p keys numbers) (sym q),
+      ap (λ (p : Outcome). keysRead p keys numbers) (sym q),
+      ap (λ (p : Outcome). numbersRead p keys numbers) (sym q),
+    )
+
+pub got-all : (o : Outcome) (us : List ℕ) {f : ℕ} → o ≡ outcome f us → f ≡ 0 → o ≡ got us
+unfolding outcome
+got-all o us {f} e z = e ∙ rw (eq-eqb f 0 z)
+
+-- the cases of the writer's enum
+pub written-fault : (w : Wrote) → (w .fault ≡ 0 → ⊥) → Refused (w .fault) ≡ writtenBy w
+written-fault w d = rw (ne-eqb (w .fault) 0 d)
+
+pub written-length : (w : Wrote) → w .fault ≡ 0 → Length (w .length) ≡ writtenBy w
+written-length w e = rw (eq-eqb (w .fault) 0 e)
+
+-- a message's own fixed values and number of entries, as the code has them
+module _ (m : Message) (keys numbers : List ℕ) {fixed : List ℕ} {n : ℕ} (ef : fixed ≡ fixedOf m) (en : n ≡ entriesOf m) where
+  pub enough-is : enough (getD fixed 0 0) n (length keys) (length numbers) ≡ hasPlaces m keys numbers
+  unfolding hasPlaces
+  enough-is i = enough (getD (ef i) 0 0) (en i) (length keys) (length numbers)
+
+  pub values-is : valuesBy fixed keys numbers n ≡ valuesOf m keys numbers
+  unfolding valuesOf
+  values-is i = valuesBy (ef i) keys numbers (en i)
+
+  pub is-packable : enough (getD fixed 0 0) n (length keys) (length numbers) ≡ true → n ≤ mostEntries → Packable fixed keys numbers n
+  is-packable e h =
+      record {
+        eight = ap length ef ∙ fixed-length m;
+        few = h;
+        for-keys = enough-for-keys (getD fixed 0 0) n (length keys) (length numbers) e;
+        for-numbers = enough-for-numbers (getD fixed 0 0) n (length keys) (length numbers) e;
+      }
+
+-- the front of a row that was packed
+pub packed-front : (fixed keys numbers row : List ℕ) (n : ℕ) {front : List ℕ} → length fixed ≡ 8 → 8 + 3 * n ≤ length row → front ≡ built (valueBy fixed (hasNumbers (getD fixed 0 0)) keys numbers) (length (take (8 + 3 * n) row)) → take (8 + 3 * n) (front ++ drop (8 + 3 * n) row) ≡ valuesBy fixed keys numbers n
+packed-front fixed keys numbers row n {front} l h e =
+    let f = valueBy fixed (hasNumbers (getD fixed 0 0)) keys numbers in
+    let k = length-take-le (8 + 3 * n) row h in
+    let q : front ≡ built f (8 + 3 * n) = e ∙ ap (built f) k in
+    take-at front (drop (8 + 3 * n) row) (8 + 3 * n) (ap length q ∙ built-length f (8 + 3 * n)) ∙ q ∙ values-by fixed keys numbers n l

@@ -1,0 +1,30 @@
+-- The entries beside a message: keys as numbers, and setpoints or masks; and their values in a frame, three for each entry.
+use Prim.Native.Nat.{ℕ, _+_, _*_, _/_, _%_}
+use mathlib.Core.List.{List, _++_}
+use mathlib.Core.Bool.{Bool, cond}
+use lib.Dec.{eqb}
+use lib.ListN.{getD}
+use Rattle.formats.specs.Table.{hasNumbers}
+use Rattle.frames.specs.declared.Message.{Message}
+use Rattle.frames.specs.Lists.{built}
+use Rattle.frames.specs.Messages.{entriesOf, fixedOf}
+
+-- of entry i among a frame's values: its key as a number, as `keyWord` has it, and its setpoint or mask
+abbrev pub keyIn : List ℕ → ℕ → ℕ
+keyIn vs i = getD vs (8 + 3 * i) 0 * 256 + getD vs (9 + 3 * i) 0
+
+abbrev pub numberIn : List ℕ → ℕ → ℕ
+numberIn vs i = getD vs (10 + 3 * i) 0
+
+-- value j of the entries: count, client, and setpoint or mask, or 0 where the kind's entries have none
+unfoldable pub entryValue : Bool → List ℕ → List ℕ → ℕ → ℕ
+entryValue numbered keys numbers j =
+    cond (eqb (j % 3) 0) (getD keys (j / 3) 0 / 256)
+    (cond (eqb (j % 3) 1) (getD keys (j / 3) 0 % 256) (cond numbered (getD numbers (j / 3) 0) 0))
+
+abbrev pub kindOf : Message → ℕ
+kindOf m = getD (fixedOf m) 0 0
+
+-- the values of a message with its entries
+unfoldable pub valuesOf : Message → List ℕ → List ℕ → List ℕ
+valuesOf m keys numbers = fixedOf m ++ built (entryValue (hasNumbers (kindOf m)) keys numbers) (3 * entriesOf m)

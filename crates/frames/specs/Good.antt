@@ -1,0 +1,205 @@
+-- What is known of a frame's values: they are narrow enough for a message's types, and the message's own values are those that it was made of.
+use Prim.Native.Nat.{ℕ, zero, suc, _+_, _-_, _*_, _≤_, _<_}
+use mathlib.Core.Path.{_≡_, refl, sym, ap, ap₂, _∙_}
+use mathlib.Core.Bool.{Bool, true, false, cond, _||_}
+use mathlib.Core.List.{List, [], _∷_}
+use native.Mathlib.Omega.{arith}
+use native.Mathlib.Nat.{lt-of-lt-of-le}
+use lib.Dec.{eqb, leb}
+use lib.Pow.{pow-mono}
+use lib.ListN.{length, getD, take}
+use lib.Seq.{getD-take}
+use borrow.Author.Tests.{leb-true, eq-eqb, ne-eqb, not-false}
+use Rattle.ranges.specs.Tests.{by-equal}
+use Rattle.ranges.specs.All.{allBelow, all-at}
+use Rattle.formats.specs.Grammar.{good}
+use Rattle.formats.specs.Table.{none, coord, sortAt, bitsOf, leastOf, mostOf, entriesIn, hasNumbers}
+use Rattle.formats.specs.Format.{sortOf, widthOf, format}
+use Rattle.formats.specs.FormatLaws.{at-most, at-least}
+use Rattle.formats.specs.Walk.{stateAt, placeAt, place-early, place-late, walk-place, walk-kind, entriesSaid, values-length, value-fits, value-allowed, value-width, kind-below}
+use Rattle.frames.specs.declared.Fixed.{Fixed}
+use Rattle.frames.specs.Lists.{built, built-take}
+use Rattle.frames.specs.Messages.{entriesOf, fixedOf, Narrow, fixedAt, messageAt, messageOf}
+use Rattle.frames.specs.Entries.{kindOf}
+
+-- only the places of setpoints and masks are wider than a byte
+wide : ℕ → Bool
+wide place = eqb place 6 || eqb place 10
+
+narrow-place : (kind place : ℕ) → kind < 13 → place < 11 → wide place ≡ false → bitsOf (sortAt kind place) ≤ 8
+unfolding allBelow sortAt bitsOf wide
+narrow-place kind place h l e =
+    leb-true _ _
+    (rw e at (all-at (λ p. wide p || leb (bitsOf (sortAt kind p)) 8) 11 (all-at (λ k. allBelow (λ p. wide p || leb (bitsOf (sortAt k p)) 8) 11) 13 refl kind h) place l))
+
+-- what a field holds where it can hold one value only: none 0, and the coordinator's target 16
+unfoldable pub settled : ℕ → ℕ → ℕ
+settled sort v = cond (eqb sort none) 0 (cond (eqb sort coord) 16 v)
+
+module _ (vs : List ℕ) (g : good format vs ≡ true) where
+  long : 8 ≤ length vs
+  long = omega (arith, values-length vs g)
+
+  -- the table's place of value i, i not the first
+  module _ (i : ℕ) (some : 0 < i) (h : i < length vs) where
+    at-sort : sortOf (stateAt vs i) ≡ sortAt (getD vs 0 0) (placeAt i)
+    at-sort = ap₂ sortAt (walk-kind vs i some) (walk-place vs i)
+
+    byte-at : placeAt i < 11 → wide (placeAt i) ≡ false → getD vs i 0 < 256
+    byte-at l e =
+        lt-of-lt-of-le (value-fits vs g i h) (pow-mono (let b : widthOf (stateAt vs i) ≤ 8 = omega (arith, value-width vs g i some, narrow-place (getD vs 0 0) (placeAt i) (kind-below vs g) l e) in b))
+
+    -- a field that can hold one value only holds it
+    is-settled : getD vs i 0 ≡ settled (sortAt (getD vs 0 0) (placeAt i)) (getD vs i 0)
+    unfolding settled leastOf mostOf
+    is-settled =
+        let st = stateAt vs i in
+        let s = sortAt (getD vs 0 0) (placeAt i) in
+        let a = value-allowed vs g i h in
+        by-equal s none
+        (λ e. let n : sortOf st ≡ 0 = at-sort ∙ e in rw (eq-eqb s none e) (omega (arith, rw n at (at-most st (getD vs i 0) a))))
+        (λ d.
+        by-equal s coord
+        (λ e.
+        let n : sortOf st ≡ 4 = at-sort ∙ e in
+        rw (ne-eqb s none d, eq-eqb s coord e) (omega (arith, rw n at (at-most st (getD vs i 0) a), rw n at (at-least st (getD vs i 0) a))))
+        (λ f. rw (ne-eqb s none d, ne-eqb s coord f)))
+
+  -- the fixed values
+  fixed-byte : (i : ℕ) → i < 8 → wide i ≡ false → getD vs i 0 < 256
+  unfolding wide
+  fixed-byte i l e =
+      by-equal i 0
+      (λ z. omega (arith, kind-below vs g, ap (λ (k : ℕ). getD vs k 0) z))
+      (λ d.
+      let p : placeAt i ≡ i = place-early i l in
+      byte-at i (omega arith) (omega (arith, long)) (omega arith) (ap wide p ∙ e))
+
+  pub is-narrow : Narrow vs
+  unfolding wide
+  is-narrow =
+      record {
+        long = long;
+        bytes = λ i h. fixed-byte i (omega arith) (rw (ne-eqb i 6 (λ e. omega arith), ne-eqb i 10 (λ e. omega arith)));
+        few = omega (arith, fixed-byte 7 (omega arith) refl);
+      }
+
+  fixed-settled : (i : ℕ) → 0 < i → i < 8 → getD vs i 0 ≡ settled (sortAt (getD vs 0 0) i) (getD vs i 0)
+  fixed-settled i some l =
+      is-settled i some (omega (arith, long)) ∙ ap (λ (p : ℕ). settled (sortAt (getD vs 0 0) p) (getD vs i 0)) (place-early i l)
+
+-- ---- kind by kind: the table and the message's clauses agree
+
+-- the values of a kind's message, with the other values as they can be
+settledFixed : ℕ → Fixed → List ℕ
+settledFixed k f =
+    k
+    ∷ settled (sortAt k 1) (f .client)
+    ∷ settled (sortAt k 2) (f .server)
+    ∷ settled (sortAt k 3) (f .tag)
+    ∷ settled (sortAt k 4) (f .key .count)
+    ∷ settled (sortAt k 5) (f .key .client)
+    ∷ settled (sortAt k 6) (f .number)
+    ∷ settled (sortAt k 7) (f .entries)
+    ∷ []
+
+-- what is so of each kind
+record Kind (k : ℕ) : Type 0 where
+  back : (f : Fixed) → fixedOf (messageAt k f) ≡ settledFixed k f
+  said : (f : Fixed) → entriesOf (messageAt k f) ≡ entriesIn k (settled (sortAt k 7) (f .entries))
+
+-- a number from 1 to 12 is one of them
+by-kind : (P : ℕ → Type 0) → P 1 → P 2 → P 3 → P 4 → P 5 → P 6 → P 7 → P 8 → P 9 → P 10 → P 11 → P 12 → (k : ℕ) → 0 < k → k < 13 → P k
+by-kind P a b c d e f g h i j k l zero x y = let z : ⊥ = omega arith in absurd z
+by-kind P a b c d e f g h i j k l (suc zero) x y = a
+by-kind P a b c d e f g h i j k l (suc (suc zero)) x y = b
+by-kind P a b c d e f g h i j k l (suc (suc (suc zero))) x y = c
+by-kind P a b c d e f g h i j k l (suc (suc (suc (suc zero)))) x y = d
+by-kind P a b c d e f g h i j k l (suc (suc (suc (suc (suc zero))))) x y = e
+by-kind P a b c d e f g h i j k l (suc (suc (suc (suc (suc (suc zero)))))) x y = f
+by-kind P a b c d e f g h i j k l (suc (suc (suc (suc (suc (suc (suc zero))))))) x y = g
+by-kind P a b c d e f g h i j k l (suc (suc (suc (suc (suc (suc (suc (suc zero)))))))) x y = h
+by-kind P a b c d e f g h i j k l (suc (suc (suc (suc (suc (suc (suc (suc (suc zero))))))))) x y = i
+by-kind P a b c d e f g h i j k l (suc (suc (suc (suc (suc (suc (suc (suc (suc (suc zero)))))))))) x y = j
+by-kind P a b c d e f g h i j k l (suc (suc (suc (suc (suc (suc (suc (suc (suc (suc (suc zero))))))))))) x y = k
+by-kind P a b c d e f g h i j k l (suc (suc (suc (suc (suc (suc (suc (suc (suc (suc (suc (suc zero)))))))))))) x y = l
+by-kind P a b c d e f g h i j k l (suc (suc (suc (suc (suc (suc (suc (suc (suc (suc (suc (suc (suc n))))))))))))) x y = let z : ⊥ = omega arith in absurd z
+
+each-kind : (k : ℕ) → 0 < k → k < 13 → Kind k
+unfolding messageAt settledFixed settled sortAt entriesIn
+each-kind =
+    by-kind Kind
+    (record { back = λ f. refl; said = λ f. refl })
+    (record { back = λ f. refl; said = λ f. refl })
+    (record { back = λ f. refl; said = λ f. refl })
+    (record { back = λ f. refl; said = λ f. refl })
+    (record { back = λ f. refl; said = λ f. refl })
+    (record { back = λ f. refl; said = λ f. refl })
+    (record { back = λ f. refl; said = λ f. refl })
+    (record { back = λ f. refl; said = λ f. refl })
+    (record { back = λ f. refl; said = λ f. refl })
+    (record { back = λ f. ap (λ (n : ℕ). 10 ∷ f .client ∷ f .server ∷ 0 ∷ 0 ∷ 0 ∷ 0 ∷ n ∷ []) (one-less (f .entries)); said = λ f. refl })
+    (record { back = λ f. refl; said = λ f. refl })
+    (record { back = λ f. ap (λ (n : ℕ). 12 ∷ f .client ∷ 16 ∷ 0 ∷ 0 ∷ 0 ∷ 0 ∷ n ∷ []) (one-less (f .entries)); said = λ f. refl })
+  where
+    one-less : (n : ℕ) → n + 1 - 1 ≡ n
+    one-less n = omega arith
+
+module _ (vs : List ℕ) (g : good format vs ≡ true) where
+  kind-some : 0 < getD vs 0 0
+  unfolding stateAt leastOf sortAt
+  kind-some = omega (arith, at-least (stateAt vs 0) (getD vs 0 0) (value-allowed vs g 0 (omega (arith, long vs g))))
+
+  its-kind : Kind (getD vs 0 0)
+  its-kind = each-kind (getD vs 0 0) kind-some (kind-below vs g)
+
+  first-eight : settledFixed (getD vs 0 0) (fixedAt vs) ≡ take 8 vs
+  unfolding settledFixed built
+  first-eight =
+      let e : (i : ℕ) → 0 < i → i < 8 → settled (sortAt (getD vs 0 0) i) (getD vs i 0) ≡ getD vs i 0 = λ i p q. sym (fixed-settled vs g i p q) in
+      (λ j.
+      getD vs 0 0
+      ∷ e 1 (omega arith) (omega arith) j
+      ∷ e 2 (omega arith) (omega arith) j
+      ∷ e 3 (omega arith) (omega arith) j
+      ∷ e 4 (omega arith) (omega arith) j
+      ∷ e 5 (omega arith) (omega arith) j
+      ∷ e 6 (omega arith) (omega arith) j
+      ∷ e 7 (omega arith) (omega arith) j
+      ∷ [])
+      ∙ built-take vs 8 (long vs g)
+
+  -- the message of a frame's values has those values
+  pub fixed-back : fixedOf (messageOf vs) ≡ take 8 vs
+  unfolding messageOf
+  fixed-back = its-kind .back (fixedAt vs) ∙ first-eight
+
+  pub entries-back : entriesOf (messageOf vs) ≡ entriesSaid vs
+  unfolding messageOf
+  entries-back = its-kind .said (fixedAt vs) ∙ ap (entriesIn (getD vs 0 0)) (sym (fixed-settled vs g 7 (omega arith) (omega arith)))
+
+  pub kind-back : kindOf (messageOf vs) ≡ getD vs 0 0
+  kind-back = ap (λ (l : List ℕ). getD l 0 0) fixed-back ∙ getD-take 8 vs 0 0 (omega arith)
+
+  -- the values of entry i
+  module _ (i : ℕ) (h : i < entriesSaid vs) where
+    entry-inside : (d : ℕ) → d < 3 → 8 + d + 3 * i < length vs
+    entry-inside d l = omega (arith, values-length vs g)
+
+    entry-place : (d : ℕ) → d < 3 → placeAt (8 + d + 3 * i) ≡ 8 + d
+    entry-place d l = place-late (8 + d + 3 * i) (omega arith) ∙ omega arith
+
+    pub count-byte : getD vs (8 + 3 * i) 0 < 256
+    unfolding wide
+    count-byte = byte-at vs g (8 + 3 * i) (omega arith) (entry-inside 0 (omega arith)) (omega (arith, entry-place 0 (omega arith))) (ap wide (entry-place 0 (omega arith)))
+
+    pub client-byte : getD vs (9 + 3 * i) 0 < 256
+    unfolding wide
+    client-byte = byte-at vs g (9 + 3 * i) (omega arith) (entry-inside 1 (omega arith)) (omega (arith, entry-place 1 (omega arith))) (ap wide (entry-place 1 (omega arith)))
+
+    pub no-number : hasNumbers (getD vs 0 0) ≡ false → getD vs (10 + 3 * i) 0 ≡ 0
+    unfolding hasNumbers settled
+    no-number e =
+        is-settled vs g (10 + 3 * i) (omega arith) (entry-inside 2 (omega arith))
+        ∙ ap (λ (p : ℕ). settled (sortAt (getD vs 0 0) p) (getD vs (10 + 3 * i) 0)) (entry-place 2 (omega arith))
+        ∙ rw (not-false (eqb (sortAt (getD vs 0 0) 10) none) e)

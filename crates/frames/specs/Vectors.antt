@@ -1,0 +1,59 @@
+-- Document 01's starred cards of frames, one checked table; with two more that tell 10 from 11, and the longest frames.
+use mathlib.Core.Path.{_≡_, refl}
+use mathlib.Core.List.{List, [], _∷_}
+use Prim.Native.Nat.{ℕ}
+use Rattle.fields.specs.Bits.{bitOf, withBit, bitAt, setBit, fieldAt, putField}
+use Rattle.formats.specs.Grammar.{ahead, judged, ended, read, good, size, lay, frame}
+use Rattle.formats.specs.Table.{sortAt, bitsOf, leastOf, mostOf, entriesIn, hasNumbers, frameLength}
+use Rattle.formats.specs.Format.{fieldOf, within, leftAfter, placeAfter, nextOf, entries, fixed, format}
+use Rattle.keys.specs.Keys.{keyOf}
+use Rattle.frames.specs.declared.Message.{Message}
+use Rattle.frames.specs.declared.Message.the-variants.{Set}
+use Rattle.frames.specs.declared.Reading.{Reading}
+use Rattle.frames.specs.declared.Reading.the-variants.{Read, Refused}
+use Rattle.frames.specs.Lists.{built}
+use Rattle.frames.specs.Messages.{messageAt, messageOf}
+use Rattle.frames.specs.Entries.{entryValue, valuesOf}
+use Rattle.frames.specs.Frames.{hasPlaces, frameOf, readingOf, found}
+
+-- kind 1, client 2, server 3, key (1, 2), 1800
+abbrev pub setMessage : Message
+setMessage = Set 2 3 (keyOf 1 2) 1800
+
+-- its first seven bytes
+abbrev pub setFrame : List ℕ → List ℕ
+setFrame rest = 0x12 ∷ 0x18 ∷ 0x09 ∷ 0x00 ∷ 0x00 ∷ 0x03 ∷ 0x84 ∷ rest
+
+-- read with no places for entries
+abbrev pub reads : List ℕ → Reading
+reads bytes = readingOf (found bytes) [] []
+
+pub record Cards : Type 0 where
+  pub written : frameOf setMessage [] [] ≡ setFrame (0x00 ∷ [])
+  pub read-back : reads (setFrame (0x00 ∷ [])) ≡ Read setMessage
+  pub last-byte-01 : reads (setFrame (0x01 ∷ [])) ≡ Refused 11
+  pub another-00 : reads (setFrame (0x00 ∷ 0x00 ∷ [])) ≡ Refused 11
+  pub no-bytes : reads [] ≡ Refused 10
+  -- the count is a field of its own, and the first fault decides
+  pub count-zero : reads (0x10 ∷ 0x00 ∷ 0x00 ∷ []) ≡ Refused 11
+  pub cut-behind-count : reads (0x10 ∷ 0x00 ∷ 0x08 ∷ []) ≡ Refused 10
+  -- the longest frames of kinds 6, 10 and 12
+  pub longest-keys : frameLength 6 16 ≡ 28
+  pub longest-all : frameLength 10 256 ≡ 1411
+  pub longest-log : frameLength 12 256 ≡ 899
+
+pub cards : Cards
+unfolding bitOf withBit bitAt setBit fieldAt putField ahead judged ended read good size lay frame sortAt bitsOf leastOf mostOf entriesIn hasNumbers frameLength fieldOf within leftAfter placeAfter nextOf entries fixed format built messageAt messageOf entryValue valuesOf hasPlaces frameOf readingOf
+cards =
+    record {
+      written = refl;
+      read-back = refl;
+      last-byte-01 = refl;
+      another-00 = refl;
+      no-bytes = refl;
+      count-zero = refl;
+      cut-behind-count = refl;
+      longest-keys = refl;
+      longest-all = refl;
+      longest-log = refl;
+    }

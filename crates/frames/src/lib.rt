@@ -1,0 +1,369 @@
+// Frames: the messages that cross the wire, from bytes and to bytes.
+// A message holds what is fixed; the entries of kinds 6, 10 and 12 stand beside it, in two lent slices: keys, as numbers, and setpoints or masks.
+use formats::reading::MOST_VALUES;
+use formats::table::MOST_ENTRIES;
+use keys::Key;
+
+pub mod entries; // entries.rt: the entries as values, and back
+
+ghost use mathlib.Core.Path.{_≡_};
+ghost use mathlib.Core.Bool.{true};
+ghost use Prim.Native.Nat.{_≤_, _+_, _-_, _*_};
+ghost use lib.ListN.{length, take};
+ghost use Rattle.formats.specs.Grammar.{got, good};
+ghost use Rattle.formats.specs.Format.{format};
+ghost use Rattle.formats.specs.Writing.{wroteOf, bytesAfter};
+ghost use Rattle.frames.specs.Lists.{built};
+ghost use Rattle.frames.specs.Entries.{entryValue};
+ghost use Rattle.frames.specs.Frames.{enough, readingOf, keysRead, numbersRead, found, writtenOf, bytesWritten};
+ghost use Rattle.frames.specs.Answers.{writtenBy, valuesBy, Packable};
+ghost use Rattle.frames.specs.Messages.{entriesOf, fixedOf, messageOf, messageAt, fixedAt, Narrow};
+
+// A message by its kind, 1 to 12: set, set done, enter, entered, which keys, keys, get, got, get all, all, get log, log.
+// `entries` is how many entries stand beside it.
+pub enum Message {
+    Set {
+        client: u8,
+        server: u8,
+        key: Key,
+        setpoint: u32,
+    },
+    SetDone {
+        client: u8,
+        server: u8,
+    },
+    Enter {
+        client: u8,
+        key: Key,
+        mask: u32,
+    },
+    Entered {
+        client: u8,
+        tag: u8,
+    },
+    WhichKeys {
+        client: u8,
+    },
+    Keys {
+        client: u8,
+        tag: u8,
+        entries: u32,
+    },
+    Get {
+        client: u8,
+        server: u8,
+        key: Key,
+    },
+    Got {
+        client: u8,
+        server: u8,
+        setpoint: u32,
+    },
+    GetAll {
+        client: u8,
+        server: u8,
+    },
+    All {
+        client: u8,
+        server: u8,
+        entries: u32,
+    },
+    GetLog {
+        client: u8,
+    },
+    Log {
+        client: u8,
+        entries: u32,
+    },
+}
+
+// What reading gives: the message, or the number that refuses the bytes.
+pub enum Reading {
+    Read(Message),
+    Refused(u8),
+}
+
+// What writing gives: the frame's length in bytes, or the number that refuses the message.
+pub enum Written {
+    Length(usize),
+    Refused(u8),
+}
+
+// How many entries stand beside a message.
+pub fn entries_of(message: Message) -> u32
+    ensures { λ r. ⌜ r ≡ entriesOf message ⌝ }
+{
+    match message {
+        Message::Set { .. } => 0,
+        Message::SetDone { .. } => 0,
+        Message::Enter { .. } => 0,
+        Message::Entered { .. } => 0,
+        Message::WhichKeys { .. } => 0,
+        Message::Keys { entries, .. } => entries,
+        Message::Get { .. } => 0,
+        Message::Got { .. } => 0,
+        Message::GetAll { .. } => 0,
+        Message::All { entries, .. } => entries,
+        Message::GetLog { .. } => 0,
+        Message::Log { entries, .. } => entries,
+    }
+}
+
+fn less_one(entries: u32) -> u32
+    ensures { λ r. ⌜ r ≡ entries - 1 ⌝ }
+{
+    if entries == 0 {
+        return 0;
+    }
+    entries - 1
+}
+
+// The values of a message's header and fixed body, in the order of the table; what its kind lacks is 0.
+fn fixed_of(message: Message) -> [u32; 8]
+    ensures { λ r. ⌜ r ≡ fixedOf message ⌝ }
+{
+    match message {
+        Message::Set {
+            client,
+            server,
+            key,
+            setpoint,
+        } => [
+            1,
+            client as u32,
+            server as u32,
+            0,
+            key.count as u32,
+            key.client as u32,
+            setpoint,
+            0,
+        ],
+        Message::SetDone { client, server } => [2, client as u32, server as u32, 0, 0, 0, 0, 0],
+        Message::Enter { client, key, mask } => [
+            3,
+            client as u32,
+            16,
+            0,
+            key.count as u32,
+            key.client as u32,
+            mask,
+            0,
+        ],
+        Message::Entered { client, tag } => [4, client as u32, 16, tag as u32, 0, 0, 0, 0],
+        Message::WhichKeys { client } => [5, client as u32, 16, 0, 0, 0, 0, 0],
+        Message::Keys {
+            client,
+            tag,
+            entries,
+        } => [6, client as u32, 16, tag as u32, 0, 0, 0, entries],
+        Message::Get {
+            client,
+            server,
+            key,
+        } => [
+            7,
+            client as u32,
+            server as u32,
+            0,
+            key.count as u32,
+            key.client as u32,
+            0,
+            0,
+        ],
+        Message::Got {
+            client,
+            server,
+            setpoint,
+        } => [8, client as u32, server as u32, 0, 0, 0, setpoint, 0],
+        Message::GetAll { client, server } => [9, client as u32, server as u32, 0, 0, 0, 0, 0],
+        Message::All {
+            client,
+            server,
+            entries,
+        } => [
+            10,
+            client as u32,
+            server as u32,
+            0,
+            0,
+            0,
+            0,
+            less_one(entries),
+        ],
+        Message::GetLog { client } => [11, client as u32, 16, 0, 0, 0, 0, 0],
+        Message::Log { client, entries } => [12, client as u32, 16, 0, 0, 0, 0, less_one(entries)],
+    }
+}
+
+// What the fixed values hold, in a message's own types.
+struct Fixed {
+    client: u8,
+    server: u8,
+    tag: u8,
+    key: Key,
+    number: u32,
+    entries: u32,
+}
+
+fn fixed_at(values: &[u32]) -> Fixed
+    requires { ⌜ Narrow (now values) ⌝ }
+    ensures { λ r. ⌜ r ≡ fixedAt (now (values .entry)) ⌝ }
+{
+    let key = Key::new(values[4] as u8, values[5] as u8);
+    Fixed {
+        client: values[1] as u8,
+        server: values[2] as u8,
+        tag: values[3] as u8,
+        key: key,
+        number: values[6],
+        entries: values[7],
+    }
+}
+
+fn message_at(kind: u32, fixed: Fixed) -> Message
+    requires { ⌜ fixed .entries ≤ 255 ⌝ }
+    ensures { λ r. ⌜ r ≡ messageAt kind fixed ⌝ }
+{
+    let client = fixed.client;
+    let server = fixed.server;
+    let tag = fixed.tag;
+    let key = fixed.key;
+    let number = fixed.number;
+    let entries = fixed.entries;
+    match kind {
+        1 => Message::Set {
+            client: client,
+            server: server,
+            key: key,
+            setpoint: number,
+        },
+        2 => Message::SetDone {
+            client: client,
+            server: server,
+        },
+        3 => Message::Enter {
+            client: client,
+            key: key,
+            mask: number,
+        },
+        4 => Message::Entered {
+            client: client,
+            tag: tag,
+        },
+        5 => Message::WhichKeys { client: client },
+        6 => Message::Keys {
+            client: client,
+            tag: tag,
+            entries: entries,
+        },
+        7 => Message::Get {
+            client: client,
+            server: server,
+            key: key,
+        },
+        8 => Message::Got {
+            client: client,
+            server: server,
+            setpoint: number,
+        },
+        9 => Message::GetAll {
+            client: client,
+            server: server,
+        },
+        10 => Message::All {
+            client: client,
+            server: server,
+            entries: entries + 1,
+        },
+        11 => Message::GetLog { client: client },
+        _ => Message::Log {
+            client: client,
+            entries: entries + 1,
+        },
+    }
+}
+
+fn message_of(values: &[u32]) -> Message
+    requires { ⌜ Narrow (now values) ⌝ }
+    ensures { λ r. ⌜ r ≡ messageOf (now (values .entry)) ⌝ }
+{
+    let fixed = fixed_at(values);
+    message_at(values[0], fixed)
+}
+
+// The message of a frame's values, its entries stored; 12 where a lent slice has too few places for them.
+fn deliver(values: &[u32], keys: &mut [u32], numbers: &mut [u32]) -> Reading
+    requires { ⌜ good format (now values) ≡ true ⌝ }
+    ensures { λ r. ⌜ (r ≡ readingOf (got (now (values .entry))) (now (keys .entry)) (now (numbers .entry))) × (now (keys .exit) ≡ keysRead (got (now (values .entry))) (now (keys .entry)) (now (numbers .entry))) × (now (numbers .exit) ≡ numbersRead (got (now (values .entry))) (now (keys .entry)) (now (numbers .entry))) ⌝ }
+{
+    let message = message_of(values);
+    let entries = entries_of(message) as usize;
+    let kind = values[0];
+    if !entries::enough_places(kind, entries, keys.len(), numbers.len()) {
+        return Reading::Refused(12);
+    }
+    entries::store(kind, values, keys, numbers, entries);
+    Reading::Read(message)
+}
+
+// Reads a frame: the message, and its entries at the front of the two lent slices. The bytes may be any.
+// Refused by 10, 11 or 12, and then the slices are as before.
+pub fn read_frame(bytes: &[u8], keys: &mut [u32], numbers: &mut [u32]) -> Reading
+    ensures { λ r. ⌜ (r ≡ readingOf (found (now (bytes .entry))) (now (keys .entry)) (now (numbers .entry))) × (now (keys .exit) ≡ keysRead (found (now (bytes .entry))) (now (keys .entry)) (now (numbers .entry))) × (now (numbers .exit) ≡ numbersRead (found (now (bytes .entry))) (now (keys .entry)) (now (numbers .entry))) ⌝ }
+{
+    let mut values = [0u32; MOST_VALUES];
+    let scan = formats::reading::read_values(bytes, &mut values);
+    let fault = scan.fault;
+    let fields = scan.fields;
+    if fault != 0 {
+        return Reading::Refused(fault);
+    }
+    deliver(&values[..fields], keys, numbers)
+}
+
+// The frame of the values, with the answer as an enum.
+fn send(values: &[u32], bytes: &mut [u8]) -> Written
+    ensures { λ r. ⌜ (r ≡ writtenBy (wroteOf (now (values .entry)) (now (bytes .entry)))) × (now (bytes .exit) ≡ bytesAfter (now (values .entry)) (now (bytes .entry))) ⌝ }
+{
+    let wrote = formats::writing::write_values(values, bytes);
+    let refusal = wrote.fault;
+    let length = wrote.length;
+    if refusal != 0 {
+        return Written::Refused(refusal);
+    }
+    Written::Length(length)
+}
+
+// The frame of a message whose entries are there.
+fn write_present(
+    fixed: &[u32],
+    keys: &[u32],
+    numbers: &[u32],
+    entries: usize,
+    bytes: &mut [u8],
+) -> Written
+    requires { ⌜ Packable (now fixed) (now keys) (now numbers) entries ⌝ }
+    ensures { λ r. ⌜ (r ≡ writtenBy (wroteOf (valuesBy (now (fixed .entry)) (now (keys .entry)) (now (numbers .entry)) entries) (now (bytes .entry)))) × (now (bytes .exit) ≡ bytesAfter (valuesBy (now (fixed .entry)) (now (keys .entry)) (now (numbers .entry)) entries) (now (bytes .entry))) ⌝ }
+{
+    let mut values = [0u32; MOST_VALUES];
+    entries::pack_entries(fixed, keys, numbers, entries, &mut values);
+    let count = 8 + 3 * entries;
+    send(&values[..count], bytes)
+}
+
+// Writes a message with its entries, the first of the two slices: the frame stands at the front of the lent bytes.
+// Refused by 11, then 12, and then the bytes are as before.
+pub fn write_frame(message: Message, keys: &[u32], numbers: &[u32], bytes: &mut [u8]) -> Written
+    ensures { λ r. ⌜ (r ≡ writtenOf message (now (keys .entry)) (now (numbers .entry)) (now (bytes .entry))) × (now (bytes .exit) ≡ bytesWritten message (now (keys .entry)) (now (numbers .entry)) (now (bytes .entry))) ⌝ }
+{
+    let entries = entries_of(message) as usize;
+    let fixed = fixed_of(message);
+    let kind = fixed[0];
+    if !entries::enough_places(kind, entries, keys.len(), numbers.len()) {
+        return Written::Refused(11);
+    }
+    if MOST_ENTRIES < entries {
+        return Written::Refused(11);
+    }
+    write_present(&fixed, keys, numbers, entries, bytes)
+}
