@@ -22,6 +22,10 @@ module _ (m n : ℕ) where
   unfolding lesser
   lesser-other h = rw (le-ltb m n h)
 
+  pub lesser-self : m ≤ n → lesser m n ≡ m
+  unfolding lesser
+  lesser-self h = by-test (ltb m n) (λ e. rw e) (λ e. let g = ltb-false m n e in rw e (omega arith))
+
   pub lesser-most : (lesser m n ≤ m) × (lesser m n ≤ n)
   unfolding lesser
   lesser-most = by-test (ltb m n)
