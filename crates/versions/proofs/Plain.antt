@@ -28,18 +28,22 @@ use Rattle.keys.proofs.Key as K
 use Rattle.keys.proofs.Key.Laws as K′
 use Rattle.versions.specs.declared.Version.{Version}
 use Rattle.versions.specs.declared.Reading.{Reading}
-use Rattle.versions.specs.Table.{readable, appendNumber, heldAfter, bears, foundAt, notHeld}
+use Rattle.versions.specs.declared.Trial.{Trial}
+use Rattle.versions.specs.Table.{readable, appendNumber, heldAfter, bears, foundAt, notHeld, trialMade}
 use Rattle.versions.proofs.Steps.{Answers}
 use Rattle.versions.proofs.Version as T
 use Rattle.versions.proofs.Version.Laws as T′
 use Rattle.versions.proofs.Reading as R
 use Rattle.versions.proofs.Reading.Laws as R′
+use Rattle.versions.proofs.Trial as L
+use Rattle.versions.proofs.Trial.Laws as L′
 use Rattle.versions.proofs.readable_of as readable-of
 use Rattle.versions.proofs.append_number as append-number
 use Rattle.versions.proofs.held_after as held-after
 use Rattle.versions.proofs.bears_key as bears-key
 use Rattle.versions.proofs.reading_found as reading-found
 use Rattle.versions.proofs.reading_missing as reading-missing
+use Rattle.versions.proofs.trial_of as trial-of
 
 -- a version's place, in bytes, fits a usize, since the whole slice has room
 pub place-fits : (n i : ℕ) → n * 8 < 2 ^ 63 → i < n → i * 8 < 2 ^ 64
@@ -63,6 +67,9 @@ module _ {M : Type 1} (𝓤 : URA M) (H : Heap 𝓤) (A : Atoms 𝓤) (mem : Mem
 
   abbrev pub Missing : Contract 𝓤
   Missing = tripleOf 𝓤 H A reading-missing.signature (reading-missing.spec 𝓤 H A mem run)
+
+  abbrev pub Made : Contract 𝓤
+  Made = tripleOf 𝓤 H A trial-of.signature (trial-of.spec 𝓤 H A mem run)
 
   module _ (W : Given 𝓤 H A) (held places : ℕ) (gh : held < 2 ^ 64) (gp : places < 2 ^ 64) where
     pub readable-answers : Answers 𝓤 H A (‵ ftrue) (‵ ftrue) Readable ((tt, tt, tt, (held, (places, tt)), (vint w64 held ∷ [], (vint w64 places ∷ [], tt))), tt) usize (readable held places) (vint w64 (readable held places))
@@ -121,3 +128,16 @@ module _ {M : Type 1} (𝓤 : URA M) (H : Heap 𝓤) (A : Atoms 𝓤) (mem : Mem
     says = λ s. exE 𝓤 _ (λ ws. snd∗ 𝓤 (sem 𝓤 H A (lasts reading-missing.ended tt tt ws)) (fact 𝓤 (s ≡ notHeld)));
     tells = λ u is. ap only (LL.tells R.the-type R′.the-laws notHeld (u ∷ []) is);
   }
+
+  module _ (W : Given 𝓤 H A) (number readable place : ℕ) (reading : Reading) (gn : number < 2 ^ 8) (gr : readable < 2 ^ 64) (gp : place < 2 ^ 64) (gd : Is R.the-row reading (LL.vals R.the-type R′.the-laws reading)) where
+    abbrev made : Trial
+    made = trialMade number readable place reading
+
+    pub made-answers : Answers 𝓤 H A (‵ ftrue) (‵ ftrue) Made ((tt, tt, tt, (number, (readable, (place, (reading, tt)))), (vint w8 number ∷ [], (vint w64 readable ∷ [], (vint w64 place ∷ [], (LL.vals R.the-type R′.the-laws reading, tt))))), tt) L.the-row made (LL.val L.the-type L′.the-laws made)
+    made-answers = record {
+      asks = qed W (‵ ftrue ∷ []) ∵ nothing ! $ owned ! R.the-row (Is R.the-row) (LL.makes R.the-type R′.the-plain 𝓤 H A) reading _ gd $ fjoin ! $ owned ! usize (Is usize) (uint-makes 𝓤 H A W w64) place _ (refl, gp) $ fjoin ! $ owned ! usize (Is usize) (uint-makes 𝓤 H A W w64) readable _ (refl, gr) $ fjoin ! $ owned ! u8 (Is u8) (uint-makes 𝓤 H A W w8) number _ (refl, gn) $ fjoin ! $ move ! (1 ∷ 0 ∷ []) $ join ! $ frame ! $ done !;
+      Said = ensured 𝓤 H A trial-of.ended (trial-of.clauses 𝓤 H A mem run) tt (number, (readable, (place, (reading, tt)))) tt;
+      gives = λ u. id⊢ 𝓤 _;
+      says = λ s. exE 𝓤 _ (λ ws. snd∗ 𝓤 (sem 𝓤 H A (lasts trial-of.ended tt (number, (readable, (place, (reading, tt)))) ws)) (fact 𝓤 (s ≡ made)));
+      tells = λ u is. ap only (LL.tells L.the-type L′.the-laws made (u ∷ []) is);
+    }

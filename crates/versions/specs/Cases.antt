@@ -1,6 +1,6 @@
 -- The cases of the definitions, as the code meets them.
 use Prim.Native.Nat.{ℕ, _+_, _≤_, _<_}
-use mathlib.Core.Path.{_≡_, ap, _∙_}
+use mathlib.Core.Path.{_≡_, refl, ap}
 use mathlib.Core.Bool.{true}
 use mathlib.Core.List.{List}
 use native.Mathlib.Omega.{arith}
@@ -11,7 +11,7 @@ use Rattle.ranges.specs.Tests.{by-test, both-right}
 use Rattle.keys.specs.declared.Key.{Key}
 use Rattle.tables.specs.Layout.{serverPlaces}
 use Rattle.versions.specs.declared.Version.{Version}
-use Rattle.versions.specs.Table.{versionAt, roomFor, appendNumber, appendTable, heldAfter, lesser, readable, firstBearing, foundAt, notHeld, readingOf, trialOf}
+use Rattle.versions.specs.Table.{versionAt, roomFor, appendNumber, appendTable, heldAfter, lesser, readable, firstBearing, foundAt, notHeld, readingOf, trialMade, trialIn, trialOf}
 
 module _ (m n : ℕ) where
   pub lesser-one : m < n → m ≡ lesser m n
@@ -93,10 +93,19 @@ module _ (versions : List Version) (held : ℕ) (key : Key) where
   unfolding readingOf
   reading-missing h = rw (le-ltb (firstBearing versions held key) (readable held (length versions)) h)
 
--- a trial is what is read in the table that the append leaves, for any table that is the one filled
-pub trial-is : (blank : Version) (held : ℕ) (version : Version) (key : Key) (versions : List Version) → versions ≡ replicate 4096 blank → length versions ≡ 4096
-    → readingOf (appendTable versions held version) (heldAfter held (appendNumber held (length versions))) key ≡ trialOf blank held version key
-unfolding trialOf
-trial-is blank held version key versions filled l =
-    ap (λ (m : ℕ). readingOf (appendTable versions held version) (heldAfter held (appendNumber held m)) key) l
-    ∙ ap (λ (vs : List Version). readingOf (appendTable vs held version) (heldAfter held (appendNumber held 4096)) key) filled
+-- a trial in any table
+module _ (versions : List Version) (held : ℕ) (version : Version) (key : Key) where
+  abbrev number : ℕ
+  number = appendNumber held (length versions)
+
+  abbrev left : List Version
+  left = appendTable versions held version
+
+  pub trial-is : trialMade number (readable (heldAfter held number) (length left)) (firstBearing left (heldAfter held number) key) (readingOf left (heldAfter held number) key) ≡ trialIn versions held version key
+  unfolding trialIn
+  trial-is = refl
+
+  -- the table filled with one version
+  pub trial-filled : (blank : Version) → versions ≡ replicate 4096 blank → trialIn versions held version key ≡ trialOf blank held version key
+  unfolding trialOf
+  trial-filled blank e = ap (λ (vs : List Version). trialIn vs held version key) e

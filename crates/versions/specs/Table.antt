@@ -10,6 +10,7 @@ use Rattle.keys.specs.Keys.{opening, sameKey}
 use Rattle.tables.specs.Layout.{serverPlaces}
 use Rattle.versions.specs.declared.Version.{Version}
 use Rattle.versions.specs.declared.Reading.{Reading}
+use Rattle.versions.specs.declared.Trial.{Trial}
 
 -- what `getD` gives past the end of a table; no answer below depends on it
 abbrev pub noVersion : Version
@@ -64,6 +65,17 @@ readingOf versions held key =
     (foundAt (versionAt versions (firstBearing versions held key)))
     notHeld
 
--- A table of 4096 places that all hold one version takes another behind those held; then a key is looked up in it.
-unfoldable pub trialOf : Version → ℕ → Version → Key → Reading
-trialOf blank held version key = readingOf (appendTable (replicate 4096 blank) held version) (heldAfter held (appendNumber held 4096)) key
+-- A trial: a table takes a version behind those held; then it is told how many can be read, and where and what a key is.
+abbrev pub trialMade : ℕ → ℕ → ℕ → Reading → Trial
+trialMade number readable place reading = record { number = number; readable = readable; place = place; reading = reading }
+
+unfoldable pub trialIn : List Version → ℕ → Version → Key → Trial
+trialIn versions held version key =
+    let number = appendNumber held (length versions) in
+    let after = heldAfter held number in
+    let left = appendTable versions held version in
+    trialMade number (readable after (length left)) (firstBearing left after key) (readingOf left after key)
+
+-- "The yard program fills its 16 × 256 version places": 4096 of them, all with one version
+unfoldable pub trialOf : Version → ℕ → Version → Key → Trial
+trialOf blank held version key = trialIn (replicate 4096 blank) held version key

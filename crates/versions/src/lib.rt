@@ -4,7 +4,7 @@
 // decided to functions on plain values.
 ghost use mathlib.Core.Path.{_≡_};
 ghost use lib.ListN.{length};
-ghost use Rattle.versions.specs.Table.{lesser, readable, appendNumber, appendTable, bears, firstBearing, foundAt, notHeld, readingOf, heldAfter, trialOf};
+ghost use Rattle.versions.specs.Table.{lesser, readable, appendNumber, appendTable, bears, firstBearing, foundAt, notHeld, readingOf, heldAfter, trialMade, trialOf};
 use keys::Key;
 
 // A version: the key of the WRITE that it came with, and its setpoint.
@@ -133,13 +133,36 @@ pub fn setpoint_of(versions: &[Version], held: usize, key: Key) -> Reading
     reading_missing()
 }
 
+// What a trial found: what the append answered, how many can be read then, where the key stands, and what is read of it.
+pub struct Trial {
+    pub number: u8,
+    pub readable: usize,
+    pub place: usize,
+    pub reading: Reading,
+}
+
+pub fn trial_of(number: u8, readable: usize, place: usize, reading: Reading) -> Trial
+    ensures { λ r. ⌜ r ≡ trialMade number readable place reading ⌝ }
+{
+    Trial {
+        number: number,
+        readable: readable,
+        place: place,
+        reading: reading,
+    }
+}
+
 // A table of one's own, filled with a version, takes another behind those held; then a key is looked up in it.
-// Its parameters are plain, so that functions which the borrow checker covers can call it.
-pub fn trial(blank: Version, held: usize, version: Version, key: Key) -> Reading
+// The parameters are plain, so that functions which the borrow checker covers can call it.
+pub fn append_and_read(blank: Version, held: usize, version: Version, key: Key) -> Trial
     ensures { λ r. ⌜ r ≡ trialOf blank held version key ⌝ }
 {
     let mut table = [blank; 4096];
     let number = append(&mut table, held, version);
     let after = held_after(held, number);
-    setpoint_of(&table, after, key)
+    let lent: &[Version] = &table;
+    let readable = held_now(lent, after);
+    let place = find(lent, after, key);
+    let reading = setpoint_of(lent, after, key);
+    trial_of(number, readable, place, reading)
 }
