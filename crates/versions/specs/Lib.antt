@@ -2,3 +2,4 @@
 pub mod Table
 pub mod Cases
 pub mod Core
+pub mod CoreLaws

@@ -1,6 +1,6 @@
 -- "A station's versions are lent as a table of records (key, setpoint) in order of arrival, at most 256". How many are held is a number beside the table.
 use Prim.Native.Nat.{ℕ, _+_}
-use mathlib.Core.Bool.{Bool, true, false, cond, _&&_}
+use mathlib.Core.Bool.{Bool, cond, _&&_}
 use mathlib.Core.List.{List}
 use lib.ListN.{length, set, getD, replicate}
 use lib.Dec.{ltb, eqb}
@@ -30,7 +30,7 @@ appendNumber held places = cond (roomFor held places) 0 8
 unfoldable pub appendTable : List Version → ℕ → Version → List Version
 appendTable versions held version = cond (roomFor held (length versions)) (set versions held version) versions
 
--- one more is held after an append that answered 0
+-- One more is held after an append that answered 0. It answers 0 only where fewer than 256 were held; the test is asked again, so that the sum is defined for every pair of numbers.
 unfoldable pub heldAfter : ℕ → ℕ → ℕ
 heldAfter held number = cond (eqb number 0 && ltb held serverPlaces) (held + 1) held
 

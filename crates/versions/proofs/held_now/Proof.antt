@@ -1,6 +1,6 @@
 -- `versions::held_now` meets its contract: a walk of its code. The length is read out of the slice, and `readable_of` answers; the versions are not touched.
 -- Assumes nothing.
-use mathlib.Core.Path.{_≡_, refl}
+use mathlib.Core.Path.{refl}
 use Prim.Native.Nat.{ℕ, _<_, _^_}
 use mathlib.Core.List.{List, [], _∷_}
 use lib.ListN.{length}
@@ -15,7 +15,7 @@ use prog.Wp.{Heap, Calls, Loops, WpFn, Tables}
 use ghost.Atoms.{Atoms}
 use contract.Monad.{Fun}
 use contract.Running.{givenOf, tables, tablesOf}
-use types.Kit.{Given, ‵, _⊛_, ⋆, _$_, _∵_, !, qed, by, move, suffices, frame, done}
+use types.Kit.{Given, ‵, _⊛_, ⋆, _$_, _∵_, !, qed, by, suffices, frame, done}
 use types.Part.{whole, sub, look-in}
 use types.Run.{look, init, stop, fld, from, load, of-opd, and-then, no-more, assigns, land, returns, enter, alloc1, alloc0, params1, pass1, pass0, free0}
 use sound.WpLaws.{FmC, fmOf, WpFn-mono}
@@ -26,7 +26,7 @@ use denote.Builtin.{usize}
 use denote.Ref.{RefT}
 use denote.Slice.{sliceVal, ShrSlice, Room, slice-vals, shr-slice-tells}
 use denote.Signature.{plain}
-use denote.Steps.{owned, nothing}
+use denote.Steps.{owned}
 use denote.Triple.Entry.{Vals, onEntry}
 use denote.Triple.Spec.{Meets, tripleOf}
 use denote.Triple.Statement.{Triple}
