@@ -6,6 +6,7 @@ ghost use mathlib.Core.Path.{_≡_};
 ghost use lib.ListN.{length};
 ghost use Rattle.versions.specs.Table.{lesser, readable, appendNumber, appendTable, bears, firstBearing, foundAt, notHeld, readingOf, heldAfter, trialMade, trialOf};
 use keys::Key;
+use tables::versions::PLACES;
 
 // A version: the key of the WRITE that it came with, and its setpoint.
 pub struct Version {
@@ -19,35 +20,15 @@ pub struct Reading {
     pub setpoint: u32,
 }
 
-// The most versions that a server holds.
-pub const PLACES: usize = 256;
-
-// How many of the held versions can be read: the lent table may be shorter than the number beside it says.
-pub fn readable_of(held: usize, places: usize) -> usize
-    ensures { λ r. ⌜ r ≡ readable held places ⌝ }
+// Appends a version behind those held. Where 256 are held or the lent table is too short, nothing changes and the answer is 8.
+pub fn append(versions: &mut [Version], held: usize, version: Version) -> u8
+    ensures { λ r. ⌜ (r ≡ appendNumber held (length (now (versions .entry)))) × (now (versions .exit) ≡ appendTable (now (versions .entry)) held version) ⌝ }
 {
-    lesser_of(held, lesser_of(places, PLACES))
-}
-
-fn lesser_of(one: usize, other: usize) -> usize
-    ensures { λ r. ⌜ r ≡ lesser one other ⌝ }
-{
-    if one < other {
-        return one;
+    let number = append_number(held, versions.len());
+    if number == 0 {
+        versions[held] = version;
     }
-    other
-}
-
-// The number that an append answers: 0 where it is done, 8 where there is no place left.
-pub fn append_number(held: usize, places: usize) -> u8
-    ensures { λ r. ⌜ r ≡ appendNumber held places ⌝ }
-{
-    if held < PLACES {
-        if held < places {
-            return 0;
-        }
-    }
-    8
+    number
 }
 
 // How many are held after an append that answered a number.
@@ -60,44 +41,6 @@ pub fn held_after(held: usize, number: u8) -> usize
         }
     }
     held
-}
-
-// Whether a version bears a key.
-pub fn bears_key(version: Version, key: Key) -> bool
-    ensures { λ r. ⌜ r ≡ bears version key ⌝ }
-{
-    let own = version.key;
-    own.same(key)
-}
-
-// What a look-up answers where a version bears the key, and where none does.
-pub fn reading_found(version: Version) -> Reading
-    ensures { λ r. ⌜ r ≡ foundAt version ⌝ }
-{
-    Reading {
-        number: 0,
-        setpoint: version.setpoint,
-    }
-}
-
-pub fn reading_missing() -> Reading
-    ensures { λ r. ⌜ r ≡ notHeld ⌝ }
-{
-    Reading {
-        number: 8,
-        setpoint: 0,
-    }
-}
-
-// Appends a version behind those held. Where 256 are held or the lent table is too short, nothing changes and the answer is 8.
-pub fn append(versions: &mut [Version], held: usize, version: Version) -> u8
-    ensures { λ r. ⌜ (r ≡ appendNumber held (length (now (versions .entry)))) × (now (versions .exit) ≡ appendTable (now (versions .entry)) held version) ⌝ }
-{
-    let number = append_number(held, versions.len());
-    if number == 0 {
-        versions[held] = version;
-    }
-    number
 }
 
 // How many are held at this moment and can be read.
@@ -133,6 +76,63 @@ pub fn setpoint_of(versions: &[Version], held: usize, key: Key) -> Reading
     reading_missing()
 }
 
+// What is decided, on plain values.
+
+// How many of the held versions can be read: the lent table may be shorter than the number beside it says.
+fn readable_of(held: usize, places: usize) -> usize
+    ensures { λ r. ⌜ r ≡ readable held places ⌝ }
+{
+    lesser_of(held, lesser_of(places, PLACES))
+}
+
+fn lesser_of(one: usize, other: usize) -> usize
+    ensures { λ r. ⌜ r ≡ lesser one other ⌝ }
+{
+    if one < other {
+        return one;
+    }
+    other
+}
+
+// The number that an append answers: 0 where it is done, 8 where there is no place left.
+fn append_number(held: usize, places: usize) -> u8
+    ensures { λ r. ⌜ r ≡ appendNumber held places ⌝ }
+{
+    if held < PLACES {
+        if held < places {
+            return 0;
+        }
+    }
+    8
+}
+
+// Whether a version bears a key.
+fn bears_key(version: Version, key: Key) -> bool
+    ensures { λ r. ⌜ r ≡ bears version key ⌝ }
+{
+    let own = version.key;
+    own.same(key)
+}
+
+// What a look-up answers where a version bears the key, and where none does.
+fn reading_found(version: Version) -> Reading
+    ensures { λ r. ⌜ r ≡ foundAt version ⌝ }
+{
+    Reading {
+        number: 0,
+        setpoint: version.setpoint,
+    }
+}
+
+fn reading_missing() -> Reading
+    ensures { λ r. ⌜ r ≡ notHeld ⌝ }
+{
+    Reading {
+        number: 8,
+        setpoint: 0,
+    }
+}
+
 // What a trial found: what the append answered, how many can be read then, where the key stands, and what is read of it.
 pub struct Trial {
     pub number: u8,
@@ -141,7 +141,7 @@ pub struct Trial {
     pub reading: Reading,
 }
 
-pub fn trial_of(number: u8, readable: usize, place: usize, reading: Reading) -> Trial
+fn trial_of(number: u8, readable: usize, place: usize, reading: Reading) -> Trial
     ensures { λ r. ⌜ r ≡ trialMade number readable place reading ⌝ }
 {
     Trial {

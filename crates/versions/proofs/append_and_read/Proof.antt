@@ -207,14 +207,18 @@ module _ {M : Type 1} (𝓤 : URA M) (H : Heap 𝓤) (A : Atoms 𝓤) (W : Given
             ∷ Lent j (‵ (fat fullShare slice-imm l₈ 0 (sliceVal (l₅, 0) (length zs))) ∷ ‵ (fdies slice-imm l₈) ∷ Counted)) (runs C Λ En pieces.t-8 (atRet En Post))
         looks =
             move ! (1 ∷ []) $ use1 W (‵ Own ⊛ ‵ Own) twice $ split ! $ move ! (2 ∷ 0 ∷ []) $ join ! $
+            -- let readable = held_now(lent, after);
             calls-lent ! fm (known .now) (now-answers 𝓤 H A at-mem run W (α ∷ []) fullShare l₅ 0 δ zs m gm) (and-then ! (load ! (from ! (stop !)) (look ! 15 refl)) (and-then ! (load ! (from ! (stop !)) (look ! 17 refl)) (no-more !))) (λ is-readable.
             land ! (from ! (stop !)) (init ! 13 refl (tt, record { fits = is-readable .1 })) $
             move ! (1 ∷ []) $ use1 W (‵ Own ⊛ ‵ Own) twice $ split ! $ move ! (2 ∷ 0 ∷ []) $ join ! $
+            -- let place = find(lent, after, key);
             calls-lent ! fm (known .find) (find-answers 𝓤 H A at-mem run W (α ∷ []) fullShare l₅ 0 δ zs m gm k gk) (and-then ! (load ! (from ! (stop !)) (look ! 15 refl)) (and-then ! (load ! (from ! (stop !)) (look ! 17 refl)) (and-then ! (load ! (from ! (stop !)) (look ! 22 refl)) (no-more !)))) (λ is-place.
             land ! (from ! (stop !)) (init ! 11 refl (tt, record { fits = is-place .1 })) $
             move ! (1 ∷ []) $ use1 W (‵ Own ⊛ ‵ Own) twice $ split ! $ move ! (2 ∷ 0 ∷ []) $ join ! $
+            -- let reading = setpoint_of(lent, after, key);
             calls-lent ! fm (known .setpoint) (setpoint-answers 𝓤 H A at-mem run W (α ∷ []) fullShare l₅ 0 δ zs m gm k gk) (and-then ! (load ! (from ! (stop !)) (look ! 15 refl)) (and-then ! (load ! (from ! (stop !)) (look ! 17 refl)) (and-then ! (load ! (from ! (stop !)) (look ! 22 refl)) (no-more !)))) (λ is-reading.
             land ! (from ! (stop !)) (init ! 9 refl (LL.lawful R.the-type R′.the-laws 𝓤 H A W .typed (readingOf zs m k) _ is-reading .0)) $
+            -- trial_of(number, readable, place, reading)
             calls-plain ! fm (known .made) (made-answers 𝓤 H A at-mem run W number (readable m (length zs)) (firstBearing zs m k) (readingOf zs m k) gnumber (is-readable .1) (is-place .1) is-reading) (and-then ! (load ! (from ! (stop !)) (look ! 20 refl)) (and-then ! (load ! (from ! (stop !)) (look ! 14 refl)) (and-then ! (load ! (from ! (stop !)) (look ! 12 refl)) (and-then ! (load ! (from ! (stop !)) (look ! 10 refl)) (no-more !))))) (λ is.
             land ! (from ! (stop !)) (init ! 30 refl (LL.lawful L.the-type L′.the-laws 𝓤 H A W .typed found _ is .0)) $
             -- the lifetime is ended, and the array is the function's own again
@@ -225,9 +229,11 @@ module _ {M : Type 1} (𝓤 : URA M) (H : Heap 𝓤) (A : Atoms 𝓤) (W : Given
 
       reads : Sq W (‵ (row T.the-row fullShare zs l₅ 0) ∷ ‵ (froom array-imm l₁₄ 0) ∷ ‵ (fdies array-imm l₁₄) ∷ Lent j (‵ (froom slice-imm l₈ 0) ∷ ‵ (fdies slice-imm l₈) ∷ Counted)) (runs C Λ En pieces.t-6 (atRet En Post))
       reads =
+          -- let lent: &[Version] = &table;
           assigns ! (addr ! (from ! (stop !))) (from ! (stop !)) (init ! 1 refl (tt, tt)) $
           assigns ! (agg ! (and-then ! (load ! (from ! (stop !)) (look ! 1 refl)) (and-then ! (big-lit ! (record { fits = lit< tt })) (no-more !)))) (from ! (stop !)) (init ! 13 refl (tt, (tt, (record { fits = lit< tt }, tt)))) $
           rewrite ! 13 (λ (i : ℕ). ‵ (fat fullShare slice-imm l₈ 0 (sliceVal (l₅, 0) i))) (sym len) refl $
+          -- the array is lent as a `&` slice for a lifetime of the three calls
           feqI ! ℕ (length zs) (length zs) refl $ fjoin ! $ lft-new ! tt (λ α. move ! (1 ∷ []) $ use1 W (later (some (λ (δ : GName). ‵ (Own α δ) ⊛ ‵ (flent (α ∷ []) (arr-parts (shares T.the-row) (length zs) .part fullShare zs l₅ 0))))) (lends-shr-slice 𝓤 H A W T.the-row (named 0) (α ∷ []) fullShare zs l₅ 0 (has-room zs len)) $ await ! tt $ pick ! (λ δ. split ! $
           nothing ! $ move ! (3 ∷ 0 ∷ []) $ join ! $ looks α δ))
 
@@ -255,7 +261,9 @@ module _ {M : Type 1} (𝓤 : URA M) (H : Heap 𝓤) (A : Atoms 𝓤) (W : Given
 
       on : Sq W (‵ (cells (mem T.the-row) ys l₅ 0) ∷ ‵ (froom array-imm l₁₄ 0) ∷ ‵ (fdies array-imm l₁₄) ∷ Lent (length ys) (‵ (froom slice-imm l₈ 0) ∷ ‵ (fdies slice-imm l₈) ∷ ‵ (froom (tyInt w64) l₇ 0) ∷ ‵ (fdies (tyInt w64) l₇) ∷ ‵ (froom (tyInt w8) l₆ 0) ∷ ‵ (fdies (tyInt w8) l₆) ∷ Kept)) (runs C Λ En pieces.t-4 (atRet En Post))
       on =
+          -- the array is lent as a `&mut` slice for a lifetime of the call
           lft-new ! tt (λ α. move ! (1 ∷ []) $ use1 W (later (some (λ (γ : GName). ‵ (MutSlice (named 0) (α ∷ []) T.the-row .own (x ys γ) (s ys ∷ [])) ⊛ ‵ (flent (α ∷ []) (Held T.the-row (length ys) l₅ 0 γ))))) (lends-slice 𝓤 H A W T.the-row (named 0) (α ∷ []) ys l₅ 0 (has-room ys len)) $ await ! tt $ pick ! (λ γ. split ! $ move ! (2 ∷ 0 ∷ []) $ use2 W (raw (App 𝓤 H A at-mem run .pre (to-app α γ))) (goes-app α γ) $
+          -- let number = append(&mut table, held, version);
           calls-at ! fm (App 𝓤 H A at-mem run) (known .app) (to-app α γ) (and-then ! (load ! (from ! (stop !)) (look ! 4 refl)) (and-then ! (load ! (from ! (stop !)) (look ! 25 refl)) (and-then ! (load ! (from ! (stop !)) (look ! 23 refl)) (no-more !)))) (λ u.
           use1 W (later (some (λ (r : ℕ). ((‵ (flft (α ∷ []) fullShare) ⊛ ‵ ftrue) ⊛ ‵ (u8 .own r (u ∷ []))) ⊛ raw (ensured 𝓤 H A app.ended (app.clauses 𝓤 H A at-mem run) (α ∷ [], tt) (x ys γ, (n, (w, tt))) tt r)))) (id⊢ 𝓤 _) $ await ! tt $ pick ! (λ r. split ! $ move ! (1 ∷ []) $
           use1 W (some (λ (ls : List Version × (Unit {0} × (Unit {0} × Unit {0}))). ‵ (lasts app.ended (α ∷ [], tt) (x ys γ, (n, (w, tt))) ls) ⊛ raw (fact 𝓤 ((r ≡ number) × (ls .0 ≡ zs))))) (id⊢ 𝓤 _) $ pick ! (λ ls. split ! $ move ! (1 ∷ []) $ heard ! ((r ≡ number) × (ls .0 ≡ zs)) (λ e.
@@ -265,6 +273,7 @@ module _ {M : Type 1} (𝓤 : URA M) (H : Heap 𝓤) (A : Atoms 𝓤) (W : Given
           -- the lifetime is ended, and the table is the function's own again
           move ! (1 ∷ []) $ lft-end ! tt $ move ! (0 ∷ 5 ∷ 3 ∷ []) $ use3 W (later (‵ (Arr (mem T.the-row) (length ys) .lies zs l₅ 0))) (slice-back 𝓤 H A W T.the-row (α ∷ []) γ zs (length ys) l₅ 0) $ await ! tt $ fsplit ! $ drop ! $ use1 W (‵ (row T.the-row fullShare zs l₅ 0)) (whole-out 𝓤 H A W T.the-row zs l₅ 0) $
           move ! (1 ∷ 2 ∷ 3 ∷ []) $ drop ! $ drop ! $ drop ! $
+          -- let after = held_after(held, number);
           calls-plain ! fm (known .after) (after-answers 𝓤 H A at-mem run W n number gn (number-fits r (e .0) (is .1))) (and-then ! (load ! (from ! (stop !)) (look ! 25 refl)) (and-then ! (load ! (from ! (stop !)) (look ! 18 refl)) (no-more !))) (λ is-after.
           land ! (from ! (stop !)) (init ! 15 refl (tt, record { fits = is-after .1 })) $
           reads zs (append-length ys n w ∙ len) (heldAfter n number) (is-after .1) (length ys) number (number-fits r (e .0) (is .1)) (trial-is ys n w k ∙ trial-filled ys n w k v is-ys))))))))))
@@ -279,6 +288,7 @@ module _ {M : Type 1} (𝓤 : URA M) (H : Heap 𝓤) (A : Atoms 𝓤) (W : Given
       owned ! T.the-row (Is T.the-row) (LL.makes T.the-type T′.the-plain 𝓤 H A) v _ gv $
       use1 W (‵ (Array T.the-row 4096 .own (replicate 4096 v) (arrayVal (replicate 4096 (mach v)) ∷ []))) (array-repeat 𝓤 H A W T.the-row (LL.copy T.the-type T′.the-copy 𝓤 H A W) 4096 v (mach v)) $
       peeks ! (Array T.the-row 4096) (Is (Array T.the-row 4096)) (shows 𝓤 H A (Array T.the-row 4096)) (replicate 4096 v) (arrayVal (replicate 4096 (mach v)) ∷ []) (λ is.
+      -- let mut table = [blank; 4096];
       assigns ! (rep ! 4096 (load ! (from ! (stop !)) (look ! 27 refl))) (from ! (stop !)) (init ! 19 refl (array-lawful 𝓤 H A W T.the-row (LL.lawful T.the-type T′.the-laws 𝓤 H A W) 4096 .typed (replicate 4096 v) (arrayVal (replicate 4096 (mach v)) ∷ []) is .0)) $
       assigns ! (addr ! (from ! (stop !))) (from ! (stop !)) (init ! 5 refl (tt, tt)) $
       assigns ! (agg ! (and-then ! (load ! (from ! (stop !)) (look ! 5 refl)) (and-then ! (big-lit ! (record { fits = lit< tt })) (no-more !)))) (from ! (stop !)) (init ! 3 refl (tt, (tt, (record { fits = lit< tt }, tt)))) $

@@ -164,6 +164,7 @@ module _ {M : Type 1} (𝓤 : URA M) (H : Heap 𝓤) (A : Atoms 𝓤) (W : Given
     turns : (i t : ℕ) (p : i + t ≡ n) (e : Sought hits n i) → Sq W (At (i, (t, (p, e)))) (runs C Λ En pieces.turn-1 (anyQ (Turned (i, (t, (p, e))))))
     unfolding afterTurn
     turns i zero p e =
+        -- place < readable fails: all are done, and readable is answered
         assigns ! (bin ! (load ! (from ! (stop !)) (look ! 18 refl)) (load ! (from ! (stop !)) (look ! 20 refl)) tt) (from ! (stop !)) (init ! 14 refl (tt, tt)) $
         rewrite ! 14 (λ (z : Bool). ‵ (fat fullShare tyBool l₇ 0 (vbool z))) (le-ltb i n (at-end i n p)) refl $
         leaves-loop ! (load ! (from ! (stop !)) (look ! 14 refl)) $ exec ! C Λ En pieces.t-5 (atRet En Post) $
@@ -175,8 +176,10 @@ module _ {M : Type 1} (𝓤 : URA M) (H : Heap 𝓤) (A : Atoms 𝓤) (W : Given
         is-end i n e = omega arith
     turns i (suc t) p e =
         let l = below i t n p in let l′ = within i n (length ys) l (readable-within held (length ys)) in
+        -- place < readable holds
         assigns ! (bin ! (load ! (from ! (stop !)) (look ! 18 refl)) (load ! (from ! (stop !)) (look ! 20 refl)) tt) (from ! (stop !)) (init ! 14 refl (tt, tt)) $
         rewrite ! 14 (λ (z : Bool). ‵ (fat fullShare tyBool l₇ 0 (vbool z))) (lt-ltb i n l) refl $
+        -- versions[place]
         stays ! (load ! (from ! (stop !)) (look ! 14 refl)) $
         assigns ! (bin ! (load ! (from ! (stop !)) (look ! 18 refl)) (lit ! tt) (record { fits = place-fits (length ys) i (room .1) l′ })) (from ! (stop !)) (init ! 10 refl (tt, record { fits = place-fits (length ys) i (room .1) l′ })) $
         assigns ! (bin ! (load ! (from ! (fld ! refl (stop !))) (look-in ! 26 (sub ! 0 refl (whole !)))) (load ! (from ! (stop !)) (look ! 10 refl)) tt) (from ! (stop !)) (init ! 8 refl (tt, tt)) $
@@ -185,6 +188,7 @@ module _ {M : Type 1} (𝓤 : URA M) (H : Heap 𝓤) (A : Atoms 𝓤) (W : Given
         -- [versions[place]; what it owns; the others; what shuts; the shared borrow; true; res; versions' fact; held's and key's; _11; …; down to _0; …]
         assigns ! (of-opd ! (load ! (from ! (hop ! (look ! 11 refl) (stop !))) (look-raw ! 0 refl))) (from ! (stop !)) (init ! 9 refl (LL.lawful T.the-type T′.the-laws 𝓤 H A W .typed (versionAt ys i) (vals (versionAt ys i)) g .0)) $
         elem-back ! T.the-row q′ ys i noVersion (vals (versionAt ys i)) b o l′ $ shuts-slice ! tt T.the-row q′ ys b o $ move ! (1 ∷ 0 ∷ []) $
+        -- if bears_key(versions[place], key)
         calls-plain ! (fmOf 𝓤 H (W .laws) 𝓣) known (bears-answers 𝓤 H A mem run W (versionAt ys i) g k gk) (and-then ! (load ! (from ! (stop !)) (look ! 7 refl)) (and-then ! (load ! (from ! (stop !)) (look ! 23 refl)) (no-more !))) (λ is.
         land ! (from ! (stop !)) (init ! 12 refl (tt, tt)) $
         first ! $ branches ! (load ! (from ! (stop !)) (look ! 12 refl))
@@ -192,6 +196,7 @@ module _ {M : Type 1} (𝓤 : URA M) (H : Heap 𝓤) (A : Atoms 𝓤) (W : Given
         returns-within ! Post refl (look ! 28 refl) $ spent ! 28 refl refl $ spent ! 26 refl refl $ spent ! 24 refl refl $ spent ! 22 refl refl $ spent ! 20 refl refl $ spent ! 18 refl refl $ spent ! 16 refl refl $ spent ! 14 refl refl $ spent ! 12 refl refl $ spent ! 10 refl refl $ spent ! 8 refl refl $ spent ! 6 refl refl $ free0 ! $
         move ! (3 ∷ 0 ∷ []) $ fjoin ! $ move ! (3 ∷ 0 ∷ []) $ fjoin ! $ keep ! (1 ∷ 0 ∷ 3 ∷ []) $ by ! (exits i (self-fits i n l gn) (sought-found hits n e (holds (hits i) hit))))
         (λ miss. skips ! $ exec ! C Λ En incr (anyQ (Turned (i, (suc t, (p, e))))) $
+        -- place += 1;
         assigns-last ! (bin ! (load ! (from ! (stop !)) (look ! 18 refl)) (lit ! tt) (record { fits = next-fits i n l gn })) (from ! (stop !)) (store ! 18 refl (tt, record { fits = next-fits i n l gn })) $
         forget ! 6 refl $ forget ! 8 refl $ forget ! 10 refl $ forget ! 12 refl $ forget ! 14 refl $
         again ! Nearer At (i, (suc t, (p, e))) (i + 1, (t, (onward i t n p, sought-more hits n e l (fails (hits i) miss)))) (lt-suc-self t)))))
@@ -211,8 +216,10 @@ module _ {M : Type 1} (𝓤 : URA M) (H : Heap 𝓤) (A : Atoms 𝓤) (W : Given
       move ! (25 ∷ []) $ fsplit ! $ fsplit ! $ move ! (1 ∷ []) $ fsplit ! $ move ! (28 ∷ []) $ split ! $ move ! (3 ∷ 0 ∷ 1 ∷ 2 ∷ []) $
       -- [the shared borrow; the token; true; res; versions' fact; held's and key's; _11; …; down to _0; …]
       assigns ! (of-opd ! (load ! (from ! (fld ! refl (stop !))) (look-in ! 26 (sub ! 1 refl (whole !))))) (from ! (stop !)) (init ! 16 refl (tt, record { fits = room .0 })) $
+      -- let readable = readable_of(held, versions.len());
       calls-plain ! (fmOf 𝓤 H (W .laws) 𝓣) known-readable (readable-answers 𝓤 H A mem run W held (length ys) gh (room .0)) (and-then ! (load ! (from ! (stop !)) (look ! 25 refl)) (and-then ! (load ! (from ! (stop !)) (look ! 17 refl)) (no-more !))) (λ is.
       land ! (from ! (stop !)) (init ! 20 refl (tt, record { fits = is .1 })) $
+      -- let mut place = 0;
       assigns ! (of-opd ! (lit ! tt)) (from ! (stop !)) (init ! 18 refl (tt, record { fits = lit< tt })) $
       runs-loop 𝓣 known-bears room (is .1) gk l₀ l₁ l₂ l₃ l₄ l₅ l₆ l₇ l₈ l₉ l₁₀ l₁₁)))))))))))))
 

@@ -144,6 +144,7 @@ module _ {M : Type 1} (𝓤 : URA M) (H : Heap 𝓤) (A : Atoms 𝓤) (W : Given
     -- no version bears the key
     missing : n ≤ found → Sq W Tested (runs C Λ En pieces.t-6 (atRet En Post))
     missing l =
+        -- reading_missing()
         calls-plain ! (fmOf 𝓤 H (W .laws) 𝓣) known-missing (missing-answers 𝓤 H A mem run W) (no-more !) (λ is.
         land ! (from ! (stop !)) (init ! 23 refl (LL.lawful R.the-type R′.the-laws 𝓤 H A W .typed notHeld _ is .0)) $
         returns ! (look ! 23 refl) $ spent ! 23 refl refl $ spent ! 21 refl refl $ spent ! 19 refl refl $ spent ! 17 refl refl $ spent ! 15 refl refl $ spent ! 13 refl refl $ spent ! 11 refl refl $ spent ! 9 refl refl $ spare ! 7 refl refl $ spare ! 5 refl refl $ spare ! 3 refl refl $ free0 ! $
@@ -153,6 +154,7 @@ module _ {M : Type 1} (𝓤 : URA M) (H : Heap 𝓤) (A : Atoms 𝓤) (W : Given
     tests =
         first ! $ branches ! (load ! (from ! (stop !)) (look ! 9 refl))
         (λ t. let l = ltb-true found n (holds (ltb found n) t) in let l′ = within found n (length ys) l (readable-within held (length ys)) in
+        -- versions[place]
         assigns ! (bin ! (load ! (from ! (stop !)) (look ! 15 refl)) (lit ! tt) (record { fits = place-fits (length ys) found (room .1) l′ })) (from ! (stop !)) (init ! 7 refl (tt, record { fits = place-fits (length ys) found (room .1) l′ })) $
         assigns ! (bin ! (load ! (from ! (fld ! refl (stop !))) (look-in ! 21 (sub ! 0 refl (whole !)))) (load ! (from ! (stop !)) (look ! 7 refl)) tt) (from ! (stop !)) (init ! 5 refl (tt, tt)) $
         rewrite ! 5 (λ (p : ℕ). ‵ (fat fullShare tyPtr l₉ 0 (vptr b p))) (sym (place-is 8 o found)) refl $
@@ -161,6 +163,7 @@ module _ {M : Type 1} (𝓤 : URA M) (H : Heap 𝓤) (A : Atoms 𝓤) (W : Given
         looks-slice ! tt T.the-row (Is T.the-row) (shows 𝓤 H A T.the-row) vals (LL.tells T.the-type T′.the-laws) (LL.copy T.the-type T′.the-copy 𝓤 H A W) ys b o (λ q′. elem-out ! T.the-row (Is T.the-row) (shows 𝓤 H A T.the-row) vals (LL.tells T.the-type T′.the-laws) q′ ys found noVersion b o l′ (λ g.
         assigns ! (of-opd ! (load ! (from ! (hop ! (look ! 11 refl) (stop !))) (look-raw ! 0 refl))) (from ! (stop !)) (init ! 9 refl (LL.lawful T.the-type T′.the-laws 𝓤 H A W .typed (versionAt ys found) (vals (versionAt ys found)) g .0)) $
         elem-back ! T.the-row q′ ys found noVersion (vals (versionAt ys found)) b o l′ $ shuts-slice ! tt T.the-row q′ ys b o $
+        -- return reading_found(versions[place]);
         calls-plain ! (fmOf 𝓤 H (W .laws) 𝓣) known-found (found-answers 𝓤 H A mem run W (versionAt ys found) g) (and-then ! (load ! (from ! (stop !)) (look ! 7 refl)) (no-more !)) (λ is.
         land ! (from ! (stop !)) (init ! 26 refl (LL.lawful R.the-type R′.the-laws 𝓤 H A W .typed (foundAt (versionAt ys found)) _ is .0)) $
         returns-within ! Post refl (look ! 26 refl) $ spent ! 26 refl refl $ spent ! 24 refl refl $ spent ! 22 refl refl $ spent ! 20 refl refl $ spent ! 18 refl refl $ spent ! 16 refl refl $ spent ! 14 refl refl $ spent ! 12 refl refl $ spent ! 10 refl refl $ spent ! 8 refl refl $ spent ! 6 refl refl $ free0 ! $
@@ -174,12 +177,15 @@ module _ {M : Type 1} (𝓤 : URA M) (H : Heap 𝓤) (A : Atoms 𝓤) (W : Given
       alloc1 ! (λ l₀. alloc1 ! (λ l₁. alloc1 ! (λ l₂. alloc1 ! (λ l₃. alloc1 ! (λ l₄. alloc1 ! (λ l₅. alloc1 ! (λ l₆. alloc1 ! (λ l₇. alloc1 ! (λ l₈. alloc1 ! (λ l₉. alloc1 ! (λ l₁₀. alloc0 ! $ params1 ! $
       pass1 ! (init ! 18 refl (tt, (tt, (record { fits = room .0 }, tt)))) $ pass1 ! (init ! 16 refl (tt, record { fits = gh })) $ pass1 ! (init ! 14 refl (LL.lawful K.the-type K′.the-laws 𝓤 H A W .typed k (key-mach ∷ []) gk .0)) $ pass0 ! $
       move ! (23 ∷ []) $ fsplit ! $ use1 W (‵ Own ⊛ ‵ Own) (shr-slice-copy 𝓤 H A W (named 0) κ T.the-row .twice (x .0) (at .0)) $ split ! $ move ! (25 ∷ 0 ∷ []) $ join ! $
+      -- let place = find(versions, held, key);
       calls-lent ! (fmOf 𝓤 H (W .laws) 𝓣) known-find (find-answers 𝓤 H A mem run W κ q b o γ ys held gh k gk) (and-then ! (load ! (from ! (stop !)) (look ! 21 refl)) (and-then ! (load ! (from ! (stop !)) (look ! 19 refl)) (and-then ! (load ! (from ! (stop !)) (look ! 17 refl)) (no-more !)))) (λ is-found.
       -- [the token; what versions owns; held's and key's; _10; …; down to _0; …]
       land ! (from ! (stop !)) (init ! 15 refl (tt, record { fits = is-found .1 })) $
+      -- readable_of(held, versions.len())
       assigns ! (of-opd ! (load ! (from ! (fld ! refl (stop !))) (look-in ! 21 (sub ! 1 refl (whole !))))) (from ! (stop !)) (init ! 11 refl (tt, record { fits = room .0 })) $
       calls-plain ! (fmOf 𝓤 H (W .laws) 𝓣) known-readable (readable-answers 𝓤 H A mem run W held (length ys) gh (room .0)) (and-then ! (load ! (from ! (stop !)) (look ! 20 refl)) (and-then ! (load ! (from ! (stop !)) (look ! 12 refl)) (no-more !))) (λ is-n.
       land ! (from ! (stop !)) (init ! 13 refl (tt, record { fits = is-n .1 })) $
+      -- if place < readable_of(held, versions.len())
       assigns ! (bin ! (load ! (from ! (stop !)) (look ! 15 refl)) (load ! (from ! (stop !)) (look ! 13 refl)) tt) (from ! (stop !)) (init ! 9 refl (tt, tt)) $
       tests 𝓣 known-found known-missing room l₀ l₁ l₂ l₃ l₄ l₅ l₆ l₇ l₈ l₉ l₁₀)))))))))))))
 
