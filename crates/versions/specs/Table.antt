@@ -12,7 +12,7 @@ use Rattle.versions.specs.declared.Version.{Version}
 use Rattle.versions.specs.declared.Reading.{Reading}
 use Rattle.versions.specs.declared.Trial.{Trial}
 
--- what `getD` gives past the end of a table; no answer below depends on it
+-- what `getD` gives past the end of a table: only places that can be read are looked at
 abbrev pub noVersion : Version
 noVersion = record { key = opening; setpoint = 0 }
 
