@@ -1,0 +1,168 @@
+// A station's versions, lent as a table of records in order of arrival. A station is a server here.
+// How many are held is a number beside the table, as in the store's counts: the table alone does not say where the held places end.
+// The borrow checker covers no function over a slice of structs, so those are thin and proved by a walk of their code; they leave what is
+// decided to functions on plain values.
+ghost use mathlib.Core.Path.{_≡_};
+ghost use lib.ListN.{length};
+ghost use Rattle.versions.specs.Table.{lesser, readable, appendNumber, appendTable, bears, firstBearing, foundAt, notHeld, readingOf, heldAfter, trialMade, trialOf};
+use keys::Key;
+use tables::versions::PLACES;
+
+// A version: the key of the WRITE that it came with, and its setpoint.
+pub struct Version {
+    pub key: Key,
+    pub setpoint: u32,
+}
+
+// The setpoint of a key, with number 0. Number 8 where no version held bears the key.
+pub struct Reading {
+    pub number: u8,
+    pub setpoint: u32,
+}
+
+// Appends a version behind those held. Where 256 are held or the lent table is too short, nothing changes and the answer is 8.
+pub fn append(versions: &mut [Version], held: usize, version: Version) -> u8
+    ensures { λ r. ⌜ (r ≡ appendNumber held (length (now (versions .entry)))) × (now (versions .exit) ≡ appendTable (now (versions .entry)) held version) ⌝ }
+{
+    let number = append_number(held, versions.len());
+    if number == 0 {
+        versions[held] = version;
+    }
+    number
+}
+
+// How many are held after an append that answered a number.
+pub fn held_after(held: usize, number: u8) -> usize
+    ensures { λ r. ⌜ r ≡ heldAfter held number ⌝ }
+{
+    if number == 0 {
+        if held < PLACES {
+            return held + 1;
+        }
+    }
+    held
+}
+
+// How many are held at this moment and can be read.
+pub fn held_now(versions: &[Version], held: usize) -> usize
+    ensures { λ r. ⌜ r ≡ readable held (length (now (versions .entry))) ⌝ }
+{
+    readable_of(held, versions.len())
+}
+
+// The first version held that bears a key, and the number that can be read where none does.
+pub fn find(versions: &[Version], held: usize, key: Key) -> usize
+    ensures { λ r. ⌜ r ≡ firstBearing (now (versions .entry)) held key ⌝ }
+{
+    let readable = readable_of(held, versions.len());
+    let mut place = 0;
+    while place < readable {
+        if bears_key(versions[place], key) {
+            return place;
+        }
+        place += 1;
+    }
+    readable
+}
+
+// The setpoint of a key: that of the first version held that bears it.
+pub fn setpoint_of(versions: &[Version], held: usize, key: Key) -> Reading
+    ensures { λ r. ⌜ r ≡ readingOf (now (versions .entry)) held key ⌝ }
+{
+    let place = find(versions, held, key);
+    if place < readable_of(held, versions.len()) {
+        return reading_found(versions[place]);
+    }
+    reading_missing()
+}
+
+// What is decided, on plain values.
+
+// How many of the held versions can be read: the lent table may be shorter than the number beside it says.
+fn readable_of(held: usize, places: usize) -> usize
+    ensures { λ r. ⌜ r ≡ readable held places ⌝ }
+{
+    lesser_of(held, lesser_of(places, PLACES))
+}
+
+fn lesser_of(one: usize, other: usize) -> usize
+    ensures { λ r. ⌜ r ≡ lesser one other ⌝ }
+{
+    if one < other {
+        return one;
+    }
+    other
+}
+
+// The number that an append answers: 0 where it is done, 8 where there is no place left.
+fn append_number(held: usize, places: usize) -> u8
+    ensures { λ r. ⌜ r ≡ appendNumber held places ⌝ }
+{
+    if held < PLACES {
+        if held < places {
+            return 0;
+        }
+    }
+    8
+}
+
+// Whether a version bears a key.
+fn bears_key(version: Version, key: Key) -> bool
+    ensures { λ r. ⌜ r ≡ bears version key ⌝ }
+{
+    let own = version.key;
+    own.same(key)
+}
+
+// What a look-up answers where a version bears the key, and where none does.
+fn reading_found(version: Version) -> Reading
+    ensures { λ r. ⌜ r ≡ foundAt version ⌝ }
+{
+    Reading {
+        number: 0,
+        setpoint: version.setpoint,
+    }
+}
+
+fn reading_missing() -> Reading
+    ensures { λ r. ⌜ r ≡ notHeld ⌝ }
+{
+    Reading {
+        number: 8,
+        setpoint: 0,
+    }
+}
+
+// What a trial found: what the append answered, how many can be read then, where the key stands, and what is read of it.
+pub struct Trial {
+    pub number: u8,
+    pub readable: usize,
+    pub place: usize,
+    pub reading: Reading,
+}
+
+fn trial_of(number: u8, readable: usize, place: usize, reading: Reading) -> Trial
+    ensures { λ r. ⌜ r ≡ trialMade number readable place reading ⌝ }
+{
+    Trial {
+        number: number,
+        readable: readable,
+        place: place,
+        reading: reading,
+    }
+}
+
+// A table of one's own, filled with a version, takes another behind those held; then a key is looked up in it.
+// The parameters are plain, so that functions which the borrow checker covers can call it.
+pub fn append_and_read(blank: Version, held: usize, version: Version, key: Key) -> Trial
+    ensures { λ r. ⌜ r ≡ trialOf blank held version key ⌝ }
+{
+    let mut table = [blank; 4096];
+    let number = append(&mut table, held, version);
+    let after = held_after(held, number);
+    let lent: &[Version] = &table;
+    let readable = held_now(lent, after);
+    let place = find(lent, after, key);
+    let reading = setpoint_of(lent, after, key);
+    trial_of(number, readable, place, reading)
+}
