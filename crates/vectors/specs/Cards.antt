@@ -1,0 +1,96 @@
+-- Document 01's starred cards, one checked table: each with its sentence.
+use Prim.Native.Nat.{ℕ}
+use mathlib.Core.Path.{_≡_, refl}
+use mathlib.Core.List.{List, [], _∷_}
+use lib.ListN.{replicate}
+use Rattle.ranges.specs.All.{allBelow, anyBelow}
+use Rattle.ranges.specs.Sum.{sumBelow}
+use Rattle.ranges.specs.First.{firstFrom}
+use Rattle.ranges.specs.Last.{lastBelow}
+use Rattle.ranges.specs.Turns.{turns}
+use Rattle.keys.specs.Keys.{keyOf}
+use Rattle.tables.specs.Links.{linkAt, putLink}
+use Rattle.tables.specs.Tables.{stepOf}
+use Rattle.server.specs.Held.{appended}
+use Rattle.coordinator.specs.Log.{entered}
+use Rattle.coordinator.specs.Latest.{latestKey}
+use Rattle.coordinator.specs.Cards.{log-card}
+use Rattle.rules.specs.declared.Answer.the-variants as answer
+use Rattle.rules.specs.declared.Arrival.the-variants as arrival
+use Rattle.rules.specs.declared.Delivered.{Delivered}
+use Rattle.rules.specs.Begin.{begunWrite, begunRead}
+use Rattle.rules.specs.Choice.{chosenTag}
+use Rattle.rules.specs.Request.{onSet, onEnter, onWhichKeys, onGet, onGetAll, onRequestIn, requestDelivered}
+use Rattle.rules.specs.Reply.{onSetDone, onEntered, onKeys, onGot, onAll, onReplyIn, replyDelivered}
+use Rattle.soundness.specs.Sound.{longEnough, pressFits, scalarsSound, keyInRange, serverSound, entrySound, logSound, stateAllowed, uses, requestSound, replySound, contentSound, linkSound, receivedSound, clientSound, writeSound, readSound, openSound, recordsSound, sound}
+use Rattle.refusals.specs.Refusals.{openRefusal, writeRefusal, readRefusal, deliveryRefusal}
+use Rattle.refusals.specs.Steps.{open′, beginWrite, beginRead, deliverRequest, deliverReply}
+use Rattle.frames.specs.declared.Message.the-variants.{Set}
+use Rattle.frames.specs.declared.Reading.the-variants.{Read, Refused}
+use Rattle.frames.specs.Frames.{frameOf}
+use Rattle.frames.specs.Vectors as frame
+use Rattle.vectors.specs.Presses.{blank, openingSetpoints, setpointsA, opened, after, busy, overtaken, swapped, logOfOne, logOfTwo, heldWithoutA}
+
+-- a READ's answer: its tag, and the setpoints of servers 0 and 1; 0 where it did not ask
+abbrev pub shows : ℕ → ℕ → ℕ → Delivered
+shows tag x y = record { arrival = arrival.Read tag; setpoints = x ∷ y ∷ replicate 14 0 }
+
+pub record Cards : Type 0 where
+  -- "Kind 1, panel 2, station 3, key (1, 2), 1800 is, in hexadecimal, 12 18 09 00 00 03 84 00."
+  pub frame-written : frameOf (Set 2 3 (keyOf 1 2) 1800) [] [] ≡ 0x12 ∷ 0x18 ∷ 0x09 ∷ 0x00 ∷ 0x00 ∷ 0x03 ∷ 0x84 ∷ 0x00 ∷ []
+  pub frame-read : frame.reads (0x12 ∷ 0x18 ∷ 0x09 ∷ 0x00 ∷ 0x00 ∷ 0x03 ∷ 0x84 ∷ 0x00 ∷ []) ≡ Read (Set 2 3 (keyOf 1 2) 1800)
+  -- "Last byte 01: 11."
+  pub last-byte-01 : frame.reads (0x12 ∷ 0x18 ∷ 0x09 ∷ 0x00 ∷ 0x00 ∷ 0x03 ∷ 0x84 ∷ 0x01 ∷ []) ≡ Refused 11
+  -- "Another 00 behind: 11."
+  pub another-00 : frame.reads (0x12 ∷ 0x18 ∷ 0x09 ∷ 0x00 ∷ 0x00 ∷ 0x03 ∷ 0x84 ∷ 0x00 ∷ 0x00 ∷ []) ≡ Refused 11
+  -- "No bytes: 10."
+  pub no-bytes : frame.reads [] ≡ Refused 10
+  -- "Method 1, p 1: 1; p 2 opens."
+  pub one-client : open′ 1 2 1 openingSetpoints (blank 2) .answer ≡ answer.Refused 1
+  pub two-clients : open′ 1 2 2 openingSetpoints (blank 2) .answer ≡ answer.Ok
+  -- "k 2: mask 4 is 6, mask 3 accepted."
+  pub write-mask-4 : beginWrite 0 4 setpointsA (opened 2 2) .answer ≡ answer.Refused 6
+  pub write-mask-3 : beginWrite 0 3 setpointsA (opened 2 2) .answer ≡ answer.Ok
+  pub read-mask-4 : beginRead 0 4 (opened 2 2) .answer ≡ answer.Refused 6
+  pub read-mask-3 : beginRead 0 3 (opened 2 2) .answer ≡ answer.Ok
+  -- "Busy panel, mask 0: 5."
+  pub write-while-busy : beginWrite 0 0 setpointsA busy .answer ≡ answer.Refused 5
+  pub read-while-busy : beginRead 0 0 busy .answer ≡ answer.Refused 5
+  -- "Log: opening, then (1, 0) mask 1. Key at tag 1: station 0 (1, 0), station 1 (0, 0)."
+  pub key-of-server-0 : latestKey logOfOne 0 1 ≡ keyOf 1 0
+  pub key-of-server-1 : latestKey logOfOne 1 1 ≡ keyOf 0 0
+  -- "C, one WRITE to both, station 0 answered before it, station 1 and head after: tag 0."
+  -- Every step that leads there is accepted, as the step number tells: the opening and 13 more, and for the next card 12.
+  pub overtaken-steps : stepOf (after overtaken (opened 3 2)) ≡ 14
+  pub overtaken-tag : deliverReply 1 16 (after overtaken (opened 3 2)) .delivered ≡ shows 0 1200 30
+  -- "C, log a then b, both to station 0, which had the opening and b only: tag 2."
+  pub swapped-steps : stepOf (after swapped (opened 3 3)) ≡ 13
+  pub swapped-tag : deliverReply 2 16 (after swapped (opened 3 3)) .delivered ≡ shows 2 1500 0
+  -- the same on the choice alone: of the three entries, with two versions received from server 0
+  pub swapped-choice : chosenTag heldWithoutA logOfTwo 1 (λ i. 2) 2 3 ≡ 2
+
+pub cards : Cards
+unfolding blank opened after busy overtaken swapped open′ beginWrite beginRead deliverRequest deliverReply openRefusal writeRefusal readRefusal deliveryRefusal longEnough pressFits turns sound scalarsSound keyInRange serverSound entrySound logSound stateAllowed uses requestSound replySound contentSound linkSound receivedSound clientSound writeSound readSound openSound recordsSound allBelow anyBelow sumBelow linkAt putLink firstFrom lastBelow appended entered begunWrite begunRead onSet onEnter onWhichKeys onGet onGetAll onRequestIn requestDelivered onSetDone onEntered onKeys onGot onAll onReplyIn replyDelivered
+cards =
+    record {
+      frame-written = frame.cards .written;
+      frame-read = frame.cards .read-back;
+      last-byte-01 = frame.cards .last-byte-01;
+      another-00 = frame.cards .another-00;
+      no-bytes = frame.cards .no-bytes;
+      one-client = refl;
+      two-clients = refl;
+      write-mask-4 = refl;
+      write-mask-3 = refl;
+      read-mask-4 = refl;
+      read-mask-3 = refl;
+      write-while-busy = refl;
+      read-while-busy = refl;
+      key-of-server-0 = log-card .0;
+      key-of-server-1 = log-card .1;
+      overtaken-steps = refl;
+      overtaken-tag = refl;
+      swapped-steps = refl;
+      swapped-tag = refl;
+      swapped-choice = refl;
+    }

@@ -1,0 +1,3 @@
+-- "Starred cards are shown by proof on the definitions, all together as one checked table." Presses: what the cards are played on; Cards: the table.
+pub mod Presses
+pub mod Cards
