@@ -25,3 +25,4 @@ pub mod ReplySteps
 pub mod OpeningStep
 pub mod Numbers
 pub mod Theorem
+pub mod Playing
