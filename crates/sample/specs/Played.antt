@@ -11,6 +11,7 @@ use Rattle.rules.specs.Answers.Word.{ok, wait, next, write, read, no′}
 use Rattle.refusals.specs.Steps.{open′, beginWrite, beginRead, deliverRequest, deliverReply}
 use Rattle.schedule.specs.declared.Step.{Step}
 use Rattle.schedule.specs.declared.Step.the-variants.{Unreadable, Open, BeginWrite, BeginRead, Request, Reply}
+use Rattle.schedule.specs.Steps.{stepOf}
 use Rattle.printing.specs.declared.Word.{Word}
 use Rattle.printing.specs.declared.Word.the-variants as print
 use Rattle.sample.specs.declared.Shown.{Shown}
@@ -59,3 +60,7 @@ played (BeginWrite client mask) setpoints t = leftPlayed (beginWrite client mask
 played (BeginRead client mask) setpoints t = leftPlayed (beginRead client mask t)
 played (Request client target) setpoints t = leftPlayed (deliverRequest client target t)
 played (Reply client target) setpoints t = arrivedPlayed (maskOf (t .clients) client) (deliverReply client target t)
+
+-- the tables that a line leaves
+abbrev pub lineLeaves : List ℕ → Tables → Tables
+lineLeaves line t = played (stepOf line .step) (stepOf line .setpoints) t .tables

@@ -4,6 +4,7 @@ use mathlib.Core.Path.{_≡_, refl, ap, _∙_}
 use mathlib.Core.List.{List}
 use lib.ListN.{length, take, drop, length-append}
 use native.Mathlib.Omega.{arith}
+use lib.Seq.{take-append-seam}
 use borrow.Author.Tests.{le-leb, lt-leb}
 use Rattle.tables.specs.Layout.{clientWord, clientWidth, maskField}
 use Rattle.tables.specs.Tables.{Tables}
@@ -13,10 +14,11 @@ use Rattle.rules.specs.declared.Delivered.{Delivered}
 use Rattle.schedule.specs.declared.Reading.{Reading}
 use Rattle.schedule.specs.Lines.{lineOf}
 use Rattle.schedule.specs.LineLaws.{end-within}
-use Rattle.schedule.specs.Steps.{Named, Names}
+use Rattle.schedule.specs.declared.Step.{Step}
+use Rattle.schedule.specs.Steps.{Named, Names, stepOf}
 use Rattle.printing.specs.declared.Word.{Word}
 use Rattle.sample.specs.declared.Shown.{Shown}
-use Rattle.sample.specs.Played.{wordSaid, Played, shown, plainly, leftPlayed, arrivedPlayed, maskOf}
+use Rattle.sample.specs.Played.{wordSaid, Played, shown, plainly, leftPlayed, arrivedPlayed, maskOf, played, lineLeaves}
 
 pub plain-left : (s : Shown) (w : Word) (a : Answer) → s ≡ plainly w → wordSaid w ≡ answerSaid a → (t : Tables) → shown s t ≡ leftPlayed (left a t)
 plain-left s w a e f t = rw (e, f)
@@ -52,3 +54,14 @@ pub line-within : (text line : List ℕ) (at : ℕ) → at ≤ length text → l
 line-within text line at h e =
     let l : length line ≡ length (lineOf (drop at text)) = ap length e in
     omega (arith, end-within text at h, l)
+
+-- the place's front is the setpoints of the line
+setpoints-read : (n : Named) (held : List ℕ) (r : Reading) (left : List ℕ) → Names n held r left → take (r .setpoints) left ≡ n .setpoints
+setpoints-read n held r left h = rw (h .reading, h .place) (take-append-seam (n .setpoints) (drop (length (n .setpoints)) held))
+
+-- who plays what was read of a line leaves what the line leaves
+pub line-played : (line held left : List ℕ) (r : Reading) (s : Shown) (t u : Tables) → Names (stepOf line) held r left → shown s u ≡ played (r .step) (take (r .setpoints) left) t → u ≡ lineLeaves line t
+line-played line held left r s t u h e =
+    ap (λ (p : Played). p .tables)
+    (e ∙ (ap (λ (x : Step). played x (take (r .setpoints) left) t) (ap (λ (x : Reading). x .step) (h .reading))
+    ∙ ap (λ (l : List ℕ). played (stepOf line .step) l t) (setpoints-read (stepOf line) held r left h)))

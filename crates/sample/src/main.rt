@@ -5,7 +5,7 @@ ghost use lib.ListN.{length};
 ghost use Rattle.tables.specs.Tables.{Tables, tablesOf};
 ghost use Rattle.rules.specs.Answers.{left, arrived, answerSaid, arrivalSaid};
 ghost use Rattle.refusals.specs.Steps.{deliverReply};
-ghost use Rattle.sample.specs.Played.{wordSaid, shown, plainly, leftPlayed, arrivedPlayed, maskOf, played};
+ghost use Rattle.sample.specs.Played.{wordSaid, shown, plainly, leftPlayed, arrivedPlayed, maskOf, played, lineLeaves};
 use libc::STDOUT_FILENO;
 use printing::Word;
 use rules::Answer;
@@ -223,7 +223,10 @@ fn play_line(
     reads: &mut [u32],
     number: u64,
     line: &[u8],
-) {
+)
+    ensures { λ _. ⌜ tablesOf (now (counts .exit)) (now (clients .exit)) (now (links .exit)) (now (keys .exit)) (now (values .exit)) (now (log .exit)) (now (writes .exit)) (now (reads .exit))
+        ≡ lineLeaves (now (line .entry)) (tablesOf (now (counts .entry)) (now (clients .entry)) (now (links .entry)) (now (keys .entry)) (now (values .entry)) (now (log .entry)) (now (writes .entry)) (now (reads .entry))) ⌝ }
+{
     let mut setpoints = [0u32; 97];
     let reading = schedule::read_step(line, &mut setpoints);
     let step = reading.step;
