@@ -1,6 +1,6 @@
 -- That the claim rules wrong stores out: machines that a reviewer would try, each refuted by one list of steps.
-use Prim.Native.Nat.{ℕ, suc, _<_}
-use mathlib.Core.Path.{_≡_, refl, subst}
+use Prim.Native.Nat.{ℕ, suc, _-_, _<_}
+use mathlib.Core.Path.{_≡_, refl, subst, _∙_}
 use mathlib.Core.Bool.{cond}
 use lib.Dec.{eqb}
 use mathlib.Core.Option.{some}
@@ -13,9 +13,9 @@ use Rattle.ranges.specs.First.{firstFrom}
 use Rattle.ranges.specs.Last.{lastBelow}
 use Rattle.ranges.specs.Turns.{turns}
 use Rattle.keys.specs.Keys.{keyOf}
-use Rattle.tables.specs.Layout.{putClientWord, stateField}
+use Rattle.tables.specs.Layout.{putClientWord, stateField, versionWord}
 use Rattle.tables.specs.Links.{linkAt, putLink}
-use Rattle.tables.specs.Tables.{Tables, withClients, withLinks, stateOf, countOf, maskOf, contentAt}
+use Rattle.tables.specs.Tables.{Tables, withClients, withLinks, stateOf, countOf, maskOf, heldOf, contentAt}
 use Rattle.tables.specs.declared.links.Content.the-variants.{Nothing}
 use Rattle.server.specs.Held.{appended}
 use Rattle.coordinator.specs.Log.{entered}
@@ -34,7 +34,7 @@ use Rattle.refusals.specs.Refusals.{openRefusal, writeRefusal, readRefusal, del
 use Rattle.refusals.specs.Steps.{open′, beginWrite, beginRead, deliverRequest, deliverReply}
 use Rattle.serial.specs.Steps.{Step, opening, beginning-write, beginning-read, request, reply, Event, opened, begun-write, begun-read, requested, replied, Played, Machine, play, run}
 use Rattle.serial.specs.History.{changed, Transaction, writeOf, readOf, reading, History, openedWith, history}
-use Rattle.serial.specs.Row.{Each, readsOf, rowTo, row, RealTime}
+use Rattle.serial.specs.Row.{Each, readsOf, rowTo, row, Walk, RealTime}
 use Rattle.serial.specs.Claim.{EndsAt, Unfinished, IsReply, Claim, Demand3}
 use Rattle.serial.specs.Sample.{zeros}
 
@@ -112,6 +112,20 @@ hurrying (beginning-read q mask) t = play (beginning-read q mask) t
 hurrying (request q i) t = play (request q i) t
 hurrying (reply q i) t = hurried (deliverReply q i t .delivered .arrival) q i (play (reply q i) t)
 
+-- "A station showing its latest arrival in place of the asked key"
+abbrev arriving : ℕ → ℕ → Tables → Played → Played
+arriving q i t x =
+    cond (eqb (stateOf t q) rules.askingSetpoints)
+    (record { event = x .event; tables = withLinks (putLink (x .tables .links) q i (rules.reply (versionWord (t .values) i (heldOf t i - 1)))) (x .tables) })
+    x
+
+abbrev pub showingLatest : Machine
+showingLatest (opening method k p setpoints) t = play (opening method k p setpoints) t
+showingLatest (beginning-write q mask setpoints) t = play (beginning-write q mask setpoints) t
+showingLatest (beginning-read q mask) t = play (beginning-read q mask) t
+showingLatest (request q i) t = arriving q i t (play (request q i) t)
+showingLatest (reply q i) t = play (reply q i) t
+
 -- A WRITE of server 0 from its begin to its end, and then a READ of both servers, under B.
 unfoldable pub orderly : List Step
 orderly =
@@ -123,6 +137,12 @@ unfoldable pub hasty : List Step
 hasty =
     beginning-write 0 3 (1800 ∷ 45 ∷ []) ∷ request 0 0 ∷ reply 0 0 ∷ request 0 16 ∷ reply 0 16 ∷
     beginning-read 1 3 ∷ request 1 0 ∷ request 1 1 ∷ request 1 16 ∷ reply 1 0 ∷ reply 1 1 ∷ reply 1 16 ∷ []
+
+-- Under B, a READ of both servers that has its keys, and then a setpoint of a WRITE that comes to server 0 before the READ does.
+unfoldable pub crossing : List Step
+crossing =
+    beginning-read 1 3 ∷ request 1 16 ∷ reply 1 16 ∷ beginning-write 0 3 (1800 ∷ 45 ∷ []) ∷ request 0 0 ∷
+    request 1 0 ∷ request 1 1 ∷ reply 1 0 ∷ reply 1 1 ∷ []
 
 abbrev first : List ℕ
 first = 1200 ∷ 30 ∷ []
@@ -155,9 +175,11 @@ pub record Computed : Type 0 where
   pub inventedTags : toldBy inventing .tags ≡ 1
   pub leftThere : contentAt (play (beginning-write 0 1 (1800 ∷ 45 ∷ [])) (open′ 2 2 2 first zeros .tables) .tables) 0 0 ≡ rules.request (keyOf 1 0) 1800
   pub hastyRow : row (told hurrying 3 hasty) ≡ readOf 1 3 (1200 ∷ 30 ∷ replicate 14 0) 0 5 11 6 ∷ writeBoth ∷ []
+  pub crossingRow : row (told showingLatest 2 crossing) ≡ readOf 1 3 (1800 ∷ 30 ∷ replicate 14 0) 0 0 8 6 ∷ []
+  pub crossingFirst : told showingLatest 2 crossing .initial 0 ≡ 1200
 
 pub computed : Computed
-unfolding played told orderly hasty zeros changed readsOf rowTo open′ beginWrite beginRead deliverRequest deliverReply openRefusal writeRefusal readRefusal deliveryRefusal longEnough pressFits turns sound scalarsSound keyInRange serverSound entrySound logSound stateAllowed uses requestSound replySound contentSound linkSound receivedSound clientSound writeSound readSound openSound recordsSound allBelow anyBelow sumBelow linkAt putLink firstFrom lastBelow appended entered begunWrite begunRead onSet onEnter onWhichKeys onGet onGetAll onRequestIn requestDelivered onSetDone onEntered onKeys onGot onAll onReplyIn replyDelivered
+unfolding played told orderly hasty crossing zeros changed readsOf rowTo open′ beginWrite beginRead deliverRequest deliverReply openRefusal writeRefusal readRefusal deliveryRefusal longEnough pressFits turns sound scalarsSound keyInRange serverSound entrySound logSound stateAllowed uses requestSound replySound contentSound linkSound receivedSound clientSound writeSound readSound openSound recordsSound allBelow anyBelow sumBelow linkAt putLink firstFrom lastBelow appended entered begunWrite begunRead onSet onEnter onWhichKeys onGet onGetAll onRequestIn requestDelivered onSetDone onEntered onKeys onGot onAll onReplyIn replyDelivered
 computed =
     record {
       acceptedB = refl;
@@ -171,6 +193,8 @@ computed =
       inventedTags = refl;
       leftThere = refl;
       hastyRow = refl;
+      crossingRow = refl;
+      crossingFirst = refl;
     }
 
 -- the claim that demand 3 makes of such a machine and list
@@ -214,4 +238,11 @@ pub not-hurried : Demand3 hurrying → ⊥
 not-hurried d =
     let real : RealTime (readOf 1 3 (1200 ∷ 30 ∷ replicate 14 0) 0 5 11 6 ∷ writeBoth ∷ []) = subst RealTime (computed .hastyRow) (claim hurrying 3 hasty d (computed .acceptedC) .realTime) in
     let z : 1 < 0 = real 1 0 4 (omega arith) (omega arith) refl (omega arith) in
+    omega arith
+
+pub not-latest : Demand3 showingLatest → ⊥
+not-latest d =
+    let walk : Walk (told showingLatest 2 crossing .initial) (readOf 1 3 (1800 ∷ 30 ∷ replicate 14 0) 0 0 8 6 ∷ []) =
+    subst (Walk (told showingLatest 2 crossing .initial)) (computed .crossingRow) (claim showingLatest 2 crossing d (computed .acceptedB) .walk) in
+    let z : _≡_ {A = ℕ} 1800 1200 = walk .0 refl 0 refl ∙ computed .crossingFirst in
     omega arith

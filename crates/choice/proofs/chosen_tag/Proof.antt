@@ -22,10 +22,10 @@ qualifies-requires : tie.Need-qualifies-requires Inv-loop μ-loop
 qualifies-requires c κs = let p = c .before .before .before .before .before .pre in (p .0, omega arith)
 
 returns : tie.Need-returns Inv-loop μ-loop
-returns c = let a = c .before .before .before .before .before .before .before .args in down-found (qualifies (a .keys .now) (a .log .now) (a .mask) (receivedIn (a .clients .now) (a .client)) (a .servers)) (a .entries) (c .before .before .before .loop .tag) (c .before .before .before .loop .inv .1) (c .before .before .loop-test .taken) (sym (c .before .qualifies .ensures) ∙ c .if1 .taken)
+returns c = let a = c .before .before .before .before .before .before .before .args in down-found (qualifies (a .keys .now) (a .log .now) (a .mask) (receivedIn (a .clients .now) (a .client)) (a .servers)) (a .entries) (c .before .before .before .loop .tag) (c .before .before .before .loop .inv .1) (omega arith) (sym (c .before .qualifies .ensures) ∙ c .if1 .taken)
 
 loop-again : tie.Need-loop-again Inv-loop μ-loop
-loop-again c = let a = c .before .before .before .before .before .before .before .args in (search needs, down-past (qualifies (a .keys .now) (a .log .now) (a .mask) (receivedIn (a .clients .now) (a .client)) (a .servers)) (a .entries) (c .before .before .before .loop .tag) (c .before .before .before .loop .inv .1) (c .before .before .loop-test .taken) (sym (c .before .qualifies .ensures) ∙ c .if1 .left))
+loop-again c = let a = c .before .before .before .before .before .before .before .args in (search needs, down-past (qualifies (a .keys .now) (a .log .now) (a .mask) (receivedIn (a .clients .now) (a .client)) (a .servers)) (a .entries) (c .before .before .before .loop .tag) (c .before .before .before .loop .inv .1) (omega arith) (sym (c .before .qualifies .ensures) ∙ c .if1 .left))
 
 returns-2 : tie.Need-returns-2 Inv-loop μ-loop
 returns-2 c = let a = c .before .before .before .before .before .args in down-end (qualifies (a .keys .now) (a .log .now) (a .mask) (receivedIn (a .clients .now) (a .client)) (a .servers)) (a .entries) (c .before .loop .tag) (c .before .loop .inv .1) (omega arith)
