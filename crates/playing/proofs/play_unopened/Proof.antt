@@ -1,0 +1,32 @@
+-- Before an opening each readable step but an opening is refused by 2.
+use Rattle.playing.specs.Played.{played}
+use Rattle.playing.specs.PlayedLaws.{left-played}
+use Rattle.playing.specs.Playable.{begin-write-early, begin-read-early, request-early, reply-early}
+use borrow.Author.Needs.{needs}
+use Rattle.playing.proofs.play_unopened.Statement.{statement}
+use Rattle.playing.proofs.play_unopened.Tie as tie
+
+returns : tie.Need-returns
+unfolding played
+returns c = rw (c .before .enum-told .given .1, c .plain .ensures)
+
+returns-2 : tie.Need-returns-2
+unfolding played
+returns-2 c = rw (c .before .before .before .before .before .before .before .before .before .before .before .before .before .before .before .before .before .before .before .before .before .before .before .step .given .1) (left-played (c .answered .ensures _) (c .before .before .before .before .before .before .before .before .before .before .before .before .before .«open» .ensures))
+
+returns-3 : tie.Need-returns-3
+returns-3 c = rw (c .before .enum-told2 .given .1, c .plain2 .ensures) (begin-write-early _ (c .before .before .before .before .before .before .before .before .before .before .before .before .pre) _ _ _)
+
+returns-4 : tie.Need-returns-4
+returns-4 c = rw (c .before .enum-told3 .given .1, c .plain3 .ensures) (begin-read-early _ (c .before .before .before .before .before .before .before .before .before .before .before .before .pre) _ _ _)
+
+returns-5 : tie.Need-returns-5
+returns-5 c = rw (c .before .enum-told4 .given .1, c .plain4 .ensures) (request-early _ (c .before .before .before .before .before .before .before .before .before .before .before .before .pre) _ _ _)
+
+returns-6 : tie.Need-returns-6
+returns-6 c = rw (c .before .before .before .before .step2 .given .1, c .noted .ensures, c .before .mask-of .ensures) (reply-early _ (c .before .before .before .before .before .before .before .before .before .before .before .before .before .before .before .pre) _ _ _)
+
+pub play-unopened-spec : {M : Type 1} → statement M
+play-unopened-spec =
+    tie.close
+    (tie.spec (λ c. search needs) (λ c κs. search needs) (λ c. search needs) (λ c κs. search needs) (λ c κs. search needs) (λ c. search needs) (λ c κs. search needs) (λ c. search needs) (λ c κs. search needs) (λ c. search needs) (λ c κs. search needs) (λ c. search needs) (λ c κs. search needs) (λ c κs. search needs) returns (λ c. search needs) (λ c. search needs) (λ c. search needs) (λ c. search needs) (λ c. search needs) (λ c. search needs) (λ c. search needs) (λ c. search needs) returns-2 returns-3 returns-4 returns-5 (λ c. search needs) returns-6)

@@ -1,0 +1,15 @@
+-- An answer takes at most 300 bytes.
+use Rattle.playing.specs.PlayedLaws.{at-most}
+use borrow.Author.Needs.{needs}
+use Rattle.playing.proofs.print_shown.Statement.{statement}
+use Rattle.playing.proofs.print_shown.Tie as tie
+
+slice-aggregate-print-answer : tie.Need-slice-aggregate-print-answer
+slice-aggregate-print-answer c = search needs
+
+print-answer-requires : tie.Need-print-answer-requires
+print-answer-requires c κs = (at-most (slice-aggregate-print-answer (c .before)), search needs)
+
+pub print-shown-spec : {M : Type 1} → statement M
+print-shown-spec =
+    tie.close (tie.spec slice-aggregate-print-answer print-answer-requires (λ c. search needs) (λ c. search needs))

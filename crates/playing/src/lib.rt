@@ -1,0 +1,381 @@
+// Plays the lines of a schedule: the step that a line names, its change of the tables, and its answer in print.
+// No table is checked: they are not opened yet, or sound, and each step leaves them so.
+ghost use mathlib.Core.Path.{_≡_};
+ghost use Prim.Native.Nat.{_+_, _≤_, _<_};
+ghost use lib.ListN.{length};
+ghost use Rattle.tables.specs.Tables.{Tables, tablesOf, methodOf};
+ghost use Rattle.rules.specs.Answers.{left, arrived};
+ghost use Rattle.soundness.specs.Facts.{Sound};
+ghost use Rattle.refusals.specs.Steps.{deliverReply};
+ghost use Rattle.printing.specs.Printed.{Printed};
+ghost use Rattle.playing.specs.Played.{answerWord, arrivalWord, showing, noted, plainly, leftPlayed, arrivedPlayed, maskOf, played, playedLine, shownText, LinePlayed};
+ghost use Rattle.playing.specs.Playable.{Playable};
+use printing::Word;
+use rules::Answer;
+use rules::Arrival;
+use rules::Delivered;
+use schedule::Step;
+use tables::clients::MASK;
+use tables::clients::WIDTH;
+use tables::counts::METHOD;
+
+// What is printed of a step: its word; for a READ the mask and the setpoints of the servers.
+pub struct Shown {
+    pub word: Word,
+    pub mask: u32,
+    pub setpoints: [u32; 16],
+}
+
+// The word of an opening, a begin and a delivered request.
+fn answer_word(answer: Answer) -> Word
+    ensures { λ r. ⌜ r ≡ answerWord answer ⌝ }
+{
+    match answer {
+        Answer::Ok => Word::Ok,
+        Answer::Refused(number) => Word::No(number as u32),
+    }
+}
+
+// The word of a delivered reply.
+fn arrival_word(arrival: Arrival) -> Word
+    ensures { λ r. ⌜ r ≡ arrivalWord arrival ⌝ }
+{
+    match arrival {
+        Arrival::Wait => Word::Wait,
+        Arrival::Next => Word::Next,
+        Arrival::Write(tag) => Word::Write(tag),
+        Arrival::Read(tag) => Word::Read(tag),
+        Arrival::Refused(number) => Word::No(number as u32),
+    }
+}
+
+// What is printed of a step that shows no setpoint.
+fn noted(word: Word, mask: u32) -> Shown
+    ensures { λ r. ⌜ r ≡ noted word mask ⌝ }
+{
+    Shown {
+        word: word,
+        mask: mask,
+        setpoints: [0; 16],
+    }
+}
+
+fn plain(word: Word) -> Shown
+    ensures { λ r. ⌜ r ≡ plainly word ⌝ }
+{
+    noted(word, 0)
+}
+
+// What is printed of an opening, a begin and a delivered request.
+pub fn answered(answer: Answer) -> Shown
+    ensures { λ r. ⌜ ((t : Tables) → showing r t ≡ leftPlayed (left answer t)) ⌝ }
+{
+    plain(answer_word(answer))
+}
+
+// What is printed of a delivered reply; the mask is that of the client.
+pub fn arrived(delivered: Delivered, mask: u32) -> Shown
+    ensures { λ r. ⌜ ((t : Tables) → showing r t ≡ arrivedPlayed mask (arrived delivered t)) ⌝ }
+{
+    let setpoints = delivered.setpoints;
+    let arrival = delivered.arrival;
+    Shown {
+        word: arrival_word(arrival),
+        mask: mask,
+        setpoints: setpoints,
+    }
+}
+
+// The mask of a client; 0 where it has no row, so that any number may be asked.
+pub fn mask_of(clients: &[u32], client: u32) -> u32
+    ensures { λ r. ⌜ r ≡ maskOf (now (clients .entry)) client ⌝ }
+{
+    let row = client as usize;
+    if clients.len() / WIDTH <= row {
+        return 0;
+    }
+    tables::clients::client_word(clients, row, MASK)
+}
+
+// Delivers a reply on sound tables, with the mask of its client beside the answer.
+fn deliver_reply(
+    counts: &mut [u32],
+    clients: &mut [u32],
+    links: &mut [u32],
+    keys: &[u32],
+    values: &[u32],
+    log: &[u32],
+    writes: &mut [u32],
+    reads: &mut [u32],
+    client: u32,
+    target: u32,
+) -> Shown
+    requires { ⌜ Sound (tablesOf (now counts) (now clients) (now links) (now keys) (now values) (now log) (now writes) (now reads)) ⌝ }
+    ensures { λ r. ⌜ showing r (tablesOf (now (counts .exit)) (now (clients .exit)) (now (links .exit)) (now (keys .entry)) (now (values .entry)) (now (log .entry)) (now (writes .exit)) (now (reads .exit)))
+        ≡ arrivedPlayed (maskOf (now (clients .entry)) client) (deliverReply client target (tablesOf (now (counts .entry)) (now (clients .entry)) (now (links .entry)) (now (keys .entry)) (now (values .entry)) (now (log .entry)) (now (writes .entry)) (now (reads .entry)))) ⌝ }
+{
+    let mask = mask_of(&*clients, client);
+    let delivered = store::deliver_reply_sound(
+        counts,
+        clients,
+        links,
+        keys,
+        values,
+        log,
+        writes,
+        reads,
+        client,
+        target,
+    );
+    arrived(delivered, mask)
+}
+
+// One step on sound tables.
+fn play_opened(
+    counts: &mut [u32],
+    clients: &mut [u32],
+    links: &mut [u32],
+    keys: &mut [u32],
+    values: &mut [u32],
+    log: &mut [u32],
+    writes: &mut [u32],
+    reads: &mut [u32],
+    step: Step,
+    setpoints: &[u32],
+) -> Shown
+    requires { ⌜ Sound (tablesOf (now counts) (now clients) (now links) (now keys) (now values) (now log) (now writes) (now reads)) ⌝ }
+    ensures { λ r. ⌜ showing r (tablesOf (now (counts .exit)) (now (clients .exit)) (now (links .exit)) (now (keys .exit)) (now (values .exit)) (now (log .exit)) (now (writes .exit)) (now (reads .exit)))
+        ≡ played step (now (setpoints .entry)) (tablesOf (now (counts .entry)) (now (clients .entry)) (now (links .entry)) (now (keys .entry)) (now (values .entry)) (now (log .entry)) (now (writes .entry)) (now (reads .entry))) ⌝ }
+{
+    match step {
+        Step::Unreadable => plain(Word::No(13)),
+        Step::Open(method, servers, panels) => answered(store::open(
+            counts,
+            clients,
+            links,
+            keys,
+            values,
+            log,
+            &*writes,
+            &*reads,
+            method,
+            servers,
+            panels,
+            setpoints,
+        )),
+        Step::BeginWrite(client, mask) => answered(store::begin_write_sound(
+            counts,
+            clients,
+            links,
+            &*keys,
+            &*values,
+            &*log,
+            writes,
+            &*reads,
+            client,
+            mask,
+            setpoints,
+        )),
+        Step::BeginRead(client, mask) => answered(store::begin_read_sound(
+            counts,
+            clients,
+            links,
+            &*keys,
+            &*values,
+            &*log,
+            &*writes,
+            reads,
+            client,
+            mask,
+        )),
+        Step::Request(client, target) => answered(store::deliver_request_sound(
+            counts,
+            &*clients,
+            links,
+            keys,
+            values,
+            log,
+            writes,
+            &*reads,
+            client,
+            target,
+        )),
+        Step::Reply(client, target) => deliver_reply(
+            counts,
+            clients,
+            links,
+            &*keys,
+            &*values,
+            &*log,
+            writes,
+            reads,
+            client,
+            target,
+        ),
+    }
+}
+
+// One step before any opening: a readable one but an opening is 2.
+fn play_unopened(
+    counts: &mut [u32],
+    clients: &mut [u32],
+    links: &mut [u32],
+    keys: &mut [u32],
+    values: &mut [u32],
+    log: &mut [u32],
+    writes: &mut [u32],
+    reads: &mut [u32],
+    step: Step,
+    setpoints: &[u32],
+) -> Shown
+    requires { ⌜ methodOf (tablesOf (now counts) (now clients) (now links) (now keys) (now values) (now log) (now writes) (now reads)) ≡ 0 ⌝ }
+    ensures { λ r. ⌜ showing r (tablesOf (now (counts .exit)) (now (clients .exit)) (now (links .exit)) (now (keys .exit)) (now (values .exit)) (now (log .exit)) (now (writes .exit)) (now (reads .exit)))
+        ≡ played step (now (setpoints .entry)) (tablesOf (now (counts .entry)) (now (clients .entry)) (now (links .entry)) (now (keys .entry)) (now (values .entry)) (now (log .entry)) (now (writes .entry)) (now (reads .entry))) ⌝ }
+{
+    match step {
+        Step::Unreadable => plain(Word::No(13)),
+        Step::Open(method, servers, panels) => answered(store::open(
+            counts,
+            clients,
+            links,
+            keys,
+            values,
+            log,
+            &*writes,
+            &*reads,
+            method,
+            servers,
+            panels,
+            setpoints,
+        )),
+        Step::BeginWrite(_, _) => plain(Word::No(2)),
+        Step::BeginRead(_, _) => plain(Word::No(2)),
+        Step::Request(_, _) => plain(Word::No(2)),
+        Step::Reply(client, _) => {
+            let mask = mask_of(&*clients, client);
+            noted(Word::No(2), mask)
+        }
+    }
+}
+
+// One step of a schedule.
+pub fn play_step(
+    counts: &mut [u32],
+    clients: &mut [u32],
+    links: &mut [u32],
+    keys: &mut [u32],
+    values: &mut [u32],
+    log: &mut [u32],
+    writes: &mut [u32],
+    reads: &mut [u32],
+    step: Step,
+    setpoints: &[u32],
+) -> Shown
+    requires { ⌜ Playable (tablesOf (now counts) (now clients) (now links) (now keys) (now values) (now log) (now writes) (now reads)) ⌝ }
+    ensures { λ r. ⌜ showing r (tablesOf (now (counts .exit)) (now (clients .exit)) (now (links .exit)) (now (keys .exit)) (now (values .exit)) (now (log .exit)) (now (writes .exit)) (now (reads .exit)))
+        ≡ played step (now (setpoints .entry)) (tablesOf (now (counts .entry)) (now (clients .entry)) (now (links .entry)) (now (keys .entry)) (now (values .entry)) (now (log .entry)) (now (writes .entry)) (now (reads .entry))) ⌝ }
+{
+    if tables::counts::count_at(counts, METHOD) == 0 {
+        return play_unopened(
+            counts,
+            clients,
+            links,
+            keys,
+            values,
+            log,
+            writes,
+            reads,
+            step,
+            setpoints,
+        );
+    }
+    play_opened(
+        counts,
+        clients,
+        links,
+        keys,
+        values,
+        log,
+        writes,
+        reads,
+        step,
+        setpoints,
+    )
+}
+
+// One line of a schedule: the step that it names.
+fn play_named(
+    counts: &mut [u32],
+    clients: &mut [u32],
+    links: &mut [u32],
+    keys: &mut [u32],
+    values: &mut [u32],
+    log: &mut [u32],
+    writes: &mut [u32],
+    reads: &mut [u32],
+    line: &[u8],
+) -> Shown
+    requires { ⌜ Playable (tablesOf (now counts) (now clients) (now links) (now keys) (now values) (now log) (now writes) (now reads)) ⌝ }
+    ensures { λ r. ⌜ showing r (tablesOf (now (counts .exit)) (now (clients .exit)) (now (links .exit)) (now (keys .exit)) (now (values .exit)) (now (log .exit)) (now (writes .exit)) (now (reads .exit)))
+        ≡ playedLine (now (line .entry)) (tablesOf (now (counts .entry)) (now (clients .entry)) (now (links .entry)) (now (keys .entry)) (now (values .entry)) (now (log .entry)) (now (writes .entry)) (now (reads .entry))) ⌝ }
+{
+    let mut setpoints = [0u32; 97];
+    let reading = schedule::read_step(line, &mut setpoints);
+    let step = reading.step;
+    let given = reading.setpoints;
+    play_step(
+        counts,
+        clients,
+        links,
+        keys,
+        values,
+        log,
+        writes,
+        reads,
+        step,
+        &setpoints[..given],
+    )
+}
+
+// The answer of a line, in print.
+fn print_shown(number: u64, shown: Shown, out: &mut [u8], at: usize) -> usize
+    requires { ⌜ at + 300 ≤ length (now out) ⌝ }
+    ensures { λ r. ⌜ Printed (now (out .entry)) at (shownText number shown) r (now (out .exit)) × (r ≤ at + 300) ⌝ }
+{
+    let setpoints = shown.setpoints;
+    let word = shown.word;
+    printing::print_answer(number, word, shown.mask, &setpoints, out, at)
+}
+
+// One line of a schedule: its step, and its answer behind what is printed so far. It answers where the print ends then.
+pub fn play_line(
+    counts: &mut [u32],
+    clients: &mut [u32],
+    links: &mut [u32],
+    keys: &mut [u32],
+    values: &mut [u32],
+    log: &mut [u32],
+    writes: &mut [u32],
+    reads: &mut [u32],
+    number: u64,
+    line: &[u8],
+    out: &mut [u8],
+    at: usize,
+) -> usize
+    requires { ⌜ Playable (tablesOf (now counts) (now clients) (now links) (now keys) (now values) (now log) (now writes) (now reads)) ⌝ }
+    requires { ⌜ at + 300 ≤ length (now out) ⌝ }
+    ensures { λ r. ⌜ LinePlayed number (now (line .entry)) (tablesOf (now (counts .entry)) (now (clients .entry)) (now (links .entry)) (now (keys .entry)) (now (values .entry)) (now (log .entry)) (now (writes .entry)) (now (reads .entry))) (now (out .entry)) at r (now (out .exit)) (tablesOf (now (counts .exit)) (now (clients .exit)) (now (links .exit)) (now (keys .exit)) (now (values .exit)) (now (log .exit)) (now (writes .exit)) (now (reads .exit))) ⌝ }
+{
+    let shown = play_named(
+        counts,
+        clients,
+        links,
+        keys,
+        values,
+        log,
+        writes,
+        reads,
+        line,
+    );
+    print_shown(number, shown, out, at)
+}
