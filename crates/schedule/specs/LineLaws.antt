@@ -31,7 +31,7 @@ unfolding lineOf
 take-line [] = refl
 take-line (b ∷ rest) = either (λ (l : List ℕ). take (length l) (b ∷ rest) ≡ l) (eqb b 10) refl (ap (λ (l : List ℕ). b ∷ l) (take-line rest))
 
-line-short : (s : List ℕ) → length (lineOf s) ≤ length s
+pub line-short : (s : List ℕ) → length (lineOf s) ≤ length s
 unfolding lineOf
 line-short [] = omega arith
 line-short (b ∷ rest) = either (λ (l : List ℕ). length l ≤ suc (length rest)) (eqb b 10) (omega arith) (omega (arith, line-short rest))

@@ -1,0 +1,79 @@
+-- A text that comes in pieces. What one turn prints and what the rest will print is what was to be printed, whatever is still to come.
+use Prim.Native.Nat.{ℕ, _+_, _-_, _≤_, _<_}
+use mathlib.Core.Path.{_≡_}
+use mathlib.Core.Bool.{Bool, true, false, cond, _&&_}
+use mathlib.Core.List.{List, [], _∷_, _++_}
+use lib.ListN.{length, take, drop}
+use lib.Dec.{ltb, leb}
+use Rattle.tables.specs.Tables.{Tables}
+use Rattle.schedule.specs.Lines.{lineOf, linesOf}
+use Rattle.printing.specs.Printed.{Printed}
+use Rattle.playing.specs.Played.{playedLine, shownText, answersFrom}
+use Rattle.playing.specs.Playable.{Playable}
+use Rattle.streaming.specs.declared.Run.{Run}
+
+-- the bytes of the window that are read and not yet played
+abbrev pub heldBy : Run → List ℕ → List ℕ
+heldBy run window = drop (run .from) (take (run .held) window)
+
+-- what stands behind the line at the front of a text and its byte 10
+abbrev pub behindLine : List ℕ → List ℕ
+behindLine text = drop (length (lineOf text) + 1) text
+
+-- the lines of a text that are still to be answered; within a line that is answered, those behind it
+abbrev pub linesLeft : Bool → List ℕ → List (List ℕ)
+linesLeft skipping text = linesOf (cond skipping (behindLine text) text)
+
+-- what is still to be printed, where this text is left
+abbrev pub restOf : Run → List ℕ → Tables → List ℕ
+restOf run text t = answersFrom (run .lines + 1) (linesLeft (run .skipping) text) t
+
+-- whether a line of this size, at the front of so many bytes that are held, has neither its end there nor more than 200 bytes
+unfoldable pub lacksEnd : ℕ → ℕ → Bool
+lacksEnd size held = leb size 200 && leb held size
+
+-- the run behind a line of this size at its place: behind its byte 10, or within it where that is not held yet
+unfoldable pub passed : Run → ℕ → ℕ → ℕ → Run
+passed run size lines used =
+    cond (ltb (run .from + size) (run .held))
+    (record { left = run .left - 1; lines = lines; from = run .from + size + 1; held = run .held; used = used; skipping = false })
+    (record { left = run .left - 1; lines = lines; from = run .from + size; held = run .held; used = used; skipping = true })
+
+-- what is printed of a line, and the tables then: nothing of one that is answered already
+abbrev pub lineText : Run → List ℕ → Tables → List ℕ
+lineText run line t = cond (run .skipping) [] (shownText (run .lines + 1) (playedLine line t .shown))
+
+abbrev pub lineTables : Run → List ℕ → Tables → Tables
+lineTables run line t = cond (run .skipping) t (playedLine line t .tables)
+
+abbrev pub linesThen : Run → ℕ
+linesThen run = cond (run .skipping) (run .lines) (run .lines + 1)
+
+-- A line is answered, unless it is answered already, and passed.
+pub record Answered (run : Run) (line : List ℕ) (t : Tables) (out : List ℕ) (r : Run) (left : List ℕ) (t′ : Tables) : Type 0 where
+  pub printed : Printed out (run .used) (lineText run line t) (r .used) left
+  pub short : r .used ≤ run .used + 300
+  pub tables : t′ ≡ lineTables run line t
+  pub next : r ≡ passed run (length line) (linesThen run) (r .used)
+
+-- What holds between two turns: the window and the print are of a length, and what is held and used lies within them.
+pub record Going (run : Run) (window out : List ℕ) : Type 0 where
+  pub windowSize : length window ≡ 65536
+  pub outSize : length out ≡ 65536
+  pub from : run .from ≤ run .held
+  pub held : run .held ≤ 65536
+  pub used : run .used ≤ 65536
+  pub lines : run .lines + run .left ≤ 9223372036854775808
+
+-- A turn: some bytes come in, or a line is answered. Whatever is still unread, what was left to be printed is what the turn prints and what is left then.
+-- "A line ends at byte 10 or at the end of the text": at the end of the text a byte 10 comes in behind a line that has none.
+pub record Turned (run : Run) (window out : List ℕ) (t : Tables) (r : Run) (window′ out′ : List ℕ) (t′ : Tables) : Type 0 where
+  pub came : List ℕ
+  pub text : List ℕ
+  -- where the text is printed: behind what was printed, or, where that was written out, at the front
+  pub at : ℕ
+  pub printed : Printed out at text (r .used) out′
+  pub later : (unread : List ℕ) → restOf run (heldBy run window ++ (came ++ unread)) t ≡ text ++ restOf r (heldBy r window′ ++ unread) t′
+  pub playable : Playable t′
+  pub going : Going r window′ out′
+  pub less : r .left < run .left

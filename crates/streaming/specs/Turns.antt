@@ -1,0 +1,140 @@
+-- The two kinds of a turn: bytes come in, or a line is answered.
+use Prim.Native.Nat.{ℕ, _+_, _-_, _≤_, _<_}
+use mathlib.Core.Path.{_≡_, refl, sym, ap, subst, _∙_}
+use mathlib.Core.Bool.{Bool, true, false, cond}
+use mathlib.Core.List.{List, [], _∷_, _++_, append-assoc}
+use native.Mathlib.Omega.{arith}
+use lib.ListN.{length, take, drop, length-drop}
+use lib.Seq.{length-take-le}
+use lib.Dec.{ltb}
+use borrow.Author.Tests.{ltb-true, ltb-false}
+use Rattle.ranges.specs.Tests.{by-test, either}
+use Rattle.tables.specs.Tables.{Tables}
+use Rattle.schedule.specs.Lines.{lineOf}
+use Rattle.schedule.specs.LineLaws.{line-short}
+use Rattle.schedule.specs.Steps.{stepOf}
+use Rattle.playing.specs.Played.{playedLine, answersFrom}
+use Rattle.playing.specs.Playable.{Playable, step-playable}
+use Rattle.streaming.specs.declared.Run.{Run}
+use Rattle.streaming.specs.Stream.{heldBy, linesLeft, restOf, passed, lineText, lineTables, linesThen, Answered, Going, Turned}
+use Rattle.streaming.specs.StreamLaws.{nothing-written, passed-found, passed-open, answered-later}
+use Rattle.streaming.specs.Windows.{ReadOn, roomy}
+
+-- what a run that is passed has
+pub record Behind (run : Run) (lines used : ℕ) (r : Run) : Type 0 where
+  pub left : r .left ≡ run .left - 1
+  pub lines′ : r .lines ≡ lines
+  pub from : r .from ≤ r .held
+  pub held : r .held ≡ run .held
+  pub used′ : r .used ≡ used
+
+passed-behind : (run : Run) (size lines used : ℕ) → run .from + size ≤ run .held → Behind run lines used (passed run size lines used)
+passed-behind run size lines used h =
+    by-test (ltb (run .from + size) (run .held))
+    (λ e. subst (Behind run lines used) (sym (passed-found run size lines used (ltb-true _ _ e)))
+    (record { left = refl; lines′ = refl; from = omega (arith, ltb-true (run .from + size) (run .held) e); held = refl; used′ = refl }))
+    (λ e. subst (Behind run lines used) (sym (passed-open run size lines used (ltb-false _ _ e)))
+    (record { left = refl; lines′ = refl; from = h; held = refl; used′ = refl }))
+
+module _ (run : Run) (window out : List ℕ) (t : Tables) (going : Going run window out) (playable : Playable t) (some-left : 0 < run .left) where
+  -- the line that is held lies within what is held
+  pub line-fits : length (lineOf (heldBy run window)) ≤ run .held - run .from
+  line-fits =
+      omega (
+        arith,
+        line-short (heldBy run window),
+        length-drop (run .from) (take (run .held) window),
+        length-take-le (run .held) window (omega (arith, going .held, going .windowSize)),
+      )
+
+  pub turned-read : (r : Run) (window′ : List ℕ) → ReadOn run window r window′ → length window′ ≡ length window → Turned run window out t r window′ out t
+  turned-read r window′ k l =
+      record {
+        came = k .came;
+        text = [];
+        at = r .used;
+        printed = record { end = omega arith; space = nothing-written out (r .used) };
+        later = λ unread.
+            ap (λ (x : List ℕ). restOf run x t) (sym (append-assoc (heldBy run window) (k .came) unread) ∙ ap (λ (x : List ℕ). x ++ unread) (sym (k .held)))
+            ∙ (ap (λ (n : ℕ). answersFrom (n + 1) (linesLeft (run .skipping) (heldBy r window′ ++ unread)) t) (sym (k .lines))
+            ∙ ap (λ (b : Bool). answersFrom (r .lines + 1) (linesLeft b (heldBy r window′ ++ unread)) t) (sym (k .skipping)));
+        playable = playable;
+        going = record {
+          windowSize = l ∙ going .windowSize;
+          outSize = going .outSize;
+          from = omega (arith, k .from);
+          held = omega (arith, k .within, going .windowSize);
+          used = omega (arith, k .used, going .used);
+          lines = omega (arith, k .lines, k .less, going .lines);
+        };
+        less = k .less;
+      }
+
+  module _ (used : ℕ) (room : used + 300 ≤ length out) (line : List ℕ) (is-line : line ≡ lineOf (heldBy run window)) where
+    abbrev Rest : List ℕ → Run → List ℕ → Tables → Type 0
+    Rest l r unread t′ = restOf run (heldBy run window ++ unread) t ≡ lineText (roomy run used) l t ++ restOf r (heldBy r window ++ unread) t′
+
+    all-later : (unread : List ℕ) (r : Run) (t′ : Tables) → run .held ≤ length window → length (heldBy run window) ≡ run .held - run .from →
+        (length line ≤ 200 → length line < run .held - run .from) → r ≡ passed (roomy run used) (length line) (linesThen (roomy run used)) (r .used) → t′ ≡ lineTables (roomy run used) line t →
+        Rest line r unread t′
+    all-later unread r t′ held size whole next tables =
+        let later = answered-later (roomy run used) window held t unread (r .used) (subst (λ (l : List ℕ). length l ≤ 200 → length l < length (heldBy run window)) is-line (λ h. omega (arith, size, whole h))) (going .from) in
+        subst (λ (x : Tables). Rest line r unread x) (sym tables)
+        (subst (λ (x : Run). Rest line x unread (lineTables (roomy run used) line t)) (sym next)
+        (subst (λ (l : List ℕ). Rest l (passed (roomy run used) (length l) (linesThen (roomy run used)) (r .used)) unread (lineTables (roomy run used) l t)) (sym is-line) later))
+
+    line-playable : Playable (lineTables (roomy run used) line t)
+    line-playable =
+        by-test (run .skipping)
+        (λ e. subst (λ (b : Bool). Playable (cond b t (playedLine line t .tables))) (sym e) playable)
+        (λ e. subst (λ (b : Bool). Playable (cond b t (playedLine line t .tables))) (sym e) (step-playable t playable (stepOf line .step) (stepOf line .setpoints)))
+
+    lines-more : linesThen (roomy run used) ≤ run .lines + 1
+    lines-more = either (λ (n : ℕ). n ≤ run .lines + 1) (run .skipping) (omega arith) (omega arith)
+
+    pub turned-answer : (length line ≤ 200 → length line < run .held - run .from) → (r : Run) (out′ : List ℕ) (t′ : Tables) →
+        Answered (roomy run used) line t out r out′ t′ → length out′ ≡ length out → Turned run window out t r window out′ t′
+    turned-answer whole r out′ t′ a l =
+        let held : run .held ≤ length window = omega (arith, going .held, going .windowSize) in
+        let size : length (heldBy run window) ≡ run .held - run .from =
+        length-drop (run .from) (take (run .held) window) ∙ ap (λ (n : ℕ). n - run .from) (length-take-le (run .held) window held) in
+        let fits : run .from + length line ≤ run .held = rw is-line (omega (arith, line-fits, going .from)) in
+        let b : Behind (roomy run used) (linesThen (roomy run used)) (r .used) r = subst (Behind (roomy run used) (linesThen (roomy run used)) (r .used)) (sym (a .next)) (passed-behind (roomy run used) (length line) (linesThen (roomy run used)) (r .used) fits) in
+        record {
+          came = [];
+          text = lineText (roomy run used) line t;
+          at = used;
+          printed = a .printed;
+          later = λ unread. all-later unread r t′ held size whole (a .next) (a .tables);
+          playable = subst Playable (sym (a .tables)) line-playable;
+          going = record {
+            windowSize = going .windowSize;
+            outSize = l ∙ going .outSize;
+            from = b .from;
+            held = omega (arith, b .held, going .held);
+            used = omega (arith, a .short, room, going .outSize);
+            lines = omega (arith, b .lines′, b .left, lines-more, some-left, going .lines);
+          };
+          less = omega (arith, b .left, some-left);
+        }
+
+    -- the same of a run that has made room
+    module _ (made : Run) (is-roomy : made ≡ roomy run used) where
+      pub ready-fits : (made .from + length line ≤ made .held) × (0 < made .left)
+      ready-fits =
+          let f : made .from ≡ run .from = ap (λ (x : Run). x .from) is-roomy in
+          let h : made .held ≡ run .held = ap (λ (x : Run). x .held) is-roomy in
+          let l : made .left ≡ run .left = ap (λ (x : Run). x .left) is-roomy in
+          let n : length line ≤ run .held - run .from = rw is-line line-fits in
+          (omega (arith, f, h, n, going .from), omega (arith, l, some-left))
+
+      pub ready-room : (made .used + 300 ≤ length out) × (made .lines + made .left ≤ 9223372036854775808)
+      ready-room =
+          let u : made .used ≡ used = ap (λ (x : Run). x .used) is-roomy in
+          let n : made .lines ≡ run .lines = ap (λ (x : Run). x .lines) is-roomy in
+          let l : made .left ≡ run .left = ap (λ (x : Run). x .left) is-roomy in
+          (omega (arith, u, room), omega (arith, n, l, going .lines))
+
+      pub turned-made : (length line ≤ 200 → length line < run .held - run .from) → (r : Run) (out′ : List ℕ) (t′ : Tables) →
+          Answered made line t out r out′ t′ → length out′ ≡ length out → Turned run window out t r window out′ t′
+      turned-made whole r out′ t′ a l = turned-answer whole r out′ t′ (subst (λ (x : Run). Answered x line t out r out′ t′) is-roomy a) l
