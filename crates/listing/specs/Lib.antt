@@ -2,4 +2,6 @@
 pub mod Register
 pub mod Sample
 pub mod Places
+pub mod Moves
 pub mod Laid
+pub mod Ready
