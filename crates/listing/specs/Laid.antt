@@ -3,20 +3,35 @@ use Prim.Native.Nat.{ℕ, zero, suc, _+_, _*_, _≤_}
 use mathlib.Core.Path.{_≡_, refl, sym, ap, _∙_}
 use mathlib.Core.List.{List, [], _∷_, _++_, append-assoc, map, flatMap}
 use native.Mathlib.Omega.{arith}
-use lib.ListN.{length, set, drop, length-append}
+use lib.ListN.{length, set, drop, length-append, length-map}
 use lib.Seq.{sets, sets-eq, length-sets}
-use Rattle.tables.specs.Tables.{Tables, writesOf}
-use Rattle.listing.specs.Register.{lineWidth, Line, write, read, writeWords, readWords, lineWords}
+use Rattle.listing.specs.Register.{lineWidth, Line, write, read, writeWords, readWords, wordsOfLine}
 
-pub sets-append : (vs ws list : List ℕ) (at : ℕ) → sets (sets list at vs) (at + length vs) ws ≡ sets list at (vs ++ ws)
+-- lines laid from a line on: the next line, and the list
+pub record Laid {A : Type 0} (words : A → List ℕ) (xs : List A) (line : ℕ) (list : List ℕ) (next : ℕ) (list′ : List ℕ) : Type 0 where
+  pub lines : next ≡ line + length xs
+  pub laid : list′ ≡ sets list (lineWidth * line) (flatMap words xs)
+
+-- there is room for lines from a line on
+abbrev pub Room : {A : Type 0} → List A → ℕ → List ℕ → Type 0
+Room xs line list = lineWidth * (line + length xs) ≤ length list
+
+sets-append : (vs ws list : List ℕ) (at : ℕ) → sets (sets list at vs) (at + length vs) ws ≡ sets list at (vs ++ ws)
 sets-append [] ws list at = let e : at + 0 ≡ at = omega arith in rw e
 sets-append (v ∷ vs) ws list at = let e : at + suc (length vs) ≡ suc at + length vs = omega arith in rw e (sets-append vs ws (set list at v) (suc at))
 
 module _ {A : Type 0} (words : A → List ℕ) where
-  pub flat-append : (xs ys : List A) → flatMap words (xs ++ ys) ≡ flatMap words xs ++ flatMap words ys
+  flat-append : (xs ys : List A) → flatMap words (xs ++ ys) ≡ flatMap words xs ++ flatMap words ys
   unfolding flatMap
   flat-append [] ys = refl
   flat-append (x ∷ xs) ys = rw (flat-append xs ys) (sym (append-assoc (words x) (flatMap words xs) (flatMap words ys)))
+
+  pub laid-none : (line : ℕ) (list : List ℕ) → Laid words [] line list line list
+  unfolding flatMap
+  laid-none line list = record { lines = omega arith; laid = refl }
+
+  pub laid-length : {xs : List A} {line : ℕ} {list : List ℕ} {next : ℕ} {list′ : List ℕ} → Laid words xs line list next list′ → length list′ ≡ length list
+  laid-length {xs} {line} {list} l = ap length (l .laid) ∙ length-sets list (lineWidth * line) (flatMap words xs)
 
   module _ (wide : (x : A) → length (words x) ≡ lineWidth) where
     pub flat-length : (xs : List A) → length (flatMap words xs) ≡ lineWidth * length xs
@@ -25,28 +40,40 @@ module _ {A : Type 0} (words : A → List ℕ) where
     flat-length (x ∷ xs) = length-append (words x) (flatMap words xs) ∙ omega (arith, wide x, flat-length xs)
 
     -- lines behind lines
-    pub laid-behind : (xs ys : List A) (list : List ℕ) (line : ℕ) →
-        sets (sets list (lineWidth * line) (flatMap words xs)) (lineWidth * (line + length xs)) (flatMap words ys) ≡ sets list (lineWidth * line) (flatMap words (xs ++ ys))
-    laid-behind xs ys list line =
-        let e : lineWidth * (line + length xs) ≡ lineWidth * line + length (flatMap words xs) = omega (arith, flat-length xs) in
-        rw (e, flat-append xs ys) (sets-append (flatMap words xs) (flatMap words ys) list (lineWidth * line))
+    pub laid-more : {xs ys : List A} {line : ℕ} {list : List ℕ} {next : ℕ} {list′ : List ℕ} {last : ℕ} {list″ : List ℕ} →
+        Laid words xs line list next list′ → Laid words ys next list′ last list″ → Laid words (xs ++ ys) line list last list″
+    laid-more {xs} {ys} {line} {list} {next} {list′} {last} {list″} l m =
+        let e : lineWidth * next ≡ lineWidth * line + length (flatMap words xs) = omega (arith, flat-length xs, l .lines) in
+        record {
+          lines = omega (arith, l .lines, m .lines, length-append xs ys);
+          laid = m .laid ∙ rw (e, l .laid, flat-append xs ys) (sets-append (flatMap words xs) (flatMap words ys) list (lineWidth * line));
+        }
 
--- the lines of WRITEs and those of READs
-module _ (t : Tables) where
-  pub line-wide : (line : Line) → length (lineWords t line) ≡ lineWidth
+    -- all lines, from the start of a list
+    pub laid-front : {xs : List A} {list : List ℕ} {next : ℕ} {list′ : List ℕ} → lineWidth * length xs ≤ length list → Laid words xs 0 list next list′ →
+        (next ≡ length xs) × (list′ ≡ flatMap words xs ++ drop (lineWidth * length xs) list)
+    laid-front {xs} {list} h l =
+        (omega (arith, l .lines), l .laid ∙ sets-eq (flatMap words xs) list 0 (omega (arith, flat-length xs)) ∙ (let e : 0 + length (flatMap words xs) ≡ lineWidth * length xs = omega (arith, flat-length xs) in rw e))
+
+-- the lines of WRITEs and those of READs among all lines
+module _ (writes : List ℕ) (n : ℕ) (reads : List ℕ) where
+  pub line-wide : (line : Line) → length (wordsOfLine writes n reads line) ≡ lineWidth
   line-wide (write place) = refl
   line-wide (read place) = refl
 
-  pub flat-writes : (places : List ℕ) → flatMap (lineWords t) (map write places) ≡ flatMap (writeWords (t .writes)) places
+  flat-writes : (places : List ℕ) → flatMap (writeWords writes) places ≡ flatMap (wordsOfLine writes n reads) (map write places)
   unfolding flatMap
   flat-writes [] = refl
-  flat-writes (place ∷ places) = ap (λ (l : List ℕ). writeWords (t .writes) place ++ l) (flat-writes places)
+  flat-writes (place ∷ places) = ap (λ (l : List ℕ). writeWords writes place ++ l) (flat-writes places)
 
-  pub flat-reads : (places : List ℕ) → flatMap (lineWords t) (map read places) ≡ flatMap (readWords (t .writes) (writesOf t) (t .reads)) places
+  flat-reads : (places : List ℕ) → flatMap (readWords writes n reads) places ≡ flatMap (wordsOfLine writes n reads) (map read places)
   unfolding flatMap
   flat-reads [] = refl
-  flat-reads (place ∷ places) = ap (λ (l : List ℕ). readWords (t .writes) (writesOf t) (t .reads) place ++ l) (flat-reads places)
+  flat-reads (place ∷ places) = ap (λ (l : List ℕ). readWords writes n reads place ++ l) (flat-reads places)
 
--- from the start of the list
-pub sets-front : (words list : List ℕ) → length words ≤ length list → sets list 0 words ≡ words ++ drop (length words) list
-sets-front words list h = sets-eq words list 0 (omega arith) ∙ (let e : 0 + length words ≡ length words = omega arith in rw e)
+  module _ {places : List ℕ} {line : ℕ} {list : List ℕ} {next : ℕ} {list′ : List ℕ} where
+    pub laid-writes : Laid (writeWords writes) places line list next list′ → Laid (wordsOfLine writes n reads) (map write places) line list next list′
+    laid-writes l = record { lines = l .lines ∙ rw (length-map places write); laid = l .laid ∙ rw (flat-writes places) }
+
+    pub laid-reads : Laid (readWords writes n reads) places line list next list′ → Laid (wordsOfLine writes n reads) (map read places) line list next list′
+    laid-reads l = record { lines = l .lines ∙ rw (length-map places read); laid = l .laid ∙ rw (flat-reads places) }

@@ -5,3 +5,4 @@ pub mod Places
 pub mod Moves
 pub mod Laid
 pub mod Ready
+pub mod Lengths
