@@ -1,11 +1,14 @@
 -- Lines laid one behind another: what a list is after some lines, and one part of them behind another.
-use Prim.Native.Nat.{ℕ, zero, suc, _+_, _*_, _≤_}
+use Prim.Native.Nat.{ℕ, zero, suc, _+_, _*_, _≤_, _<_}
+use mathlib.Core.Bool.{Bool, true, false}
 use mathlib.Core.Path.{_≡_, refl, sym, ap, _∙_}
-use mathlib.Core.List.{List, [], _∷_, _++_, append-assoc, map, flatMap}
+use mathlib.Core.List.{List, [], _∷_, _++_, append-assoc, append-nil, map, flatMap}
 use native.Mathlib.Omega.{arith}
-use lib.ListN.{length, set, drop, length-append, length-map}
+use lib.ListN.{length, getD, set, take, drop, length-append, length-map}
 use lib.Seq.{sets, sets-eq, length-sets}
-use Rattle.listing.specs.Register.{lineWidth, Line, write, read, writeWords, readWords, wordsOfLine}
+use Rattle.tables.specs.Rows.{HasRow}
+use Rattle.listing.specs.Register.{kept, placesBelow, passing, lineWidth, Line, write, read, writeWords, readWords, wordsOfLine}
+use Rattle.listing.specs.Places.{places-more, places-room, passing-more, passing-room}
 
 -- lines laid from a line on: the next line, and the list
 pub record Laid {A : Type 0} (words : A → List ℕ) (xs : List A) (line : ℕ) (list : List ℕ) (next : ℕ) (list′ : List ℕ) : Type 0 where
@@ -54,6 +57,33 @@ module _ {A : Type 0} (words : A → List ℕ) where
         (next ≡ length xs) × (list′ ≡ flatMap words xs ++ drop (lineWidth * length xs) list)
     laid-front {xs} {list} h l =
         (omega (arith, l .lines), l .laid ∙ sets-eq (flatMap words xs) list 0 (omega (arith, flat-length xs)) ∙ (let e : 0 + length (flatMap words xs) ≡ lineWidth * length xs = omega (arith, flat-length xs) in rw e))
+
+-- the lines of places, as a loop lays them; a place that fails the test leaves no line
+module _ (words : ℕ → List ℕ) (place line : ℕ) (list : List ℕ) {b : Bool} where
+  pub laid-kept : b ≡ true → {list′ : List ℕ} → list′ ≡ sets list (lineWidth * line) (words place) → Laid words (kept b place) line list (line + 1) list′
+  unfolding flatMap
+  laid-kept e d = rw e (record { lines = refl; laid = d ∙ rw (append-nil (words place)) })
+
+  pub laid-past : b ≡ false → Laid words (kept b place) line list line list
+  laid-past e = rw e (laid-none words line list)
+
+pub room-kept : (place line : ℕ) (list : List ℕ) {b : Bool} → b ≡ true → Room (kept b place) line list → HasRow lineWidth list line
+room-kept place line list e r = omega (arith, rw e at r)
+
+module _ (words : ℕ → List ℕ) (wide : (place : ℕ) → length (words place) ≡ lineWidth) (p : ℕ → Bool) {line : ℕ} {list : List ℕ} {next : ℕ} {list′ : List ℕ} where
+  module _ (i : ℕ) (l : Laid words (placesBelow p i) line list next list′) where
+    pub laid-place : {last : ℕ} {list″ : List ℕ} → Laid words (kept (p i) i) next list′ last list″ → Laid words (placesBelow p (i + 1)) line list last list″
+    laid-place m = rw (places-more p i) (laid-more words wide l m)
+
+    pub room-place : (n : ℕ) → i < n → Room (placesBelow p n) line list → Room (kept (p i) i) next list′
+    room-place n h r = omega (arith, r, l .lines, laid-length words l, places-room p i n h)
+
+  module _ (places : List ℕ) (i : ℕ) (l : Laid words (passing p (take i places)) line list next list′) where
+    pub laid-passing : i < length places → {last : ℕ} {list″ : List ℕ} → Laid words (kept (p (getD places i 0)) (getD places i 0)) next list′ last list″ → Laid words (passing p (take (i + 1) places)) line list last list″
+    laid-passing h m = rw (passing-more p places i h) (laid-more words wide l m)
+
+    pub room-passing : (n : ℕ) → i < n → n ≤ length places → Room (passing p (take n places)) line list → Room (kept (p (getD places i 0)) (getD places i 0)) next list′
+    room-passing n h g r = omega (arith, r, l .lines, laid-length words l, passing-room p places i n h g)
 
 -- the lines of WRITEs and those of READs among all lines
 module _ (writes : List ℕ) (n : ℕ) (reads : List ℕ) where
