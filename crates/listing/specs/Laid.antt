@@ -107,3 +107,18 @@ module _ (writes : List ℕ) (n : ℕ) (reads : List ℕ) where
 
     pub laid-reads : Laid (readWords writes n reads) places line list next list′ → Laid (wordsOfLine writes n reads) (map read places) line list next list′
     laid-reads l = record { lines = l .lines ∙ rw (length-map places read); laid = l .laid ∙ rw (flat-reads places) }
+
+  -- the lines of a tag: its WRITEs, then its READs
+  module _ (ws rs : List ℕ) (line : ℕ) (list : List ℕ) where
+    both-length : length (map write ws ++ map read rs) ≡ length ws + length rs
+    both-length = length-append (map write ws) (map read rs) ∙ omega (arith, length-map ws write, length-map rs read)
+
+    pub room-writes : Room (map write ws ++ map read rs) line list → Room ws line list
+    room-writes r = omega (arith, r, both-length)
+
+    pub room-reads : Room (map write ws ++ map read rs) line list → {next : ℕ} {list′ : List ℕ} → Laid (writeWords writes) ws line list next list′ → Room rs next list′
+    room-reads r l = omega (arith, r, both-length, l .lines, laid-length (writeWords writes) l)
+
+    pub laid-tag : {next : ℕ} {list′ : List ℕ} {last : ℕ} {list″ : List ℕ} → Laid (writeWords writes) ws line list next list′ → Laid (readWords writes n reads) rs next list′ last list″ →
+        Laid (wordsOfLine writes n reads) (map write ws ++ map read rs) line list last list″
+    laid-tag l m = laid-more (wordsOfLine writes n reads) line-wide (laid-writes l) (laid-reads m)

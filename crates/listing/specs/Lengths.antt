@@ -9,7 +9,7 @@ use lib.Dec.{eqb, ltb, leb}
 use borrow.Author.Tests.{lt-ltb, le-ltb, le-leb, lt-leb, eq-eqb, ne-eqb, leb-true, leb-false}
 use Rattle.ranges.specs.Tests.{by-equal, by-test}
 use Rattle.ranges.specs.Sum.{one, sumBelow, countBelow, sum-same, count-most}
-use Rattle.tables.specs.Layout.{recordWord, tagOfRecord}
+use Rattle.tables.specs.Layout.{recordWord, tagOfRecord, recordPlaces, countAt, writesField, readsField}
 use Rattle.tables.specs.Tables.{Tables, entriesOf, writesOf, readsOf}
 use Rattle.listing.specs.Register.{isFinished, hasTag, kept, placesBelow, passing, inserted, insertedAll, endIn, write, read, finishedReads, byEnd, writesOfTag, readsOfTag, listedTo, register}
 use Rattle.listing.specs.Places.{length-kept, passing-append}
@@ -96,6 +96,9 @@ tagged-more x n =
 
 -- ---- the register
 
+abbrev pub linesIn : List ℕ → List ℕ → List ℕ → ℕ
+linesIn counts writes reads = countBelow (λ place. not (hasTag writes 0 place)) (countAt counts writesField) + countBelow (isFinished reads) (countAt counts readsField)
+
 module _ (t : Tables) where
   abbrev tagOfWrite : ℕ → ℕ
   tagOfWrite place = recordWord (t .writes) place tagOfRecord
@@ -157,12 +160,9 @@ module _ (t : Tables) where
       by-equal n (suc m) (λ e. rw e (omega arith))
       (λ d. rw (length-append (listedTo t m) (map write (writesOfTag t (suc m)) ++ map read (readsOfTag t (suc m)))) (omega (arith, fewer-lines n m (omega arith))))
 
-  abbrev pub linesCounted : ℕ
-  linesCounted = countBelow (λ place. not (hasTag (t .writes) 0 place)) (writesOf t) + countBelow (isFinished (t .reads)) (readsOf t)
-
   -- each record's tag is a place of the log, so that all that have a line are listed
   module _ (wtag : (place : ℕ) → place < writesOf t → tagOfWrite place < entriesOf t) (rtag : (place : ℕ) → place < readsOf t → tagOfRead place < entriesOf t) where
-    pub register-length : length (register t) ≡ linesCounted
+    pub register-length : length (register t) ≡ linesIn (t .counts) (t .writes) (t .reads)
     register-length =
         let w : writesTo (entriesOf t - 1) ≡ countBelow (λ place. not (hasTag (t .writes) 0 place)) (writesOf t) =
         sum-same _ _ (writesOf t) (λ i l. rw (le-leb (tagOfWrite i) (entriesOf t - 1) (omega (arith, wtag i l))) (ap one (and-true (not (eqb (tagOfWrite i) 0))))) in
@@ -174,5 +174,7 @@ module _ (t : Tables) where
         and-true true = refl
         and-true false = refl
 
-  pub few-lines : linesCounted ≤ writesOf t + readsOf t
-  few-lines = omega (arith, count-most (λ place. not (hasTag (t .writes) 0 place)) (writesOf t), count-most (isFinished (t .reads)) (readsOf t))
+    -- "255 WRITEs", "255 READs": at most 510 lines
+    pub few-lines : writesOf t ≤ recordPlaces → readsOf t ≤ recordPlaces → length (register t) ≤ 510
+    few-lines w r =
+        omega (arith, w, r, register-length, count-most (λ place. not (hasTag (t .writes) 0 place)) (writesOf t), count-most (isFinished (t .reads)) (readsOf t))

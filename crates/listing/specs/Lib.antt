@@ -6,3 +6,4 @@ pub mod Moves
 pub mod Laid
 pub mod Ready
 pub mod Lengths
+pub mod Cases
