@@ -9,9 +9,6 @@ use Rattle.listing.specs.Register.{isFinished, hasTag, overlaps}
 use borrow.Author.Needs.{needs}
 use Rattle.listing.proofs.records.count_finished.Statement.{statement}
 use Rattle.listing.proofs.records.count_finished.Tie as tie
-use Rattle.listing.proofs.records.count_finished.Reads as reads
-use Rattle.listing.proofs.records.count_finished.Lts as lts
-use Rattle.listing.proofs.records.is_finished.Reads as is-finished-reads
 
 abbrev Inv-loop : tie.InvT-loop
 Inv-loop reads begun found₀ place₀ found place = (place ≤ begun) × (found ≡ countBelow (isFinished reads) place)

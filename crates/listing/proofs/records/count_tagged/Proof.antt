@@ -9,9 +9,6 @@ use Rattle.listing.specs.Register.{isFinished, hasTag, overlaps}
 use borrow.Author.Needs.{needs}
 use Rattle.listing.proofs.records.count_tagged.Statement.{statement}
 use Rattle.listing.proofs.records.count_tagged.Tie as tie
-use Rattle.listing.proofs.records.count_tagged.Reads as reads
-use Rattle.listing.proofs.records.count_tagged.Lts as lts
-use Rattle.listing.proofs.records.has_tag.Reads as has-tag-reads
 
 abbrev Inv-loop : tie.InvT-loop
 Inv-loop writes begun found₀ place₀ found place = (place ≤ begun) × (found ≡ countBelow (λ k. not (hasTag writes 0 k)) place)

@@ -2,9 +2,6 @@
 use borrow.Author.Needs.{needs}
 use Rattle.listing.proofs.records.has_tag.Statement.{statement}
 use Rattle.listing.proofs.records.has_tag.Tie as tie
-use Rattle.listing.proofs.records.has_tag.Reads as reads
-use Rattle.listing.proofs.records.has_tag.Lts as lts
-use Rattle.tables.proofs.records.record_word.Reads as record-word-reads
 
 returns : tie.Need-returns
 returns c = rw (c .record-word .ensures)

@@ -2,9 +2,6 @@
 use borrow.Author.Needs.{needs}
 use Rattle.listing.proofs.records.is_finished.Statement.{statement}
 use Rattle.listing.proofs.records.is_finished.Tie as tie
-use Rattle.listing.proofs.records.is_finished.Reads as reads
-use Rattle.listing.proofs.records.is_finished.Lts as lts
-use Rattle.tables.proofs.records.record_word.Reads as record-word-reads
 
 returns : tie.Need-returns
 returns c = rw (c .record-word .ensures)

@@ -9,9 +9,6 @@ use Rattle.listing.specs.Register.{isFinished, hasTag, overlaps}
 use borrow.Author.Needs.{needs}
 use Rattle.listing.proofs.records.overlap.Statement.{statement}
 use Rattle.listing.proofs.records.overlap.Tie as tie
-use Rattle.listing.proofs.records.overlap.Reads as reads
-use Rattle.listing.proofs.records.overlap.Lts as lts
-use Rattle.listing.proofs.records.overlaps.Reads as overlaps-reads
 
 abbrev Inv-loop : tie.InvT-loop
 Inv-loop writes begun begin end found₀ place₀ found place = (place ≤ begun) × (found ≡ countBelow (overlaps writes begin end) place)

@@ -4,10 +4,6 @@ use borrow.Author.Tests.{lt-ltb, le-ltb, not-true, not-false}
 use borrow.Author.Needs.{needs}
 use Rattle.listing.proofs.records.overlaps.Statement.{statement}
 use Rattle.listing.proofs.records.overlaps.Tie as tie
-use Rattle.listing.proofs.records.overlaps.Reads as reads
-use Rattle.listing.proofs.records.overlaps.Lts as lts
-use Rattle.listing.proofs.records.is_finished.Reads as is-finished-reads
-use Rattle.tables.proofs.records.record_word.Reads as record-word-reads
 
 returns : tie.Need-returns
 returns c = rw (sym (c .before .is-finished .ensures) ∙ not-true _ (c .if1 .taken))
