@@ -27,7 +27,7 @@ module _ (t : Tables) (a : Listable (t .counts) (t .writes) (t .reads)) where
 
   module _ {begun : ℕ} {order : List ℕ} {count : ℕ} (d : begun ≡ writesOf t) (o : InOrder (t .reads) (readsOf t) order count) where
     -- the READs of tag 0
-    pub room-first : (list : List ℕ) → lineWidth * linesIn (t .counts) (t .writes) (t .reads) ≤ length list → Room (passing (hasTag (t .reads) 0) (take count order)) 0 list
+    pub room-first : (list : List ℕ) → lineWidth * linesIn (t .counts) (t .writes) (t .reads) ≤ length list → Room (length (passing (hasTag (t .reads) 0) (take count order))) 0 list
     unfolding listedTo
     room-first list h = rw (o .are) (omega (arith, h, lines-counted, fewer-lines t 0 (entriesOf t - 1) (omega arith), length-map (readsOfTag t 0) read))
 
@@ -38,12 +38,12 @@ module _ (t : Tables) (a : Listable (t .counts) (t .writes) (t .reads)) where
 
     -- one tag more
     module _ (n : ℕ) {list : List ℕ} {next : ℕ} {list′ : List ℕ} (l : Laid (lineWords t) (listedTo t n) 0 list next list′) where
-      pub room-more : n + 1 < entriesOf t → lineWidth * linesIn (t .counts) (t .writes) (t .reads) ≤ length list → Room (tagLines (t .writes) begun (t .reads) (take count order) (n + 1)) next list′
+      pub room-more : n + 1 < entriesOf t → lineWidth * linesIn (t .counts) (t .writes) (t .reads) ≤ length list → Room (length (placesBelow (hasTag (t .writes) (n + 1)) begun) + length (passing (hasTag (t .reads) (n + 1)) (take count order))) next list′
       unfolding listedTo
       room-more h g =
           let f = fewer-lines t (suc n) (entriesOf t - 1) (omega arith) in
           rw (d, o .are, add-one n)
-          (omega (arith, g, lines-counted, f, l .lines, laid-length (lineWords t) l, length-append (listedTo t n) (map write (writesOfTag t (suc n)) ++ map read (readsOfTag t (suc n)))))
+          (omega (arith, g, lines-counted, f, l .lines, laid-length (lineWords t) l, length-append (listedTo t n) (map write (writesOfTag t (suc n)) ++ map read (readsOfTag t (suc n))), length-append (map write (writesOfTag t (suc n))) (map read (readsOfTag t (suc n))), length-map (writesOfTag t (suc n)) write, length-map (readsOfTag t (suc n)) read))
 
       pub listed-more : {last : ℕ} {list″ : List ℕ} → Laid (wordsOfLine (t .writes) begun (t .reads)) (tagLines (t .writes) begun (t .reads) (take count order) (n + 1)) next list′ last list″ →
           Laid (lineWords t) (listedTo t (n + 1)) 0 list last list″

@@ -15,9 +15,9 @@ pub record Laid {A : Type 0} (words : A → List ℕ) (xs : List A) (line : ℕ)
   pub lines : next ≡ line + length xs
   pub laid : list′ ≡ sets list (lineWidth * line) (flatMap words xs)
 
--- there is room for lines from a line on
-abbrev pub Room : {A : Type 0} → List A → ℕ → List ℕ → Type 0
-Room xs line list = lineWidth * (line + length xs) ≤ length list
+-- there is room for n lines from a line on
+abbrev pub Room : ℕ → ℕ → List ℕ → Type 0
+Room n line list = lineWidth * (line + n) ≤ length list
 
 sets-append : (vs ws list : List ℕ) (at : ℕ) → sets (sets list at vs) (at + length vs) ws ≡ sets list at (vs ++ ws)
 sets-append [] ws list at = let e : at + 0 ≡ at = omega arith in rw e
@@ -67,7 +67,7 @@ module _ (words : ℕ → List ℕ) (place line : ℕ) (list : List ℕ) {b : Bo
   pub laid-past : b ≡ false → Laid words (kept b place) line list line list
   laid-past e = rw e (laid-none words line list)
 
-pub room-kept : (place line : ℕ) (list : List ℕ) {b : Bool} → b ≡ true → Room (kept b place) line list → HasRow lineWidth list line
+pub room-kept : (place line : ℕ) (list : List ℕ) {b : Bool} → b ≡ true → Room (length (kept b place)) line list → HasRow lineWidth list line
 room-kept place line list e r = omega (arith, rw e at r)
 
 module _ (words : ℕ → List ℕ) (wide : (place : ℕ) → length (words place) ≡ lineWidth) (p : ℕ → Bool) {line : ℕ} {list : List ℕ} {next : ℕ} {list′ : List ℕ} where
@@ -75,14 +75,14 @@ module _ (words : ℕ → List ℕ) (wide : (place : ℕ) → length (words plac
     pub laid-place : {last : ℕ} {list″ : List ℕ} → Laid words (kept (p i) i) next list′ last list″ → Laid words (placesBelow p (i + 1)) line list last list″
     laid-place m = rw (places-more p i) (laid-more words wide l m)
 
-    pub room-place : (n : ℕ) → i < n → Room (placesBelow p n) line list → Room (kept (p i) i) next list′
+    pub room-place : (n : ℕ) → i < n → Room (length (placesBelow p n)) line list → Room (length (kept (p i) i)) next list′
     room-place n h r = omega (arith, r, l .lines, laid-length words l, places-room p i n h)
 
   module _ (places : List ℕ) (i : ℕ) (l : Laid words (passing p (take i places)) line list next list′) where
     pub laid-passing : i < length places → {last : ℕ} {list″ : List ℕ} → Laid words (kept (p (getD places i 0)) (getD places i 0)) next list′ last list″ → Laid words (passing p (take (i + 1) places)) line list last list″
     laid-passing h m = rw (passing-more p places i h) (laid-more words wide l m)
 
-    pub room-passing : (n : ℕ) → i < n → n ≤ length places → Room (passing p (take n places)) line list → Room (kept (p (getD places i 0)) (getD places i 0)) next list′
+    pub room-passing : (n : ℕ) → i < n → n ≤ length places → Room (length (passing p (take n places))) line list → Room (length (kept (p (getD places i 0)) (getD places i 0))) next list′
     room-passing n h g r = omega (arith, r, l .lines, laid-length words l, passing-room p places i n h g)
 
 -- the lines of WRITEs and those of READs among all lines
@@ -110,15 +110,6 @@ module _ (writes : List ℕ) (n : ℕ) (reads : List ℕ) where
 
   -- the lines of a tag: its WRITEs, then its READs
   module _ (ws rs : List ℕ) (line : ℕ) (list : List ℕ) where
-    both-length : length (map write ws ++ map read rs) ≡ length ws + length rs
-    both-length = length-append (map write ws) (map read rs) ∙ omega (arith, length-map ws write, length-map rs read)
-
-    pub room-writes : Room (map write ws ++ map read rs) line list → Room ws line list
-    room-writes r = omega (arith, r, both-length)
-
-    pub room-reads : Room (map write ws ++ map read rs) line list → {next : ℕ} {list′ : List ℕ} → Laid (writeWords writes) ws line list next list′ → Room rs next list′
-    room-reads r l = omega (arith, r, both-length, l .lines, laid-length (writeWords writes) l)
-
     pub laid-tag : {next : ℕ} {list′ : List ℕ} {last : ℕ} {list″ : List ℕ} → Laid (writeWords writes) ws line list next list′ → Laid (readWords writes n reads) rs next list′ last list″ →
         Laid (wordsOfLine writes n reads) (map write ws ++ map read rs) line list last list″
     laid-tag l m = laid-more (wordsOfLine writes n reads) line-wide (laid-writes l) (laid-reads m)
