@@ -7,3 +7,4 @@ pub mod Laid
 pub mod Ready
 pub mod Lengths
 pub mod Cases
+pub mod Orders
