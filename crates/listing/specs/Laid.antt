@@ -7,7 +7,8 @@ use native.Mathlib.Omega.{arith}
 use lib.ListN.{length, getD, set, take, drop, length-append, length-map}
 use lib.Seq.{sets, sets-eq, length-sets}
 use Rattle.tables.specs.Rows.{HasRow}
-use Rattle.listing.specs.Register.{kept, placesBelow, passing, lineWidth, Line, write, read, writeWords, readWords, wordsOfLine}
+use Rattle.tables.specs.Layout.{recordWord, beginOfRecord, endOfRecord}
+use Rattle.listing.specs.Register.{kept, placesBelow, passing, lineWidth, Line, write, read, writeWords, readWords, recordWords, overlap, wordsOfLine}
 use Rattle.listing.specs.Places.{places-more, places-room, passing-more, passing-room}
 
 -- lines laid from a line on: the next line, and the list
@@ -84,6 +85,12 @@ module _ (words : ℕ → List ℕ) (wide : (place : ℕ) → length (words plac
 
     pub room-passing : (n : ℕ) → i < n → n ≤ length places → Room (length (passing p (take n places))) line list → Room (length (kept (p (getD places i 0)) (getD places i 0))) next list′
     room-passing n h g r = omega (arith, r, l .lines, laid-length words l, passing-room p places i n h g)
+
+-- the line of a READ: its record, with the overlap of its begin and end
+pub read-line : (writes : List ℕ) (n : ℕ) (reads : List ℕ) (place line : ℕ) (list : List ℕ) {begin end over : ℕ} {list′ : List ℕ} →
+    begin ≡ recordWord reads place beginOfRecord → end ≡ recordWord reads place endOfRecord → over ≡ overlap writes n begin end →
+    list′ ≡ sets list (lineWidth * line) (recordWords 1 reads place over) → list′ ≡ sets list (lineWidth * line) (readWords writes n reads place)
+read-line writes n reads place line list b e o l = l ∙ rw (o, b, e)
 
 -- the lines of WRITEs and those of READs among all lines
 module _ (writes : List ℕ) (n : ℕ) (reads : List ℕ) where
