@@ -8,17 +8,15 @@ use lib.Seq.{append-snoc}
 use borrow.Author.Tests.{le-ltb}
 use Rattle.tables.specs.Tables.{Tables}
 use Rattle.listing.specs.Register.{hasTag, kept, passing, inserted, insertedAll, endIn, finishedReads, byEnd, readsOfTag}
-use Rattle.listing.specs.Places.{passing-append}
+use Rattle.listing.specs.Places.{Each, passing-append}
 
 module _ (end : ℕ → ℕ) where
   -- no place's end is above a number, or below it
   abbrev pub UpTo : ℕ → List ℕ → Type 0
-  UpTo most [] = Unit {0}
-  UpTo most (place ∷ places) = (end place ≤ most) × UpTo most places
+  UpTo most places = Each (λ place. end place ≤ most) places
 
   abbrev pub From : ℕ → List ℕ → Type 0
-  From least [] = Unit {0}
-  From least (place ∷ places) = (least ≤ end place) × From least places
+  From least places = Each (λ place. least ≤ end place) places
 
   -- the ends do not fall along the places
   abbrev pub Rising : List ℕ → Type 0
