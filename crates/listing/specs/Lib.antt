@@ -8,3 +8,4 @@ pub mod Ready
 pub mod Lengths
 pub mod Cases
 pub mod Orders
+pub mod Changes
