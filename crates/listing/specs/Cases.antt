@@ -1,18 +1,17 @@
 -- The lines of one tag more, and the cases of the answer, as the code meets them.
-use Prim.Native.Nat.{ℕ, zero, suc, _+_, _-_, _*_, _≤_, _<_}
-use mathlib.Core.Path.{_≡_, refl, sym, ap, _∙_}
-use mathlib.Core.Bool.{Bool, true, false, not}
+use Prim.Native.Nat.{ℕ, suc, _+_, _-_, _*_, _≤_, _<_}
+use mathlib.Core.Path.{_≡_}
+use mathlib.Core.Bool.{Bool, true, not}
 use mathlib.Core.List.{List, _++_, map}
 use native.Mathlib.Omega.{arith}
 use native.Mathlib.Numerals.{add-one}
 use lib.ListN.{length, take, length-append, length-map}
-use lib.Dec.{ltb}
 use borrow.Author.Tests.{lt-ltb, le-ltb}
 use Rattle.tables.specs.Tables.{Tables, entriesOf, writesOf, readsOf}
 use Rattle.soundness.specs.Sound.{sound}
 use Rattle.soundness.specs.Facts.{Sound, facts-sound}
 use Rattle.listing.specs.declared.Listed.the-variants.{Rows, Refused}
-use Rattle.listing.specs.Register.{hasTag, placesBelow, passing, byEnd, writesOfTag, readsOfTag, listedTo, register, lineWidth, Line, write, read, readWords, wordsOfLine, lineWords, listing, listedSound, listRegister}
+use Rattle.listing.specs.Register.{hasTag, placesBelow, passing, writesOfTag, readsOfTag, listedTo, register, lineWidth, Line, write, read, readWords, wordsOfLine, lineWords, listing, listedSound, listRegister}
 use Rattle.listing.specs.Laid.{Laid, Room, laid-length, laid-more, laid-front, laid-reads, line-wide}
 use Rattle.listing.specs.Lengths.{linesIn, register-length, fewer-lines}
 use Rattle.listing.specs.Ready.{InOrder, Listable}

@@ -11,8 +11,8 @@ use borrow.Author.Tests.{lt-ltb, eq-eqb, ne-eqb}
 use Rattle.ranges.specs.Tests.{by-equal, by-test, not-both}
 use Rattle.tables.specs.Tables.{Tables}
 use Rattle.soundness.specs.Facts.{Sound}
-use Rattle.listing.specs.Register.{isFinished, kept, placesBelow, inserted, insertedAll, endIn, finishedBelow, byEndBelow, register}
-use Rattle.listing.specs.Places.{Each, each-passes, each-by-end, by-end-more}
+use Rattle.listing.specs.Register.{isFinished, placesBelow, inserted, insertedAll, endIn, byEndBelow, register}
+use Rattle.listing.specs.Places.{Each, each-by-end, by-end-more}
 use Rattle.listing.specs.Orders.{inserted-last}
 use Rattle.listing.specs.Lengths.{few-lines}
 

@@ -1,17 +1,17 @@
 -- How many lines the register has: the WRITEs that have a tag and the finished READs, each once.
 use Prim.Native.Nat.{ℕ, zero, suc, _+_, _-_, _≤_, _<_}
-use mathlib.Core.Path.{_≡_, refl, sym, ap, _∙_}
+use mathlib.Core.Path.{_≡_, refl, ap, _∙_}
 use mathlib.Core.Bool.{Bool, true, false, cond, not, _&&_}
 use mathlib.Core.List.{List, [], _∷_, _++_, map}
 use native.Mathlib.Omega.{arith}
 use lib.ListN.{length, length-append, length-map}
 use lib.Dec.{eqb, ltb, leb}
-use borrow.Author.Tests.{lt-ltb, le-ltb, le-leb, lt-leb, eq-eqb, ne-eqb, leb-true, leb-false}
+use borrow.Author.Tests.{le-leb, lt-leb, eq-eqb, ne-eqb, leb-true, leb-false}
 use Rattle.ranges.specs.Tests.{by-equal, by-test}
 use Rattle.ranges.specs.Sum.{one, sumBelow, countBelow, sum-same, count-most}
 use Rattle.tables.specs.Layout.{recordWord, tagOfRecord, recordPlaces, countAt, writesField, readsField}
 use Rattle.tables.specs.Tables.{Tables, entriesOf, writesOf, readsOf}
-use Rattle.listing.specs.Register.{isFinished, hasTag, kept, placesBelow, passing, inserted, insertedAll, endIn, write, read, finishedReads, byEnd, writesOfTag, readsOfTag, listedTo, register}
+use Rattle.listing.specs.Register.{isFinished, hasTag, kept, placesBelow, passing, inserted, insertedAll, endIn, write, read, finishedReads, writesOfTag, readsOfTag, listedTo, register}
 use Rattle.listing.specs.Places.{length-kept, passing-append}
 
 -- ---- places

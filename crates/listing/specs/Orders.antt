@@ -1,13 +1,11 @@
 -- Laws of the register's order, for whoever compares it with another order: places whose ends rise stay, and a tag's READs keep the order.
 use Prim.Native.Nat.{ℕ, _≤_}
 use mathlib.Core.Path.{_≡_, refl, sym, ap, _∙_}
-use mathlib.Core.Bool.{Bool, true, false}
-use mathlib.Core.List.{List, [], _∷_, _++_, append-assoc, append-nil}
-use lib.Dec.{ltb}
+use mathlib.Core.List.{List, [], _∷_, _++_, append-nil}
 use lib.Seq.{append-snoc}
 use borrow.Author.Tests.{le-ltb}
 use Rattle.tables.specs.Tables.{Tables}
-use Rattle.listing.specs.Register.{hasTag, kept, passing, inserted, insertedAll, endIn, finishedReads, byEnd, readsOfTag}
+use Rattle.listing.specs.Register.{hasTag, passing, inserted, insertedAll, endIn, finishedReads, byEnd, readsOfTag}
 use Rattle.listing.specs.Places.{Each, passing-append}
 
 module _ (end : ℕ → ℕ) where

@@ -2,10 +2,9 @@
 use Prim.Native.Nat.{ℕ}
 use mathlib.Core.Path.{_≡_, refl}
 use mathlib.Core.List.{List, [], _∷_, _++_, flatMap}
-use lib.ListN.{replicate}
 use Rattle.ranges.specs.Sum.{sumBelow}
 use Rattle.tables.specs.Tables.{Tables, tablesOf}
-use Rattle.listing.specs.Register.{placesBelow, passing, inserted, insertedAll, Line, write, read, listedTo, register, registerWords}
+use Rattle.listing.specs.Register.{placesBelow, passing, inserted, insertedAll, write, read, listedTo, register, registerWords}
 
 -- the counts and the records alone: entries, WRITEs and READs begun
 abbrev recorded : ℕ → ℕ → ℕ → List ℕ → List ℕ → Tables

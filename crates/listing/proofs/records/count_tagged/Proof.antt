@@ -5,7 +5,7 @@ use mathlib.Core.Bool.{not}
 use mathlib.Core.Logic.{⊎-elim}
 use native.Mathlib.Omega.{arith}
 use Rattle.ranges.specs.Sum.{countBelow, count-zero, count-here, count-past, count-most}
-use Rattle.listing.specs.Register.{isFinished, hasTag, overlaps}
+use Rattle.listing.specs.Register.{hasTag}
 use borrow.Author.Needs.{needs}
 use Rattle.listing.proofs.records.count_tagged.Statement.{statement}
 use Rattle.listing.proofs.records.count_tagged.Tie as tie

@@ -1,11 +1,10 @@
 -- `listing::records::overlap` meets its contract: `found` counts the WRITEs passed that overlap.
 use Prim.Native.Nat.{_≤_, _-_}
-use mathlib.Core.Path.{_≡_, sym, ap, _∙_}
-use mathlib.Core.Bool.{not}
+use mathlib.Core.Path.{_≡_, sym, _∙_}
 use mathlib.Core.Logic.{⊎-elim}
 use native.Mathlib.Omega.{arith}
 use Rattle.ranges.specs.Sum.{countBelow, count-zero, count-here, count-past, count-most}
-use Rattle.listing.specs.Register.{isFinished, hasTag, overlaps}
+use Rattle.listing.specs.Register.{overlaps}
 use borrow.Author.Needs.{needs}
 use Rattle.listing.proofs.records.overlap.Statement.{statement}
 use Rattle.listing.proofs.records.overlap.Tie as tie
