@@ -2,10 +2,11 @@
 use Prim.Native.Nat.{ℕ, _≤_}
 use mathlib.Core.Path.{_≡_, refl, sym, ap, _∙_}
 use mathlib.Core.List.{List, [], _∷_, _++_, append-nil}
+use lib.ListN.{getD}
 use lib.Seq.{append-snoc}
 use borrow.Author.Tests.{le-ltb}
 use Rattle.tables.specs.Tables.{Tables}
-use Rattle.listing.specs.Register.{hasTag, passing, inserted, insertedAll, endIn, finishedReads, byEnd, readsOfTag}
+use Rattle.listing.specs.Register.{hasTag, passing, inserted, insertedAll, endIn, finishedReads, byEnd, readsOfTag, read, lineWords, overlapOf}
 use Rattle.listing.specs.Places.{Each, passing-append}
 
 module _ (end : ℕ → ℕ) where
@@ -51,3 +52,7 @@ module _ (t : Tables) where
   -- of two READs of a tag the one that stands before the other in order of end stands before it among the READs of the tag
   pub tag-keeps-order : (tag : ℕ) (before behind : List ℕ) → byEnd t ≡ before ++ behind → readsOfTag t tag ≡ passing (hasTag (t .reads) tag) before ++ passing (hasTag (t .reads) tag) behind
   tag-keeps-order tag before behind e = rw e (passing-append (hasTag (t .reads) tag) before behind)
+
+  -- the last word of a READ's line is its overlap
+  pub line-overlap : (place : ℕ) → getD (lineWords t (read place)) 6 0 ≡ overlapOf t place
+  line-overlap place = refl
