@@ -9,3 +9,4 @@ pub mod Lengths
 pub mod Cases
 pub mod Orders
 pub mod Changes
+pub mod Records
