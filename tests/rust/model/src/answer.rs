@@ -60,3 +60,15 @@ pub fn printed(outcome: &Outcome) -> String {
         Err(refusal) => refusal.to_string(),
     }
 }
+
+impl Refusal {
+    /// The refusal of a number, 1 to 13.
+    pub fn from_number(number: u32) -> Option<Refusal> {
+        use Refusal::*;
+        let all = [
+            BadOpening, Unsound, NoSuchPlace, WrongPart, Busy, BadMask, Exhausted, FullOrNotHeld, NothingThere, CutShort,
+            BadField, NoRoom, Unreadable,
+        ];
+        all.into_iter().find(|&refusal| refusal as u32 == number)
+    }
+}

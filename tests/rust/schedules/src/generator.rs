@@ -127,7 +127,12 @@ impl Generator {
         if self.random.chance(1, 2) {
             return wrong::unreadable(&mut self.random);
         }
-        line_of(&wrong::step_of_any_kind(&mut self.random))
+        line_of(&self.wrong_step())
+    }
+
+    /// A step with arguments that mostly do not fit the store.
+    pub fn wrong_step(&mut self) -> Step {
+        wrong::step_of_any_kind(&mut self.random)
     }
 
     /// A step that the store most likely accepts.

@@ -1,0 +1,111 @@
+//! Tables made odd: single words changed, tables cut short or filled to their limits.
+
+use schedules::Random;
+use words::layout::*;
+use words::Tables;
+
+/// Changes sound tables in one to three ways, or in none.
+pub fn damage(tables: &mut Tables, random: &mut Random) {
+    if random.chance(1, 6) {
+        fill(tables, random);
+    }
+    match random.below(12) {
+        0 => {}
+        1 => cut(tables, random),
+        2..=8 => change_word(tables, random),
+        _ => {
+            change_word(tables, random);
+            change_word(tables, random);
+        }
+    }
+}
+
+/// One table shorter, by a little or to any length.
+fn cut(tables: &mut Tables, random: &mut Random) {
+    let which = random.below(8);
+    let table = &mut tables.all_mut()[which];
+    let length = if random.chance(1, 2) { table.len() - random.within(1, 3).min(table.len()) } else { random.below(table.len() + 1) };
+    table.truncate(length);
+}
+
+/// A word of a used row, or of the row behind the last used one, becomes another.
+fn change_word(tables: &mut Tables, random: &mut Random) {
+    let which = random.below(8);
+    let place = word_place(tables, which, random);
+    let table = &mut tables.all_mut()[which];
+    if place >= table.len() {
+        return;
+    }
+    let other = table[random.below(table.len())];
+    table[place] = match random.below(8) {
+        0 => table[place].wrapping_add(1),
+        1 => table[place].wrapping_sub(1),
+        2 => other,
+        3 => 0,
+        4 => random.below(20) as u32,
+        5 => 256 * random.below(256) as u32 + random.below(17) as u32,
+        6 => table[place] ^ 1 << random.below(17),
+        _ => random.word(),
+    };
+}
+
+fn word_place(tables: &Tables, which: usize, random: &mut Random) -> usize {
+    let used = |place: usize| tables.counts.get(place).map_or(0, |&count| count as usize % 257);
+    let (clients, servers) = (used(CLIENTS).max(1), used(SERVERS).max(1));
+    match which {
+        0 => random.below(COUNTS_WORDS),
+        1 => random.below(CLIENT_WORDS * clients),
+        2 => LINK_WORDS * random.below(LINKS_OF_CLIENT * clients) + random.below(LINK_WORDS),
+        3 | 4 => {
+            let server = random.below(servers);
+            VERSIONS_OF_SERVER * server + random.below(used(HELD + server % 16) + 1)
+        }
+        5 => LOG_WORDS * random.below(used(ENTRIES) + 1) + random.below(LOG_WORDS),
+        6 => RECORD_WORDS * random.below(used(WRITES) + 1) + random.below(RECORD_WORDS),
+        _ => RECORD_WORDS * random.below(used(READS) + 1) + random.below(RECORD_WORDS),
+    }
+}
+
+/// Brings sound tables to a limit in such a way that they stay sound.
+fn fill(tables: &mut Tables, random: &mut Random) {
+    match random.below(5) {
+        0 => tables.counts[STEP] = random.pick(&[u32::MAX, u32::MAX - 1, u32::MAX - 2]),
+        1 => fill_versions(tables, random),
+        2 => fill_log(tables),
+        3 => fill_writes(tables),
+        _ => fill_reads(tables),
+    }
+}
+
+fn fill_versions(tables: &mut Tables, random: &mut Random) {
+    let server = random.below(tables.count(SERVERS));
+    let first = VERSIONS_OF_SERVER * server;
+    let held = tables.count(HELD + server);
+    tables.keys[first + held..first + VERSIONS_OF_SERVER].fill(0);
+    tables.counts[HELD + server] = VERSIONS_OF_SERVER as u32;
+}
+
+fn fill_log(tables: &mut Tables) {
+    for tag in tables.count(ENTRIES)..LOG_ENTRIES {
+        tables.log[LOG_WORDS * tag..][..LOG_WORDS].copy_from_slice(&[0, 1]);
+    }
+    tables.counts[ENTRIES] = LOG_ENTRIES as u32;
+}
+
+/// Finished WRITEs of the last client up to 255, and its count with them.
+fn fill_writes(tables: &mut Tables) {
+    let client = tables.count(CLIENTS) - 1;
+    let begun = tables.count(WRITES);
+    for place in begun..RECORDS {
+        tables.writes[RECORD_WORDS * place..][..RECORD_WORDS].copy_from_slice(&[client as u32, 1, 0, 1, 1]);
+    }
+    tables.clients[CLIENT_WORDS * client + COUNT] += (RECORDS - begun) as u32;
+    tables.counts[WRITES] = RECORDS as u32;
+}
+
+fn fill_reads(tables: &mut Tables) {
+    for place in tables.count(READS)..RECORDS {
+        tables.reads[RECORD_WORDS * place..][..RECORD_WORDS].copy_from_slice(&[0, 1, 0, 1, 1]);
+    }
+    tables.counts[READS] = RECORDS as u32;
+}
