@@ -9,21 +9,6 @@ use borrow.Author.Needs.{needs}
 use Rattle.frame_exports.proofs.frame_write.Statement.{statement}
 use Rattle.frame_exports.proofs.frame_write.Tie as tie
 
-fields-of-requires : tie.Need-fields-of-requires
-fields-of-requires c κs = search needs
-
-message-by-requires : tie.Need-message-by-requires
-message-by-requires c κs = search needs
-
-write-frame-requires : tie.Need-write-frame-requires
-write-frame-requires c κs = search needs
-
-written-number-requires : tie.Need-written-number-requires
-written-number-requires c κs = search needs
-
-same-length : tie.Need-same-length
-same-length c = search needs
-
 returns : tie.Need-returns
 returns c =
     let a = c .before .before .before .before .before .before .before .before .before .before .args in
@@ -36,10 +21,4 @@ returns c =
 pub frame-write-spec : {M : Type 1} → statement M
 frame-write-spec =
     tie.close
-    (tie.spec
-    fields-of-requires
-    message-by-requires
-    write-frame-requires
-    written-number-requires
-    same-length
-    returns)
+    (tie.spec (λ c κs. search needs) (λ c κs. search needs) (λ c κs. search needs) (λ c κs. search needs) (λ c. search needs) returns)

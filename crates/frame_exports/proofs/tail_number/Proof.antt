@@ -5,31 +5,10 @@ use borrow.Author.Needs.{needs}
 use Rattle.frame_exports.proofs.tail_number.Statement.{statement}
 use Rattle.frame_exports.proofs.tail_number.Tie as tie
 
-enum-known-reading : tie.Need-enum-known-reading
-enum-known-reading c = search needs
-
-tail-of-requires : tie.Need-tail-of-requires
-tail-of-requires c κs = search needs
-
-enum-known-reading-2 : tie.Need-enum-known-reading-2
-enum-known-reading-2 c = search needs
-
-refused-requires : tie.Need-refused-requires
-refused-requires c κs = search needs
-
-returns : tie.Need-returns
-returns c = search needs
-
 returns-2 : tie.Need-returns-2
 returns-2 c = c .refused .ensures ∙ sym (ap readTail (c .before .before .reading2 .given .1))
 
 pub tail-number-spec : {M : Type 1} → statement M
 tail-number-spec =
     tie.close
-    (tie.spec
-    enum-known-reading
-    tail-of-requires
-    enum-known-reading-2
-    refused-requires
-    returns
-    returns-2)
+    (tie.spec (λ c. search needs) (λ c κs. search needs) (λ c. search needs) (λ c κs. search needs) (λ c. search needs) returns-2)
