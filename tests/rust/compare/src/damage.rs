@@ -24,7 +24,8 @@ pub fn damage(tables: &mut Tables, random: &mut Random) {
 fn cut(tables: &mut Tables, random: &mut Random) {
     let which = random.below(8);
     let table = &mut tables.all_mut()[which];
-    let length = if random.chance(1, 2) { table.len() - random.within(1, 3).min(table.len()) } else { random.below(table.len() + 1) };
+    let length =
+        if random.chance(1, 2) { table.len() - random.within(1, 3).min(table.len()) } else { random.below(table.len() + 1) };
     table.truncate(length);
 }
 

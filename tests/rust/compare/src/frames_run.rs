@@ -102,7 +102,7 @@ impl Comparison {
     /// Bytes of any value, most of them with a kind in front.
     fn random_bytes(&mut self) -> Result<(), String> {
         let length = self.random.below(40);
-        let mut bytes: Vec<u8> = (0..length).map(|_| self.random.next() as u8).collect();
+        let mut bytes: Vec<u8> = (0..length).map(|_| self.random.draw() as u8).collect();
         if let Some(first) = bytes.first_mut() {
             *first = *first % 16 + 16 * self.random.below(14) as u8;
         }
@@ -116,7 +116,9 @@ impl Comparison {
         let expected = read_lent(bytes, &mut keys, &mut numbers);
         let found = self.library.read(bytes, &mut proved_keys, &mut proved_numbers);
         if (found, &proved_keys, &proved_numbers) != (expected, &keys, &numbers) {
-            return Err(format!("reading {bytes:02x?} with {key_places} and {number_places} places: {found:?}, the model {expected:?}"));
+            return Err(format!(
+                "reading {bytes:02x?} with {key_places} and {number_places} places: {found:?}, the model {expected:?}"
+            ));
         }
         self.count("read", expected.err());
         Ok(())
@@ -140,7 +142,10 @@ impl Comparison {
         let expected = write_lent(fixed, keys, numbers, bytes);
         let found = self.library.write(fixed, keys, numbers, &mut proved);
         if found != expected || proved != bytes {
-            return Err(format!("writing {fixed:?} {keys:?} {numbers:?} to {} bytes: {found:?}, the model {expected:?}", bytes.len()));
+            return Err(format!(
+                "writing {fixed:?} {keys:?} {numbers:?} to {} bytes: {found:?}, the model {expected:?}",
+                bytes.len()
+            ));
         }
         self.count("written", expected.err());
         Ok(expected.ok())

@@ -78,12 +78,8 @@ fn keep(schedule: &[u8], output: &[u8], seed: u64, difference: &str) -> String {
 /// Runs the program on an input; the input is written beside the reading, since a pipe holds only so much.
 fn play(program: &[String], input: &[u8]) -> Result<Vec<u8>, String> {
     let failed = |error: std::io::Error| format!("{}: {error}", program[0]);
-    let mut child = Command::new(&program[0])
-        .args(&program[1..])
-        .stdin(Stdio::piped())
-        .stdout(Stdio::piped())
-        .spawn()
-        .map_err(failed)?;
+    let mut child =
+        Command::new(&program[0]).args(&program[1..]).stdin(Stdio::piped()).stdout(Stdio::piped()).spawn().map_err(failed)?;
     let mut stdin = child.stdin.take().expect("piped");
     let mut stdout = child.stdout.take().expect("piped");
     let mut output = Vec::new();

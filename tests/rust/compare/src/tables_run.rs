@@ -84,7 +84,11 @@ fn compare_step(library: StoreLibrary, tables: &mut Tables, step: &Step, counts:
         return Err(format!("{step:?} answers {found:?}, the model {expected:?}; {}", shown(&before)));
     }
     if proved != *tables {
-        return Err(format!("{step:?} ({expected:?}) leaves other words: {}; before: {}", differing(&mut proved, tables), shown(&before)));
+        return Err(format!(
+            "{step:?} ({expected:?}) leaves other words: {}; before: {}",
+            differing(&mut proved, tables),
+            shown(&before)
+        ));
     }
     count(counts, sound, &expected);
     Ok(())

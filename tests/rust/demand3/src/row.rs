@@ -46,7 +46,10 @@ pub fn walk(run: &Run, row: &[usize]) -> Result<(), Violation> {
             Kind::Read { shown } => {
                 let due: Vec<(usize, u32)> = stations.iter().map(|&server| (server, values[server])).collect();
                 if *shown != due {
-                    return Err(violation(0, format!("the READ begun at step {} shows {shown:?}, and the row has {due:?}", transaction.begin)));
+                    return Err(violation(
+                        0,
+                        format!("the READ begun at step {} shows {shown:?}, and the row has {due:?}", transaction.begin),
+                    ));
                 }
             }
         }

@@ -36,7 +36,8 @@ fn the_sample_is_right() {
 fn a_read_that_always_shows_the_opening() {
     // Shown and registered consistently at tag 0: only real time is broken.
     let right = printed(WRITE_THEN_READ);
-    let wrong = right.replace("11 read 1 0=6", "11 read 0 0=5").replace("W 1 0 1 2 6\nR 1 1 7 11 0\n", "R 0 1 7 11 0\nW 1 0 1 2 6\n");
+    let wrong =
+        right.replace("11 read 1 0=6", "11 read 0 0=5").replace("W 1 0 1 2 6\nR 1 1 7 11 0\n", "R 0 1 7 11 0\nW 1 0 1 2 6\n");
     assert_ne!(right, wrong);
     let report = check(WRITE_THEN_READ.as_bytes(), wrong.as_bytes()).unwrap_err();
     assert!(report.what.starts_with("real time"), "{report}");

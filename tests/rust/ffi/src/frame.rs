@@ -72,9 +72,8 @@ mod linked {
 
     fn call(reader: Reader, bytes: &[u8], keys: &mut [u32], numbers: &mut [u32]) -> Result<u64, Refusal> {
         // The library was proved to stay within the slices that it is lent.
-        let number = unsafe {
-            reader(bytes.as_ptr(), bytes.len(), keys.as_mut_ptr(), keys.len(), numbers.as_mut_ptr(), numbers.len())
-        };
+        let number =
+            unsafe { reader(bytes.as_ptr(), bytes.len(), keys.as_mut_ptr(), keys.len(), numbers.as_mut_ptr(), numbers.len()) };
         answer(number)
     }
 
@@ -99,9 +98,20 @@ mod linked {
         // The library was proved to stay within the slices that it is lent.
         let written = unsafe {
             frame_write(
-                kind, client, server, tag, count, owner, number, entries,
-                keys.as_ptr(), keys.len(), numbers.as_ptr(), numbers.len(),
-                bytes.as_mut_ptr(), bytes.len(),
+                kind,
+                client,
+                server,
+                tag,
+                count,
+                owner,
+                number,
+                entries,
+                keys.as_ptr(),
+                keys.len(),
+                numbers.as_ptr(),
+                numbers.len(),
+                bytes.as_mut_ptr(),
+                bytes.len(),
             )
         };
         answer(written).map(|length| length as usize)

@@ -59,7 +59,7 @@ impl BitWriter {
     }
 
     fn bit(&mut self, set: bool) {
-        if self.used % 8 == 0 {
+        if self.used.is_multiple_of(8) {
             self.bytes.push(0);
         }
         if set {

@@ -66,8 +66,19 @@ impl Refusal {
     pub fn from_number(number: u32) -> Option<Refusal> {
         use Refusal::*;
         let all = [
-            BadOpening, Unsound, NoSuchPlace, WrongPart, Busy, BadMask, Exhausted, FullOrNotHeld, NothingThere, CutShort,
-            BadField, NoRoom, Unreadable,
+            BadOpening,
+            Unsound,
+            NoSuchPlace,
+            WrongPart,
+            Busy,
+            BadMask,
+            Exhausted,
+            FullOrNotHeld,
+            NothingThere,
+            CutShort,
+            BadField,
+            NoRoom,
+            Unreadable,
         ];
         all.into_iter().find(|&refusal| refusal as u32 == number)
     }

@@ -38,8 +38,7 @@ fn overlap(writes: &[WriteRecord], begin: u32, end: u32) -> usize {
 /// "The register lists by tag: the WRITE of a tag, finished or not, then finished READs of that tag by end step;
 /// what ties keeps the order of records. Tag 0 has READs only."
 pub fn listing<'a>(writes: &'a [WriteRecord], reads: &'a [ReadRecord]) -> Vec<Listed<'a>> {
-    let mut finished: Vec<(&ReadRecord, u32)> =
-        reads.iter().filter_map(|read| read.end.map(|end| (read, end))).collect();
+    let mut finished: Vec<(&ReadRecord, u32)> = reads.iter().filter_map(|read| read.end.map(|end| (read, end))).collect();
     finished.sort_by_key(|&(read, end)| (read.tag, end));
     let mut tagged: Vec<&WriteRecord> = writes.iter().filter(|write| write.tag > 0).collect();
     tagged.sort_by_key(|write| write.tag);

@@ -21,9 +21,7 @@ pub fn step_of(line: &[u8]) -> Option<Step> {
         (b'O', &[method, servers, clients, ref setpoints @ ..]) => {
             Some(Step::Open { method, servers, clients, setpoints: setpoints.to_vec() })
         }
-        (b'W', &[client, mask, ref setpoints @ ..]) => {
-            Some(Step::BeginWrite { client, mask, setpoints: setpoints.to_vec() })
-        }
+        (b'W', &[client, mask, ref setpoints @ ..]) => Some(Step::BeginWrite { client, mask, setpoints: setpoints.to_vec() }),
         (b'R', &[client, mask]) => Some(Step::BeginRead { client, mask }),
         (b'>', &[client, target]) => Some(Step::DeliverRequest { client, target }),
         (b'<', &[client, target]) => Some(Step::DeliverReply { client, target }),
@@ -49,7 +47,5 @@ fn number(digits: &[u8]) -> Option<u32> {
     if digits.is_empty() || (digits[0] == b'0' && digits.len() > 1) {
         return None;
     }
-    digits.iter().try_fold(0u32, |value, digit| {
-        value.checked_mul(10)?.checked_add(u32::from(digit - b'0'))
-    })
+    digits.iter().try_fold(0u32, |value, digit| value.checked_mul(10)?.checked_add(u32::from(digit - b'0')))
 }

@@ -44,9 +44,7 @@ impl Store {
     pub fn open(method: u32, servers: u32, clients: u32, setpoints: &[u32]) -> Result<Store, Refusal> {
         let method = Method::from_number(method).ok_or(Refusal::BadOpening)?;
         let fewest = if method == Method::A { 2 } else { 1 };
-        let fits = (1..=16).contains(&servers)
-            && (fewest..=16).contains(&clients)
-            && setpoints.len() == servers as usize;
+        let fits = (1..=16).contains(&servers) && (fewest..=16).contains(&clients) && setpoints.len() == servers as usize;
         if !fits {
             return Err(Refusal::BadOpening);
         }

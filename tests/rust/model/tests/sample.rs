@@ -34,9 +34,10 @@ fn an_empty_text_prints_nothing() {
 
 #[test]
 fn before_any_opening() {
-    assert_eq!(answers("R 99 0\nW 0 1 1\n> 0 0\n< 0 0\nO 4 1 1 5\nO 1 1 1 5\n\nhello\n"), [
-        "no 2", "no 2", "no 2", "no 2", "no 1", "no 1", "no 13", "no 13"
-    ]);
+    assert_eq!(
+        answers("R 99 0\nW 0 1 1\n> 0 0\n< 0 0\nO 4 1 1 5\nO 1 1 1 5\n\nhello\n"),
+        ["no 2", "no 2", "no 2", "no 2", "no 1", "no 1", "no 13", "no 13"]
+    );
 }
 
 #[test]
@@ -46,10 +47,13 @@ fn a_refused_opening_leaves_the_store() {
 
 #[test]
 fn shapes() {
-    assert_eq!(answers("O 2 2 1 5 6\nO 2 2 2\nO 2 2\nW 0 3\nW 0\nR 0 1 5\nR 0 01\nR 0 4294967296\nR 0 4294967295\n"), [
-        "ok", "no 1", "no 13", "no 6", "no 13", "no 13", "no 13", "no 13", "no 6"
-    ]);
-    for odd in ["", " ", "R", "R ", "R  0 1", " R 0 1", "R 0 1 ", "R 0 1\r", "r 0 1", "R0 1", "R -1 1", "R +1 1", "R 00 1", "R 0 1x"] {
+    assert_eq!(
+        answers("O 2 2 1 5 6\nO 2 2 2\nO 2 2\nW 0 3\nW 0\nR 0 1 5\nR 0 01\nR 0 4294967296\nR 0 4294967295\n"),
+        ["ok", "no 1", "no 13", "no 6", "no 13", "no 13", "no 13", "no 13", "no 6"]
+    );
+    for odd in
+        ["", " ", "R", "R ", "R  0 1", " R 0 1", "R 0 1 ", "R 0 1\r", "r 0 1", "R0 1", "R -1 1", "R +1 1", "R 00 1", "R 0 1x"]
+    {
         assert_eq!(answers(&format!("{odd}\n")), ["no 13"], "{odd:?}");
     }
 }

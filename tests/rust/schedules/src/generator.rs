@@ -202,7 +202,7 @@ impl Generator {
         match kind {
             0 => 1 << self.random.below(servers),
             1 => all,
-            _ => (self.random.next() as u32 & all).max(1),
+            _ => (self.random.draw() as u32 & all).max(1),
         }
     }
 

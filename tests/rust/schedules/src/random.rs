@@ -10,7 +10,8 @@ impl Random {
         Random { state: seed }
     }
 
-    pub fn next(&mut self) -> u64 {
+    /// Any 64-bit number.
+    pub fn draw(&mut self) -> u64 {
         self.state = self.state.wrapping_add(0x9E37_79B9_7F4A_7C15);
         let mut mixed = self.state;
         mixed = (mixed ^ (mixed >> 30)).wrapping_mul(0xBF58_476D_1CE4_E5B9);
@@ -20,7 +21,7 @@ impl Random {
 
     /// A number from 0 to `end` - 1.
     pub fn below(&mut self, end: usize) -> usize {
-        (self.next() % end as u64) as usize
+        (self.draw() % end as u64) as usize
     }
 
     /// A number from `first` to `last`.
@@ -43,7 +44,7 @@ impl Random {
             0 => self.pick(&[0, 1, 2, 255, 256, 65535, 65536, 65537, u32::MAX - 1, u32::MAX]),
             1 => self.below(20) as u32,
             2 => 1 << self.below(32),
-            _ => self.next() as u32,
+            _ => self.draw() as u32,
         }
     }
 }

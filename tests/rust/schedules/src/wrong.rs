@@ -40,7 +40,7 @@ fn replaced(line: &[u8], by: &[u8]) -> Vec<u8> {
 /// Bytes of any value but 10.
 fn noise(random: &mut Random) -> Vec<u8> {
     let length = random.within(1, 30);
-    let byte = |random: &mut Random| match random.next() as u8 {
+    let byte = |random: &mut Random| match random.draw() as u8 {
         10 => 11,
         other => other,
     };

@@ -48,13 +48,7 @@ fn write_record(words: &[u32]) -> WriteRecord {
 }
 
 fn read_record(words: &[u32]) -> ReadRecord {
-    ReadRecord {
-        client: words[0] as usize,
-        mask: words[1],
-        tag: words[2] as usize,
-        begin: words[3],
-        end: end_of(words[4]),
-    }
+    ReadRecord { client: words[0] as usize, mask: words[1], tag: words[2] as usize, begin: words[3], end: end_of(words[4]) }
 }
 
 fn state_of(word: u32) -> State {

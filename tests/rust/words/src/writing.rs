@@ -20,8 +20,8 @@ pub fn write_opening(tables: &mut Tables, store: &Store) {
 pub fn write_changes(tables: &mut Tables, before: &Store, after: &Store) {
     write_counts(tables, after);
     for (server, held) in after.servers.iter().enumerate() {
-        for place in before.servers[server].len()..held.len() {
-            write_version(tables, server, place, held[place]);
+        for (place, &version) in held.iter().enumerate().skip(before.servers[server].len()) {
+            write_version(tables, server, place, version);
         }
     }
     for tag in before.log.len()..after.log.len() {
