@@ -5,10 +5,11 @@ use Rattle.tables.specs.Tables.{Tables}
 use Rattle.rules.specs.declared.Answer.{Answer}
 use Rattle.rules.specs.declared.Delivered.{Delivered}
 use Rattle.rules.specs.Answers.{Left, left, Arrived, arrived}
-use Rattle.store_exports.specs.Numbers.{answerNumber, arrivalNumber, numbered, inNumbers, arrivedInNumbers}
+use Rattle.store_exports.specs.Numbers.{answerNumber, crossingOf, numbered, inNumbers, crossed, inCrossing}
+use Rattle.store_exports.specs.declared.Crossing.{Crossing}
 
 pub answered : {n : ℕ} {a : Answer} {t : Tables} {l : Left} → n ≡ answerNumber a → left a t ≡ l → numbered n t ≡ inNumbers l
 answered {t = t} same leaves = ap (λ m. numbered m t) same ∙ ap inNumbers leaves
 
-pub arrived-so : {n : ℕ} {d : Delivered} {t : Tables} {a : Arrived} → n ≡ arrivalNumber (d .arrival) → arrived d t ≡ a → numbered n t ≡ arrivedInNumbers a
-arrived-so {t = t} same leaves = ap (λ m. numbered m t) same ∙ ap arrivedInNumbers leaves
+pub arrived-so : {x : Crossing} {d : Delivered} {t : Tables} {a : Arrived} → x ≡ crossingOf d → arrived d t ≡ a → crossed x t ≡ inCrossing a
+arrived-so {t = t} same leaves = ap (λ y. crossed y t) same ∙ ap inCrossing leaves

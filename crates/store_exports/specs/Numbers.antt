@@ -5,7 +5,9 @@ use Rattle.rules.specs.declared.Answer.{Answer}
 use Rattle.rules.specs.declared.Answer.the-variants as answer
 use Rattle.rules.specs.declared.Arrival.{Arrival}
 use Rattle.rules.specs.declared.Arrival.the-variants as arrival
+use Rattle.rules.specs.declared.Delivered.{Delivered}
 use Rattle.rules.specs.Answers.{Left, Arrived}
+use Rattle.store_exports.specs.declared.Crossing.{Crossing}
 
 -- 0 for ok, or the number of the refusal
 abbrev pub answerNumber : Answer → ℕ
@@ -32,6 +34,17 @@ numbered n t = record { number = n; tables = t }
 abbrev pub inNumbers : Left → Numbered
 inNumbers l = numbered (answerNumber (l .answer)) (l .tables)
 
--- the same of a delivered reply; the shown setpoints stand in the client's row
-abbrev pub arrivedInNumbers : Arrived → Numbered
-arrivedInNumbers a = numbered (arrivalNumber (a .delivered .arrival)) (a .tables)
+-- a delivered reply's answer as it crosses
+abbrev pub crossingOf : Delivered → Crossing
+crossingOf d = record { number = arrivalNumber (d .arrival); setpoints = d .setpoints }
+
+-- what crosses, and the tables that the delivery leaves
+pub record Crossed : Type 0 where
+  pub crossing : Crossing
+  pub tables : Tables
+
+abbrev pub crossed : Crossing → Tables → Crossed
+crossed x t = record { crossing = x; tables = t }
+
+abbrev pub inCrossing : Arrived → Crossed
+inCrossing a = crossed (crossingOf (a .delivered)) (a .tables)

@@ -4,7 +4,7 @@ ghost use mathlib.Core.Path.{_≡_};
 ghost use Rattle.tables.specs.Tables.{tablesOf};
 ghost use Rattle.soundness.specs.Sound.{sound};
 ghost use Rattle.refusals.specs.Steps.{open′, beginWrite, beginRead, deliverRequest, deliverReply};
-ghost use Rattle.store_exports.specs.Numbers.{answerNumber, arrivalNumber, numbered, inNumbers, arrivedInNumbers};
+ghost use Rattle.store_exports.specs.Numbers.{answerNumber, arrivalNumber, crossingOf, numbered, inNumbers, crossed, inCrossing};
 use rules::Answer;
 use rules::Arrival;
 use rules::Delivered;
@@ -32,11 +32,22 @@ fn arrival_number(arrival: Arrival) -> u64
     }
 }
 
-fn delivered_number(delivered: Delivered) -> u64
-    ensures { λ r. ⌜ r ≡ arrivalNumber (delivered .arrival) ⌝ }
+// A delivered reply's answer as it crosses, and beside it the setpoints that a READ shows; 0 where it shows none.
+#[repr(C)]
+pub struct Crossing {
+    pub number: u64,
+    pub setpoints: [u32; 16],
+}
+
+fn to_cross(delivered: Delivered) -> Crossing
+    ensures { λ r. ⌜ r ≡ crossingOf delivered ⌝ }
 {
     let arrival = delivered.arrival;
-    arrival_number(arrival)
+    let setpoints = delivered.setpoints;
+    Crossing {
+        number: arrival_number(arrival),
+        setpoints: setpoints,
+    }
 }
 
 // Whether the tables are sound.
@@ -190,7 +201,7 @@ pub extern "C" fn store_deliver_request(
     answer_number(answer)
 }
 
-// Delivers a reply. The setpoints that a READ shows are those of its client's row.
+// Delivers a reply.
 #[no_mangle]
 pub extern "C" fn store_deliver_reply(
     counts: &mut [u32],
@@ -203,11 +214,11 @@ pub extern "C" fn store_deliver_reply(
     reads: &mut [u32],
     client: u32,
     target: u32,
-) -> u64
-    ensures { λ r. ⌜ numbered r (tablesOf (now (counts .exit)) (now (clients .exit)) (now (links .exit)) (now (keys .entry)) (now (values .entry)) (now (log .entry)) (now (writes .exit)) (now (reads .exit)))
-        ≡ arrivedInNumbers (deliverReply client target (tablesOf (now (counts .entry)) (now (clients .entry)) (now (links .entry)) (now (keys .entry)) (now (values .entry)) (now (log .entry)) (now (writes .entry)) (now (reads .entry)))) ⌝ }
+) -> Crossing
+    ensures { λ r. ⌜ crossed r (tablesOf (now (counts .exit)) (now (clients .exit)) (now (links .exit)) (now (keys .entry)) (now (values .entry)) (now (log .entry)) (now (writes .exit)) (now (reads .exit)))
+        ≡ inCrossing (deliverReply client target (tablesOf (now (counts .entry)) (now (clients .entry)) (now (links .entry)) (now (keys .entry)) (now (values .entry)) (now (log .entry)) (now (writes .entry)) (now (reads .entry)))) ⌝ }
 {
-    let answer = store::deliver_reply(
+    let delivered = store::deliver_reply(
         counts,
         clients,
         links,
@@ -219,5 +230,5 @@ pub extern "C" fn store_deliver_reply(
         client,
         target,
     );
-    delivered_number(answer)
+    to_cross(delivered)
 }

@@ -5,7 +5,7 @@ use Rattle.store_exports.proofs.store_deliver_reply.Statement.{statemen
 use Rattle.store_exports.proofs.store_deliver_reply.Tie as tie
 
 returns : tie.Need-returns
-returns c = arrived-so (c .delivered-number .ensures) (c .before .before .before .before .before .before .before .before .before .before .before .deliver-reply .ensures)
+returns c = arrived-so (c .to-cross .ensures) (c .before .before .before .before .before .before .before .before .before .before .before .deliver-reply .ensures)
 
 pub store-deliver-reply-spec : {M : Type 1} → statement M
 store-deliver-reply-spec =

@@ -7,7 +7,7 @@ use words::Tables;
 /// Changes sound tables in one to three ways, or in none.
 pub fn damage(tables: &mut Tables, random: &mut Random) {
     if random.chance(1, 6) {
-        fill(tables, random);
+        change_together(tables, random);
     }
     match random.below(12) {
         0 => {}
@@ -67,14 +67,16 @@ fn word_place(tables: &Tables, which: usize, random: &mut Random) -> usize {
     }
 }
 
-/// Brings sound tables to a limit in such a way that they stay sound.
-fn fill(tables: &mut Tables, random: &mut Random) {
-    match random.below(5) {
+/// Changes sound tables in several words that belong together: to a limit, or with sums that stay right; or names another method.
+fn change_together(tables: &mut Tables, random: &mut Random) {
+    match random.below(7) {
         0 => tables.counts[STEP] = random.pick(&[u32::MAX, u32::MAX - 1, u32::MAX - 2]),
         1 => fill_versions(tables, random),
         2 => fill_log(tables),
         3 => fill_writes(tables),
-        _ => fill_reads(tables),
+        4 => fill_reads(tables),
+        5 => move_counts(tables, random),
+        _ => tables.counts[METHOD] = random.within(1, 3) as u32,
     }
 }
 
@@ -109,4 +111,14 @@ fn fill_reads(tables: &mut Tables) {
         tables.reads[RECORD_WORDS * place..][..RECORD_WORDS].copy_from_slice(&[0, 1, 0, 1, 1]);
     }
     tables.counts[READS] = RECORDS as u32;
+}
+
+/// One client's count goes to another, down to 0 or to some number.
+fn move_counts(tables: &mut Tables, random: &mut Random) {
+    let clients = tables.count(CLIENTS);
+    let (from, to) = (random.below(clients), random.below(clients));
+    let held = tables.clients[CLIENT_WORDS * from + COUNT];
+    let moved = if random.chance(1, 2) { held } else { random.below(held as usize + 1) as u32 };
+    tables.clients[CLIENT_WORDS * from + COUNT] -= moved;
+    tables.clients[CLIENT_WORDS * to + COUNT] += moved;
 }

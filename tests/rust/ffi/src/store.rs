@@ -40,9 +40,9 @@ impl StoreLibrary {
 
 #[cfg(store_exports)]
 mod linked {
-    use model::key::servers_of;
+    use model::key::{has_server, servers_of};
     use model::{Answer, Outcome, Refusal, Step};
-    use words::layout::{CLIENT_WORDS, MASK, SETPOINTS};
+    use words::layout::MASK;
     use words::Tables;
 
     // Nothing checks these declarations against crates/store_exports/src/lib.rt.
@@ -89,7 +89,14 @@ mod linked {
             values: *const u32, values_length: usize, log: *const u32, log_length: usize,
             writes: *mut u32, writes_length: usize, reads: *mut u32, reads_length: usize,
             client: u32, target: u32,
-        ) -> u64;
+        ) -> Crossing;
+    }
+
+    /// A delivered reply's answer, and the setpoints that a READ shows; 0 where it shows none.
+    #[repr(C)]
+    struct Crossing {
+        number: u64,
+        setpoints: [u32; 16],
     }
 
     /// Calls a function with the eight tables, each as `ptr` or `mut`, and further arguments.
@@ -129,12 +136,12 @@ mod linked {
                 *client, *target
             )),
             Step::DeliverReply { client, target } => {
-                let number = with_tables!(
+                let crossing = with_tables!(
                     store_deliver_reply, t,
                     [counts mut, clients mut, links mut, keys ptr, setpoints ptr, log ptr, writes mut, reads mut],
                     *client, *target
                 );
-                arrival(number, t, *client as usize)
+                arrival(crossing, t, *client as usize)
             }
         }
     }
@@ -148,22 +155,21 @@ mod linked {
     }
 
     /// 2^32 times 1 to 4 is wait, next, write and read, with the tag added; what is smaller refuses.
-    fn arrival(number: u64, tables: &Tables, client: usize) -> Outcome {
+    /// Setpoints beside any other answer than read, or of servers that are not masked, would be wrong.
+    fn arrival(crossing: Crossing, tables: &Tables, client: usize) -> Outcome {
+        let Crossing { number, setpoints } = crossing;
         let tag = (number % (1 << 32)) as usize;
+        let mask = if number >> 32 == 4 { tables.client(client)[MASK] } else { 0 };
+        let stray = (0..16).find(|&server| !has_server(mask, server) && setpoints[server] != 0);
+        assert_eq!(stray, None, "a setpoint is shown that was not asked for");
         match number >> 32 {
             0 => Err(refused(tag as u32)),
             1 => Ok(Answer::Wait),
             2 => Ok(Answer::Next),
             3 => Ok(Answer::Write { tag }),
-            4 => Ok(Answer::Read { tag, shown: shown(tables, client) }),
+            4 => Ok(Answer::Read { tag, shown: servers_of(mask).map(|server| (server, setpoints[server])).collect() }),
             _ => panic!("{number} is no answer"),
         }
-    }
-
-    /// The setpoints that a READ shows are those of the masked servers in its client's row.
-    fn shown(tables: &Tables, client: usize) -> Vec<(usize, u32)> {
-        let row = &tables.clients[CLIENT_WORDS * client..][..CLIENT_WORDS];
-        servers_of(row[MASK]).map(|server| (server, row[SETPOINTS + server])).collect()
     }
 
     fn refused(number: u32) -> Refusal {
