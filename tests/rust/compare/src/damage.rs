@@ -72,45 +72,54 @@ fn change_together(tables: &mut Tables, random: &mut Random) {
     match random.below(7) {
         0 => tables.counts[STEP] = random.pick(&[u32::MAX, u32::MAX - 1, u32::MAX - 2]),
         1 => fill_versions(tables, random),
-        2 => fill_log(tables),
-        3 => fill_writes(tables),
-        4 => fill_reads(tables),
+        2 => fill_log(tables, random),
+        3 => fill_writes(tables, random),
+        4 => fill_reads(tables, random),
         5 => move_counts(tables, random),
         _ => tables.counts[METHOD] = random.within(1, 3) as u32,
     }
+}
+
+/// The limit, or one less, and no less than is held.
+fn near(limit: usize, held: usize, random: &mut Random) -> usize {
+    (limit - random.below(2)).max(held)
 }
 
 fn fill_versions(tables: &mut Tables, random: &mut Random) {
     let server = random.below(tables.count(SERVERS));
     let first = VERSIONS_OF_SERVER * server;
     let held = tables.count(HELD + server);
-    tables.keys[first + held..first + VERSIONS_OF_SERVER].fill(0);
-    tables.counts[HELD + server] = VERSIONS_OF_SERVER as u32;
+    let filled = near(VERSIONS_OF_SERVER, held, random);
+    tables.keys[first + held..first + filled].fill(0);
+    tables.counts[HELD + server] = filled as u32;
 }
 
-fn fill_log(tables: &mut Tables) {
-    for tag in tables.count(ENTRIES)..LOG_ENTRIES {
+fn fill_log(tables: &mut Tables, random: &mut Random) {
+    let filled = near(LOG_ENTRIES, tables.count(ENTRIES), random);
+    for tag in tables.count(ENTRIES)..filled {
         tables.log[LOG_WORDS * tag..][..LOG_WORDS].copy_from_slice(&[0, 1]);
     }
-    tables.counts[ENTRIES] = LOG_ENTRIES as u32;
+    tables.counts[ENTRIES] = filled as u32;
 }
 
-/// Finished WRITEs of the last client up to 255, and its count with them.
-fn fill_writes(tables: &mut Tables) {
+/// Finished WRITEs of the last client, and its count with them.
+fn fill_writes(tables: &mut Tables, random: &mut Random) {
     let client = tables.count(CLIENTS) - 1;
     let begun = tables.count(WRITES);
-    for place in begun..RECORDS {
+    let filled = near(RECORDS, begun, random);
+    for place in begun..filled {
         tables.writes[RECORD_WORDS * place..][..RECORD_WORDS].copy_from_slice(&[client as u32, 1, 0, 1, 1]);
     }
-    tables.clients[CLIENT_WORDS * client + COUNT] += (RECORDS - begun) as u32;
-    tables.counts[WRITES] = RECORDS as u32;
+    tables.clients[CLIENT_WORDS * client + COUNT] += (filled - begun) as u32;
+    tables.counts[WRITES] = filled as u32;
 }
 
-fn fill_reads(tables: &mut Tables) {
-    for place in tables.count(READS)..RECORDS {
+fn fill_reads(tables: &mut Tables, random: &mut Random) {
+    let filled = near(RECORDS, tables.count(READS), random);
+    for place in tables.count(READS)..filled {
         tables.reads[RECORD_WORDS * place..][..RECORD_WORDS].copy_from_slice(&[0, 1, 0, 1, 1]);
     }
-    tables.counts[READS] = RECORDS as u32;
+    tables.counts[READS] = filled as u32;
 }
 
 /// One client's count goes to another, down to 0 or to some number.
