@@ -33,12 +33,13 @@ fn cut(tables: &mut Tables, random: &mut Random) {
 fn change_word(tables: &mut Tables, random: &mut Random) {
     let which = random.below(8);
     let place = word_place(tables, which, random);
+    let count = tables.counts.get(random.below(COUNTS_WORDS)).copied().unwrap_or(0);
     let table = &mut tables.all_mut()[which];
     if place >= table.len() {
         return;
     }
     let other = table[random.below(table.len())];
-    table[place] = match random.below(8) {
+    table[place] = match random.below(10) {
         0 => table[place].wrapping_add(1),
         1 => table[place].wrapping_sub(1),
         2 => other,
@@ -46,6 +47,8 @@ fn change_word(tables: &mut Tables, random: &mut Random) {
         4 => random.below(20) as u32,
         5 => 256 * random.below(256) as u32 + random.below(17) as u32,
         6 => table[place] ^ 1 << random.below(17),
+        7 => count,
+        8 => count.wrapping_add(1),
         _ => random.word(),
     };
 }
@@ -56,7 +59,7 @@ fn word_place(tables: &Tables, which: usize, random: &mut Random) -> usize {
     match which {
         0 => random.below(COUNTS_WORDS),
         1 => random.below(CLIENT_WORDS * clients),
-        2 => LINK_WORDS * random.below(LINKS_OF_CLIENT * clients) + random.below(LINK_WORDS),
+        2 => LINK_WORDS * link(tables, LINKS_OF_CLIENT * clients, random) + random.below(LINK_WORDS),
         3 | 4 => {
             let server = random.below(servers);
             VERSIONS_OF_SERVER * server + random.below(used(HELD + server % 16) + 1)
@@ -65,6 +68,16 @@ fn word_place(tables: &Tables, which: usize, random: &mut Random) -> usize {
         6 => RECORD_WORDS * random.below(used(WRITES) + 1) + random.below(RECORD_WORDS),
         _ => RECORD_WORDS * random.below(used(READS) + 1) + random.below(RECORD_WORDS),
     }
+}
+
+/// A link, most often one that holds something.
+fn link(tables: &Tables, links: usize, random: &mut Random) -> usize {
+    let busy = |link: &usize| tables.links.get(LINK_WORDS * link).is_some_and(|&kind| kind != NOTHING);
+    let waiting: Vec<usize> = (0..links).filter(busy).collect();
+    if waiting.is_empty() || random.chance(1, 4) {
+        return random.below(links);
+    }
+    random.pick(&waiting)
 }
 
 /// Changes sound tables in several words that belong together: to a limit, or with sums that stay right; or names another method.

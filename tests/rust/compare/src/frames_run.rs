@@ -82,10 +82,13 @@ impl Comparison {
         self.read(&[frame, &[behind]].concat(), 256, 256)
     }
 
-    /// Every bit, or a sample of them.
+    /// Every bit, or a sample of them; and the same bytes cut short.
     fn turned_bits(&mut self, frame: &[u8]) -> Result<(), String> {
         for bit in self.some_of(8 * frame.len()) {
-            self.read(&turned(frame, bit), 256, 256)?;
+            let damaged = turned(frame, bit);
+            let length = self.random.below(damaged.len().min(8) + 1);
+            self.read(&damaged, 256, 256)?;
+            self.read(&damaged[..length], 256, 256)?;
         }
         Ok(())
     }
@@ -99,12 +102,16 @@ impl Comparison {
         (0..16).chain([end - 1, end - 2]).chain(between).collect()
     }
 
-    /// Bytes of any value, most of them with a kind in front.
+    /// Bytes behind a header that is good in most cases; many are 0 or have one bit, so that fields are at their edges.
     fn random_bytes(&mut self) -> Result<(), String> {
-        let length = self.random.below(40);
-        let mut bytes: Vec<u8> = (0..length).map(|_| self.random.draw() as u8).collect();
-        if let Some(first) = bytes.first_mut() {
-            *first = *first % 16 + 16 * self.random.below(14) as u8;
+        let most = self.random.pick(&[4, 5, 8, 40]);
+        let length = self.random.below(most + 1);
+        let mut bytes: Vec<u8> = (0..length).map(|_| sparse_byte(&mut self.random)).collect();
+        if length >= 2 && self.random.chance(5, 6) {
+            let kind = self.random.within(1, KINDS as usize) as u32;
+            bytes[0] = (16 * kind) as u8 + self.random.below(16) as u8;
+            let target = if to_server(kind) { self.random.below(16) as u8 } else { 16 };
+            bytes[1] = 8 * target + bytes[1] % 8;
         }
         self.read(&bytes, 256, 256)
     }
@@ -157,6 +164,23 @@ impl Comparison {
     }
 }
 
+/// 0, one bit, or any byte.
+fn sparse_byte(random: &mut Random) -> u8 {
+    match random.below(4) {
+        0 | 1 => 0,
+        2 => 1 << random.below(8),
+        _ => random.draw() as u8,
+    }
+}
+
+/// A mask of at least one server, often of one alone.
+fn random_mask(random: &mut Random) -> u32 {
+    match random.below(2) {
+        0 => 1 << random.below(16),
+        _ => random.within(1, 65535) as u32,
+    }
+}
+
 /// The bytes with one bit turned.
 fn turned(frame: &[u8], bit: usize) -> Vec<u8> {
     let mut damaged = frame.to_vec();
@@ -171,10 +195,10 @@ fn random_message(random: &mut Random) -> (Fixed, Vec<u32>, Vec<u32>) {
     if to_server(kind) {
         fixed.server = random.below(16) as u8;
     }
-    let count = random.within(1, 255) as u8;
+    let count = if random.chance(1, 2) { 1 << random.below(8) } else { random.within(1, 255) as u8 };
     match kind {
         1 => (fixed.key, fixed.number) = ((count, fixed.client), random.word()),
-        3 => (fixed.key, fixed.number) = ((count, fixed.client), random.within(1, 65535) as u32),
+        3 => (fixed.key, fixed.number) = ((count, fixed.client), random_mask(random)),
         4 => fixed.tag = random.within(1, 255) as u8,
         6 => (fixed.tag, fixed.entries) = (random.below(256) as u8, random.within(1, 16) as u32),
         7 => fixed.key = random.pick(&[(0, 0), (count, 3), (255, 15)]),
@@ -184,7 +208,7 @@ fn random_message(random: &mut Random) -> (Fixed, Vec<u32>, Vec<u32>) {
     }
     let entries = fixed.entries as usize;
     let mut keys: Vec<u32> = (0..entries).map(|_| random_key(random)).collect();
-    let mut numbers: Vec<u32> = (0..entries).map(|_| random.within(1, 65535) as u32).collect();
+    let mut numbers: Vec<u32> = (0..entries).map(|_| random_mask(random)).collect();
     if random.chance(1, 4) {
         spoil(random, &mut fixed, &mut keys, &mut numbers);
     }
