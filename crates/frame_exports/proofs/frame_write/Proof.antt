@@ -1,0 +1,24 @@
+-- The message is that of the fields, and the writer's answer crosses as its number.
+use mathlib.Core.Path.{sym, ap, _∙_}
+use Rattle.frame_exports.specs.Numbers.{writtenNumber}
+use Rattle.frames.specs.declared.Message.{Message}
+use Rattle.frames.specs.Frames.{writtenOf, bytesWritten}
+use Rattle.frame_exports.specs.declared.Fields.{Fields}
+use Rattle.frame_exports.specs.Fields.{messageBy}
+use borrow.Author.Needs.{needs}
+use Rattle.frame_exports.proofs.frame_write.Statement.{statement}
+use Rattle.frame_exports.proofs.frame_write.Tie as tie
+
+returns : tie.Need-returns
+returns c =
+    let a = c .before .before .before .before .before .before .before .before .before .before .args in
+    let w = c .before .before .before .write-frame .ensures in
+    let e = c .before .before .before .before .before .message-by .ensures ∙ ap (λ (f : Fields). messageBy (a .kind) f) (c .before .before .before .before .before .before .fields-of .ensures) in (
+      c .written-number .ensures ∙ ap writtenNumber (w .0 ∙ ap (λ (m : Message). writtenOf m (a .keys .now) (a .numbers .now) (a .bytes .now)) e),
+      w .1 ∙ ap (λ (m : Message). bytesWritten m (a .keys .now) (a .numbers .now) (a .bytes .now)) e,
+    )
+
+pub frame-write-spec : {M : Type 1} → statement M
+frame-write-spec =
+    tie.close
+    (tie.spec (λ c κs. search needs) (λ c κs. search needs) (λ c κs. search needs) (λ c κs. search needs) (λ c. search needs) returns)

@@ -1,0 +1,14 @@
+-- A refusal keeps its number.
+use mathlib.Core.Path.{sym, ap, _∙_}
+use Rattle.frame_exports.specs.Numbers.{readTail}
+use borrow.Author.Needs.{needs}
+use Rattle.frame_exports.proofs.tail_number.Statement.{statement}
+use Rattle.frame_exports.proofs.tail_number.Tie as tie
+
+returns-2 : tie.Need-returns-2
+returns-2 c = c .refused .ensures ∙ sym (ap readTail (c .before .before .reading2 .given .1))
+
+pub tail-number-spec : {M : Type 1} → statement M
+tail-number-spec =
+    tie.close
+    (tie.spec (λ c. search needs) (λ c κs. search needs) (λ c. search needs) (λ c κs. search needs) (λ c. search needs) returns-2)

@@ -1,0 +1,246 @@
+// What other languages call: the reader and the writer of frames, on numbers and slices.
+// A message crosses as two numbers, its head (kind, client, server, tag, key) and its tail (how many entries, setpoint or mask), a refusal as 2^64 - 1 less its number.
+ghost use mathlib.Core.Path.{_≡_};
+ghost use Prim.Native.Nat.{_-_};
+ghost use Rattle.frames.specs.Frames.{readingOf, keysRead, numbersRead, found, writtenOf, bytesWritten};
+ghost use Rattle.frame_exports.specs.Numbers.{digitsOf, pairOf, headOf, tailOf, refusedNumber, readHead, readTail, writtenNumber};
+ghost use Rattle.frame_exports.specs.Fields.{messageBy, fieldsOf};
+use frames::Message;
+use frames::Reading;
+use frames::Written;
+use keys::Key;
+
+// A refusal as a number.
+fn refused(number: u8) -> u64
+    ensures { λ r. ⌜ r ≡ refusedNumber number ⌝ }
+{
+    18446744073709551615 - number as u64
+}
+
+// The fixed parts of a head, as digits to the base 256.
+fn digits(kind: u8, client: u8, server: u8, tag: u8, count: u8, owner: u8) -> u64
+    ensures { λ r. ⌜ r ≡ digitsOf kind client server tag count owner ⌝ }
+{
+    let target = (kind as u64 * 256 + client as u64) * 256 + server as u64;
+    let tagged = (target * 256 + tag as u64) * 256 + count as u64;
+    tagged * 256 + owner as u64
+}
+
+fn pair(entries: u32, number: u32) -> u64
+    ensures { λ r. ⌜ r ≡ pairOf entries number ⌝ }
+{
+    entries as u64 * 4294967296 + number as u64
+}
+
+// Kind, client, server, tag and key of a message; what its kind lacks is 0.
+fn head_of(message: Message) -> u64
+    ensures { λ r. ⌜ r ≡ headOf message ⌝ }
+{
+    match message {
+        Message::Set {
+            client,
+            server,
+            key,
+            ..
+        } => digits(1, client, server, 0, key.count, key.client),
+        Message::SetDone { client, server } => digits(2, client, server, 0, 0, 0),
+        Message::Enter { client, key, .. } => digits(3, client, 0, 0, key.count, key.client),
+        Message::Entered { client, tag } => digits(4, client, 0, tag, 0, 0),
+        Message::WhichKeys { client } => digits(5, client, 0, 0, 0, 0),
+        Message::Keys { client, tag, .. } => digits(6, client, 0, tag, 0, 0),
+        Message::Get {
+            client,
+            server,
+            key,
+        } => digits(7, client, server, 0, key.count, key.client),
+        Message::Got { client, server, .. } => digits(8, client, server, 0, 0, 0),
+        Message::GetAll { client, server } => digits(9, client, server, 0, 0, 0),
+        Message::All { client, server, .. } => digits(10, client, server, 0, 0, 0),
+        Message::GetLog { client } => digits(11, client, 0, 0, 0, 0),
+        Message::Log { client, .. } => digits(12, client, 0, 0, 0, 0),
+    }
+}
+
+// How many entries a message has, and its setpoint or mask.
+fn tail_of(message: Message) -> u64
+    ensures { λ r. ⌜ r ≡ tailOf message ⌝ }
+{
+    match message {
+        Message::Set { setpoint, .. } => pair(0, setpoint),
+        Message::SetDone { .. } => pair(0, 0),
+        Message::Enter { mask, .. } => pair(0, mask),
+        Message::Entered { .. } => pair(0, 0),
+        Message::WhichKeys { .. } => pair(0, 0),
+        Message::Keys { entries, .. } => pair(entries, 0),
+        Message::Get { .. } => pair(0, 0),
+        Message::Got { setpoint, .. } => pair(0, setpoint),
+        Message::GetAll { .. } => pair(0, 0),
+        Message::All { entries, .. } => pair(entries, 0),
+        Message::GetLog { .. } => pair(0, 0),
+        Message::Log { entries, .. } => pair(entries, 0),
+    }
+}
+
+fn head_number(reading: Reading) -> u64
+    ensures { λ r. ⌜ r ≡ readHead reading ⌝ }
+{
+    match reading {
+        Reading::Read(message) => head_of(message),
+        Reading::Refused(number) => refused(number),
+    }
+}
+
+fn tail_number(reading: Reading) -> u64
+    ensures { λ r. ⌜ r ≡ readTail reading ⌝ }
+{
+    match reading {
+        Reading::Read(message) => tail_of(message),
+        Reading::Refused(number) => refused(number),
+    }
+}
+
+fn written_number(written: Written) -> u64
+    ensures { λ r. ⌜ r ≡ writtenNumber written ⌝ }
+{
+    match written {
+        Written::Length(length) => length as u64,
+        Written::Refused(number) => refused(number),
+    }
+}
+
+// Reads a frame: the head of its message, and its entries at the front of the two lent slices.
+#[no_mangle]
+pub extern "C" fn frame_head(bytes: &[u8], keys: &mut [u32], numbers: &mut [u32]) -> u64
+    ensures { λ r. ⌜ (r ≡ readHead (readingOf (found (now (bytes .entry))) (now (keys .entry)) (now (numbers .entry)))) × (now (keys .exit) ≡ keysRead (found (now (bytes .entry))) (now (keys .entry)) (now (numbers .entry))) × (now (numbers .exit) ≡ numbersRead (found (now (bytes .entry))) (now (keys .entry)) (now (numbers .entry))) ⌝ }
+{
+    let reading = frames::read_frame(bytes, keys, numbers);
+    head_number(reading)
+}
+
+// Reads a frame: the tail of its message, and its entries at the front of the two lent slices.
+#[no_mangle]
+pub extern "C" fn frame_tail(bytes: &[u8], keys: &mut [u32], numbers: &mut [u32]) -> u64
+    ensures { λ r. ⌜ (r ≡ readTail (readingOf (found (now (bytes .entry))) (now (keys .entry)) (now (numbers .entry)))) × (now (keys .exit) ≡ keysRead (found (now (bytes .entry))) (now (keys .entry)) (now (numbers .entry))) × (now (numbers .exit) ≡ numbersRead (found (now (bytes .entry))) (now (keys .entry)) (now (numbers .entry))) ⌝ }
+{
+    let reading = frames::read_frame(bytes, keys, numbers);
+    tail_number(reading)
+}
+
+// What is fixed in a message, whatever its kind.
+struct Fields {
+    client: u8,
+    server: u8,
+    tag: u8,
+    key: Key,
+    number: u32,
+    entries: u32,
+}
+
+// The message of a kind; every kind that is none of the first eleven is a log.
+fn message_by(kind: u32, fields: Fields) -> Message
+    ensures { λ r. ⌜ r ≡ messageBy kind fields ⌝ }
+{
+    let client = fields.client;
+    let server = fields.server;
+    let tag = fields.tag;
+    let key = fields.key;
+    let number = fields.number;
+    let entries = fields.entries;
+    match kind {
+        1 => Message::Set {
+            client: client,
+            server: server,
+            key: key,
+            setpoint: number,
+        },
+        2 => Message::SetDone {
+            client: client,
+            server: server,
+        },
+        3 => Message::Enter {
+            client: client,
+            key: key,
+            mask: number,
+        },
+        4 => Message::Entered {
+            client: client,
+            tag: tag,
+        },
+        5 => Message::WhichKeys { client: client },
+        6 => Message::Keys {
+            client: client,
+            tag: tag,
+            entries: entries,
+        },
+        7 => Message::Get {
+            client: client,
+            server: server,
+            key: key,
+        },
+        8 => Message::Got {
+            client: client,
+            server: server,
+            setpoint: number,
+        },
+        9 => Message::GetAll {
+            client: client,
+            server: server,
+        },
+        10 => Message::All {
+            client: client,
+            server: server,
+            entries: entries,
+        },
+        11 => Message::GetLog { client: client },
+        _ => Message::Log {
+            client: client,
+            entries: entries,
+        },
+    }
+}
+
+fn fields_of(
+    client: u8,
+    server: u8,
+    tag: u8,
+    count: u8,
+    owner: u8,
+    number: u32,
+    entries: u32,
+) -> Fields
+    ensures { λ r. ⌜ r ≡ fieldsOf client server tag count owner number entries ⌝ }
+{
+    let key = Key::new(count, owner);
+    Fields {
+        client: client,
+        server: server,
+        tag: tag,
+        key: key,
+        number: number,
+        entries: entries,
+    }
+}
+
+// Writes the message of these fields: its length, or a refusal.
+#[no_mangle]
+pub extern "C" fn frame_write(
+    kind: u32,
+    client: u8,
+    server: u8,
+    tag: u8,
+    count: u8,
+    owner: u8,
+    number: u32,
+    entries: u32,
+    keys: &[u32],
+    numbers: &[u32],
+    bytes: &mut [u8],
+) -> u64
+    ensures { λ r. ⌜ (r ≡ writtenNumber (writtenOf (messageBy kind (fieldsOf client server tag count owner number entries)) (now (keys .entry)) (now (numbers .entry)) (now (bytes .entry))))
+        × (now (bytes .exit) ≡ bytesWritten (messageBy kind (fieldsOf client server tag count owner number entries)) (now (keys .entry)) (now (numbers .entry)) (now (bytes .entry))) ⌝ }
+{
+    let fields = fields_of(client, server, tag, count, owner, number, entries);
+    let message = message_by(kind, fields);
+    let written = frames::write_frame(message, keys, numbers, bytes);
+    written_number(written)
+}

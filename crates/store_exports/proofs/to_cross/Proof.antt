@@ -1,0 +1,10 @@
+-- The number is the answer's, and the setpoints go with it.
+use borrow.Author.Needs.{needs}
+use Rattle.store_exports.proofs.to_cross.Statement.{statement}
+use Rattle.store_exports.proofs.to_cross.Tie as tie
+
+returns : tie.Need-returns
+returns c = rw (c .arrival-number .ensures)
+
+pub to-cross-spec : {M : Type 1} → statement M
+to-cross-spec = tie.close (tie.spec (λ c κs. search needs) returns)

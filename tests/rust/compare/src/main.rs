@@ -1,0 +1,43 @@
+//! Compares the proved crates with the model on many random inputs. Exit status 1 at the first difference.
+//!
+//!     compare schedules PROGRAM [ARGUMENT...] [--cases N] [--seed S]
+//!     compare tables [--cases N] [--seed S]
+//!     compare frames [--cases N] [--seed S]
+
+mod arguments;
+mod damage;
+mod frames_run;
+mod schedules_run;
+mod tables_run;
+
+use arguments::Arguments;
+use std::process::ExitCode;
+
+/// What a comparison found: a line of counts, or the first difference.
+pub type Report = Result<String, String>;
+
+fn main() -> ExitCode {
+    let given: Vec<String> = std::env::args().skip(1).collect();
+    let Some(arguments) = Arguments::parse(&given) else {
+        eprintln!("usage: compare schedules PROGRAM [ARGUMENT...] | tables | frames, each with [--cases N] [--seed S]");
+        return ExitCode::from(2);
+    };
+    let started = std::time::Instant::now();
+    let report = match arguments.subject.as_str() {
+        "schedules" => schedules_run::compare(&arguments),
+        "tables" => tables_run::compare(&arguments),
+        "frames" => frames_run::compare(&arguments),
+        other => Err(format!("no such comparison: {other}")),
+    };
+    let seconds = started.elapsed().as_secs_f32();
+    match report {
+        Ok(counts) => {
+            println!("{}: {counts}, no difference, {seconds:.1} s", arguments.subject);
+            ExitCode::SUCCESS
+        }
+        Err(difference) => {
+            println!("{}: DIFFERENCE: {difference}", arguments.subject);
+            ExitCode::FAILURE
+        }
+    }
+}

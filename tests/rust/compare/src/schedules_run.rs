@@ -1,0 +1,98 @@
+//! Random schedules through a program: its output equal to the model's, byte by byte, and demand 3 on it.
+
+use crate::arguments::Arguments;
+use crate::Report;
+use demand3::Summary;
+use std::io::{Read, Write};
+use std::process::{Command, Stdio};
+
+/// Openings in one input, in turn: mostly one, whose register is then printed, and now and then many.
+const OPENINGS: [usize; 8] = [1, 1, 1, 5, 1, 1, 1, 29];
+
+/// Plays `cases` openings.
+pub fn compare(arguments: &Arguments) -> Report {
+    let mut total = Summary::default();
+    let (mut inputs, mut opened) = (0, 0);
+    while opened < arguments.cases {
+        let openings = OPENINGS[inputs % OPENINGS.len()];
+        let seed = arguments.seed.wrapping_mul(1 << 32).wrapping_add(inputs as u64);
+        let schedule = schedules::schedule(seed, openings);
+        let output = play(&arguments.program, &schedule)?;
+        let found = judge(&schedule, &output).map_err(|difference| keep(&schedule, &output, seed, &difference))?;
+        add(&mut total, &found);
+        inputs += 1;
+        opened += openings;
+    }
+    Ok(format!(
+        "{opened} cases in {inputs} inputs, {} lines, {} accepted, {} refused, {} openings, {} tagged WRITEs, {} finished READs",
+        total.lines, total.accepted, total.refused, total.openings, total.tagged_writes, total.finished_reads
+    ))
+}
+
+fn add(total: &mut Summary, found: &Summary) {
+    total.lines += found.lines;
+    total.accepted += found.accepted;
+    total.refused += found.refused;
+    total.openings += found.openings;
+    total.tagged_writes += found.tagged_writes;
+    total.finished_reads += found.finished_reads;
+}
+
+/// Demand 3 on the output, and the output against the model's.
+fn judge(schedule: &[u8], output: &[u8]) -> Result<Summary, String> {
+    let expected = model::replay(schedule);
+    if output != expected {
+        return Err(first_difference(&expected, output));
+    }
+    demand3::check(schedule, output).map_err(|violation| format!("demand 3, {violation}"))
+}
+
+/// The first line in which two outputs differ.
+fn first_difference(expected: &[u8], output: &[u8]) -> String {
+    let text = |line: Option<&[u8]>| line.map_or("nothing".into(), |line| String::from_utf8_lossy(line).into_owned());
+    let (mut wanted, mut found) = (expected.split(|&byte| byte == 10), output.split(|&byte| byte == 10));
+    let mut number = 1;
+    loop {
+        match (wanted.next(), found.next()) {
+            (None, None) => return "the outputs are equal".into(),
+            (one, other) if one != other => {
+                return format!("output line {number} is '{}' and the model's is '{}'", text(other), text(one));
+            }
+            _ => number += 1,
+        }
+    }
+}
+
+/// Keeps both texts of a difference for a closer look.
+fn keep(schedule: &[u8], output: &[u8], seed: u64, difference: &str) -> String {
+    let folder = std::env::temp_dir();
+    let (input, printed) = (folder.join("compare-schedule"), folder.join("compare-output"));
+    let kept = std::fs::write(&input, schedule).and_then(|_| std::fs::write(&printed, output));
+    let place = match kept {
+        Ok(()) => format!("see {} and {}", input.display(), printed.display()),
+        Err(error) => format!("the texts could not be kept: {error}"),
+    };
+    format!("input {seed}: {difference}; {place}")
+}
+
+/// Runs the program on an input; the input is written beside the reading, since a pipe holds only so much.
+fn play(program: &[String], input: &[u8]) -> Result<Vec<u8>, String> {
+    let failed = |error: std::io::Error| format!("{}: {error}", program[0]);
+    let mut child =
+        Command::new(&program[0]).args(&program[1..]).stdin(Stdio::piped()).stdout(Stdio::piped()).spawn().map_err(failed)?;
+    let mut stdin = child.stdin.take().expect("piped");
+    let mut stdout = child.stdout.take().expect("piped");
+    let mut output = Vec::new();
+    std::thread::scope(|scope| {
+        // A program that stops reading shows in its output.
+        scope.spawn(move || stdin.write_all(input));
+        stdout.read_to_end(&mut output)
+    })
+    .map_err(failed)?;
+    let status = child.wait().map_err(failed)?;
+    if status.success() {
+        Ok(output)
+    } else {
+        Err(format!("{}: {status}", program[0]))
+    }
+}

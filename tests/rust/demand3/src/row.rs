@@ -1,0 +1,108 @@
+//! The row of one opening: its order, the walk along it, real time, and the register that prints it.
+
+use crate::run::{Kind, Run, Transaction};
+use crate::{violation, Violation};
+
+/// The places of the tagged WRITEs and finished READs in the order of the row:
+/// the WRITE of each tag, then the READs of that tag by end.
+pub fn row_of(run: &Run) -> Result<Vec<usize>, Violation> {
+    let mut reads: Vec<usize> = (0..run.transactions.len()).filter(|&place| finished_read(&run.transactions[place])).collect();
+    let last = run.tagged.len();
+    if let Some(&place) = reads.iter().find(|&&place| tag(run, place) > last) {
+        return Err(violation(0, format!("a READ shows tag {}, and {last} WRITEs are tagged", tag(run, place))));
+    }
+    reads.sort_by_key(|&place| (tag(run, place), run.transactions[place].end));
+    let mut row = Vec::new();
+    let mut reads = reads.into_iter().peekable();
+    for number in 0..=last {
+        row.extend(number.checked_sub(1).map(|before| run.tagged[before]));
+        while let Some(place) = reads.next_if(|&place| tag(run, place) == number) {
+            row.push(place);
+        }
+    }
+    Ok(row)
+}
+
+fn finished_read(transaction: &Transaction) -> bool {
+    !transaction.is_write() && transaction.end.is_some()
+}
+
+fn tag(run: &Run, place: usize) -> usize {
+    run.transactions[place].tag.expect("those in the row have tags")
+}
+
+fn masked(mask: u32, server: usize) -> bool {
+    mask >> server & 1 == 1
+}
+
+/// "The row is walked with k values, at first the opening's."
+pub fn walk(run: &Run, row: &[usize]) -> Result<(), Violation> {
+    let mut values = run.opening.clone();
+    for &place in row {
+        let transaction = &run.transactions[place];
+        let stations: Vec<usize> = (0..values.len()).filter(|&server| masked(transaction.mask, server)).collect();
+        match &transaction.kind {
+            Kind::Write { setpoints, .. } => stations.iter().for_each(|&server| values[server] = setpoints[server]),
+            Kind::Read { shown } => {
+                let due: Vec<(usize, u32)> = stations.iter().map(|&server| (server, values[server])).collect();
+                if *shown != due {
+                    return Err(violation(
+                        0,
+                        format!("the READ begun at step {} shows {shown:?}, and the row has {due:?}", transaction.begin),
+                    ));
+                }
+            }
+        }
+    }
+    Ok(())
+}
+
+/// A transaction that finished before another began stands before it in the row.
+pub fn real_time(run: &Run, row: &[usize]) -> Result<(), Violation> {
+    let mut earliest_end = usize::MAX;
+    for &place in row.iter().rev() {
+        let transaction = &run.transactions[place];
+        if earliest_end < transaction.begin {
+            let what = format!(
+                "real time: a transaction that ended at step {earliest_end} stands behind one begun at step {}",
+                transaction.begin
+            );
+            return Err(violation(0, what));
+        }
+        earliest_end = earliest_end.min(transaction.end.unwrap_or(usize::MAX));
+    }
+    Ok(())
+}
+
+/// "A READ's overlap counts the finished WRITEs that began before its end and ended after its begin."
+fn overlap(run: &Run, read: &Transaction) -> usize {
+    let writes = run.transactions.iter().filter(|other| other.is_write());
+    writes.filter(|write| Some(write.begin) < read.end && write.end.is_some_and(|end| end > read.begin)).count()
+}
+
+/// A line of the register.
+fn line_of(run: &Run, place: usize) -> String {
+    let transaction = &run.transactions[place];
+    let Transaction { client, begin, end, .. } = transaction;
+    let end_text = end.map_or("-".to_string(), |end| end.to_string());
+    let tag = tag(run, place);
+    match &transaction.kind {
+        Kind::Write { count, .. } => format!("W {tag} {client} {count} {begin} {end_text}"),
+        Kind::Read { .. } => format!("R {tag} {client} {begin} {end_text} {}", overlap(run, transaction)),
+    }
+}
+
+/// The register is the row, one line each.
+pub fn register(run: &Run, row: &[usize], printed: &[&str]) -> Result<(), Violation> {
+    let due: Vec<String> = row.iter().map(|&place| line_of(run, place)).collect();
+    for (place, line) in due.iter().enumerate() {
+        match printed.get(place) {
+            Some(found) if found == line => {}
+            other => return Err(violation(0, format!("the register has {other:?} in place of {line:?}"))),
+        }
+    }
+    match printed.get(due.len()) {
+        Some(more) => Err(violation(0, format!("the register goes on with {more:?}"))),
+        None => Ok(()),
+    }
+}

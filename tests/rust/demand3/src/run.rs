@@ -1,0 +1,199 @@
+//! The steps behind one opening: which transactions they make, with tags, ends and delivery counts.
+
+use crate::text::{Asked, Said};
+use crate::{violation, Violation};
+
+const HEAD: usize = 16;
+
+/// What a transaction is, with what only its kind has.
+#[derive(Clone, Debug)]
+pub enum Kind {
+    /// `count` is how many WRITEs its client has begun; `setpoints` are those of its begin.
+    Write { count: usize, setpoints: Vec<u32> },
+    /// What it showed, once it has ended.
+    Read { shown: Vec<(usize, u32)> },
+}
+
+/// "A transaction begins at an accepted begin and finishes at the next reply delivered to its panel that answers write or read."
+#[derive(Clone, Debug)]
+pub struct Transaction {
+    pub kind: Kind,
+    pub client: usize,
+    pub mask: u32,
+    pub begin: usize,
+    pub end: Option<usize>,
+    /// A WRITE's by the order of first deliveries at the head, a READ's as shown.
+    pub tag: Option<usize>,
+    pub deliveries: usize,
+}
+
+impl Transaction {
+    pub fn is_write(&self) -> bool {
+        matches!(self.kind, Kind::Write { .. })
+    }
+}
+
+/// The history of one opening.
+pub struct Run {
+    pub method: u32,
+    pub opening: Vec<u32>,
+    pub transactions: Vec<Transaction>,
+    /// The WRITE of each tag, from tag 1.
+    pub tagged: Vec<usize>,
+    step: usize,
+    /// For each client, its transaction in progress.
+    current: Vec<Option<usize>>,
+    /// For each client and target, whether a request was delivered there and its reply was not.
+    replied: Vec<[bool; 17]>,
+}
+
+impl Run {
+    pub fn open(method: u32, servers: usize, clients: usize, setpoints: Vec<u32>, line: usize) -> Result<Run, Violation> {
+        if setpoints.len() != servers || servers > 16 || clients > 16 {
+            return Err(violation(line, "an opening is accepted that fits no press"));
+        }
+        Ok(Run {
+            method,
+            opening: setpoints,
+            transactions: Vec::new(),
+            tagged: Vec::new(),
+            step: 1,
+            current: vec![None; clients],
+            replied: vec![[false; 17]; clients],
+        })
+    }
+
+    /// One step behind the opening, accepted or refused.
+    pub fn take(&mut self, asked: Asked, said: Said, line: usize) -> Result<(), Violation> {
+        if let Said::No(number) = said {
+            return self.refused(&asked, number, line);
+        }
+        self.step += 1;
+        match (asked, said) {
+            (Asked::Write { client, mask, setpoints }, Said::Ok) => {
+                let count = self.transactions.iter().filter(|one| one.client == client && one.is_write()).count() + 1;
+                self.begin(client, mask, Kind::Write { count, setpoints }, line)
+            }
+            (Asked::Read { client, mask }, Said::Ok) => self.begin(client, mask, Kind::Read { shown: Vec::new() }, line),
+            (Asked::Request { client, target }, Said::Ok) => self.request(client, target, line),
+            (Asked::Reply { client, target }, said) if said != Said::Ok => self.reply(client, target, said, line),
+            _ => Err(violation(line, "this step has no such answer")),
+        }
+    }
+
+    /// "A request is answered when its delivery leaves the reply on that link": then the reply can be delivered.
+    fn refused(&self, asked: &Asked, number: u32, line: usize) -> Result<(), Violation> {
+        match *asked {
+            Asked::Reply { client, target } if self.has_reply(client, target) => {
+                Err(violation(line, format!("the link has a reply, and its delivery is refused by {number}")))
+            }
+            _ => Ok(()),
+        }
+    }
+
+    fn has_reply(&self, client: usize, target: usize) -> bool {
+        self.replied.get(client).and_then(|row| row.get(target)).copied().unwrap_or(false)
+    }
+
+    fn begin(&mut self, client: usize, mask: u32, kind: Kind, line: usize) -> Result<(), Violation> {
+        let all = (1u32 << self.opening.len()) - 1;
+        if client >= self.current.len() || mask == 0 || mask > all {
+            return Err(violation(line, "a begin is accepted for no panel or no station"));
+        }
+        if matches!(&kind, Kind::Write { setpoints, .. } if setpoints.len() != self.opening.len()) {
+            return Err(violation(line, "a WRITE is accepted without its k setpoints"));
+        }
+        if self.current[client].is_some() {
+            return Err(violation(line, "a transaction begins while its panel's last one is in progress"));
+        }
+        self.current[client] = Some(self.transactions.len());
+        self.transactions.push(Transaction { kind, client, mask, begin: self.step, end: None, tag: None, deliveries: 0 });
+        Ok(())
+    }
+
+    /// The transaction that a delivery on this link belongs to.
+    fn delivered(&mut self, client: usize, target: usize, line: usize) -> Result<usize, Violation> {
+        let current = self.current.get(client).copied().flatten();
+        let place = current.ok_or_else(|| violation(line, "a delivery is accepted for a panel that does nothing"))?;
+        if target > HEAD {
+            return Err(violation(line, "a delivery is accepted for no target"));
+        }
+        self.transactions[place].deliveries += 1;
+        Ok(place)
+    }
+
+    fn request(&mut self, client: usize, target: usize, line: usize) -> Result<(), Violation> {
+        let place = self.delivered(client, target, line)?;
+        if self.has_reply(client, target) {
+            return Err(violation(line, "a request is delivered on a link that has a reply"));
+        }
+        self.replied[client][target] = true;
+        let transaction = &mut self.transactions[place];
+        if transaction.is_write() && target == HEAD && transaction.tag.is_none() {
+            self.tagged.push(place);
+            transaction.tag = Some(self.tagged.len());
+        }
+        self.still_short(place, line)
+    }
+
+    fn reply(&mut self, client: usize, target: usize, said: Said, line: usize) -> Result<(), Violation> {
+        let place = self.delivered(client, target, line)?;
+        if !self.has_reply(client, target) {
+            return Err(violation(line, "a reply is delivered where no request was"));
+        }
+        self.replied[client][target] = false;
+        match said {
+            Said::Write(tag) => self.end_write(place, tag, line),
+            Said::Read(tag, shown) => self.end_read(place, tag, shown, line),
+            _ => self.still_short(place, line),
+        }
+    }
+
+    fn end_write(&mut self, place: usize, tag: usize, line: usize) -> Result<(), Violation> {
+        let transaction = &mut self.transactions[place];
+        if !transaction.is_write() {
+            return Err(violation(line, "a READ answers write"));
+        }
+        if transaction.tag != Some(tag) {
+            return Err(violation(line, format!("write answers {tag}, and the WRITE's tag is {:?}", transaction.tag)));
+        }
+        transaction.end = Some(self.step);
+        self.current[transaction.client] = None;
+        Ok(())
+    }
+
+    fn end_read(&mut self, place: usize, tag: usize, shown: Vec<(usize, u32)>, line: usize) -> Result<(), Violation> {
+        let wanted = self.deliveries_of(place);
+        let transaction = &mut self.transactions[place];
+        let Kind::Read { shown: kept } = &mut transaction.kind else {
+            return Err(violation(line, "a WRITE answers read"));
+        };
+        if wanted != Some(transaction.deliveries) {
+            return Err(violation(line, format!("a READ ends after {} deliveries and not {wanted:?}", transaction.deliveries)));
+        }
+        *kept = shown;
+        transaction.tag = Some(tag);
+        transaction.end = Some(self.step);
+        self.current[transaction.client] = None;
+        Ok(())
+    }
+
+    /// The number of deliveries at which a READ of m stations ends: 2m under A, 2m + 2 under B and C.
+    fn deliveries_of(&self, place: usize) -> Option<usize> {
+        let transaction = &self.transactions[place];
+        let stations = 2 * transaction.mask.count_ones() as usize;
+        let wanted = if self.method == 1 { stations } else { stations + 2 };
+        (!transaction.is_write()).then_some(wanted)
+    }
+
+    /// "an unfinished READ has had fewer of them than the number at which it ends"
+    fn still_short(&self, place: usize, line: usize) -> Result<(), Violation> {
+        let had = self.transactions[place].deliveries;
+        match self.deliveries_of(place) {
+            Some(wanted) if had >= wanted => {
+                Err(violation(line, format!("a READ has had {had} of {wanted} deliveries and has not ended")))
+            }
+            _ => Ok(()),
+        }
+    }
+}

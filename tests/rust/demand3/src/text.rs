@@ -1,0 +1,96 @@
+//! The two texts: what each line of the schedule asks, and what each line of the output says.
+
+use crate::{violation, Violation};
+
+/// A line of the schedule.
+#[derive(Clone, Debug, PartialEq, Eq)]
+pub enum Asked {
+    Open { method: u32, servers: usize, clients: usize, setpoints: Vec<u32> },
+    Write { client: usize, mask: u32, setpoints: Vec<u32> },
+    Read { client: usize, mask: u32 },
+    Request { client: usize, target: usize },
+    Reply { client: usize, target: usize },
+    Unreadable,
+}
+
+/// An answer.
+#[derive(Clone, Debug, PartialEq, Eq)]
+pub enum Said {
+    Ok,
+    Wait,
+    Next,
+    Write(usize),
+    Read(usize, Vec<(usize, u32)>),
+    No(u32),
+}
+
+/// The lines of a text; what stands behind the last byte 10 is one only if it is not empty.
+pub fn lines(text: &[u8]) -> Vec<&[u8]> {
+    let mut lines: Vec<&[u8]> = text.split(|&byte| byte == b'\n').collect();
+    if lines.last().is_some_and(|last| last.is_empty()) {
+        lines.pop();
+    }
+    lines
+}
+
+/// A number as the paper writes it: decimal, no leading zero but 0 itself.
+fn number(word: &str) -> Option<u32> {
+    let plain = word.bytes().all(|byte| byte.is_ascii_digit());
+    if !plain || (word.starts_with('0') && word != "0") {
+        return None;
+    }
+    word.parse().ok()
+}
+
+/// What a line asks.
+pub fn asked(line: &[u8]) -> Asked {
+    readable(line).unwrap_or(Asked::Unreadable)
+}
+
+fn readable(line: &[u8]) -> Option<Asked> {
+    if line.len() > 200 {
+        return None;
+    }
+    let mut words = std::str::from_utf8(line).ok()?.split(' ');
+    let letter = words.next()?;
+    let numbers: Vec<u32> = words.map(number).collect::<Option<_>>()?;
+    let at = |place: usize| numbers.get(place).map(|&number| number as usize);
+    let exactly = |length: usize| (numbers.len() == length).then_some(());
+    Some(match letter {
+        "O" => Asked::Open { method: *numbers.first()?, servers: at(1)?, clients: at(2)?, setpoints: numbers[3..].to_vec() },
+        "W" => Asked::Write { client: at(0)?, mask: *numbers.get(1)?, setpoints: numbers[2..].to_vec() },
+        "R" => exactly(2).map(|_| Asked::Read { client: numbers[0] as usize, mask: numbers[1] })?,
+        ">" => exactly(2).map(|_| Asked::Request { client: numbers[0] as usize, target: numbers[1] as usize })?,
+        "<" => exactly(2).map(|_| Asked::Reply { client: numbers[0] as usize, target: numbers[1] as usize })?,
+        _ => return None,
+    })
+}
+
+/// What an output line says; it bears the number of the line that it answers.
+pub fn said(printed: &str, line: usize) -> Result<Said, Violation> {
+    let answer = printed.strip_prefix(&format!("{line} "));
+    let answer = answer.ok_or_else(|| violation(line, format!("the answer has another line number: {printed}")))?;
+    answer_of(answer).ok_or_else(|| violation(line, format!("not an answer: {answer}")))
+}
+
+fn answer_of(answer: &str) -> Option<Said> {
+    let words: Vec<&str> = answer.split(' ').collect();
+    Some(match words[..] {
+        ["ok"] => Said::Ok,
+        ["wait"] => Said::Wait,
+        ["next"] => Said::Next,
+        ["write", tag] => Said::Write(number(tag)? as usize),
+        ["read", tag, ref shown @ ..] => {
+            let shown = shown.iter().map(|pair| pair_of(pair)).collect::<Option<_>>()?;
+            Said::Read(number(tag)? as usize, shown)
+        }
+        ["no", refusal] => Said::No(number(refusal)?),
+        _ => return None,
+    })
+}
+
+/// `station=setpoint`
+fn pair_of(word: &str) -> Option<(usize, u32)> {
+    let (server, setpoint) = word.split_once('=')?;
+    Some((number(server)? as usize, number(setpoint)?))
+}

@@ -1,0 +1,154 @@
+//! Outputs made wrong by hand: the checker must report each, and for the right reason.
+
+use demand3::check;
+
+/// Document 01's sample.
+const SAMPLE: &str = "O 2 2 2 1200 30\nW 0 3 1800 45\n> 0 0\nR 1 3\n> 1 16\n> 0 1\n< 0 0\n< 0 1\n> 0 16\n< 1 16\n> 1 0\n< 1 0\n> 1 1\n< 1 1\n< 0 16\n";
+const PRINTED: &str = "1 ok\n2 ok\n3 ok\n4 ok\n5 ok\n6 ok\n7 wait\n8 next\n9 ok\n10 next\n11 ok\n12 wait\n13 ok\n14 read 0 0=1200 1=30\n15 write 1\nR 0 1 4 14 1\nW 1 0 1 2 15\n";
+
+/// The checker's report of an output made wrong at one place.
+fn report(schedule: &str, printed: &str, right: &str, wrong: &str) -> String {
+    assert!(check(schedule.as_bytes(), printed.as_bytes()).is_ok(), "the output is right before the edit");
+    assert!(printed.contains(right), "the edit changes something");
+    let edited = printed.replacen(right, wrong, 1);
+    check(schedule.as_bytes(), edited.as_bytes()).expect_err("a violation").to_string()
+}
+
+fn sample_report(right: &str, wrong: &str) -> String {
+    report(SAMPLE, PRINTED, right, wrong)
+}
+
+/// What the model prints, for schedules other than the sample.
+fn printed(schedule: &str) -> String {
+    String::from_utf8(model::replay(schedule.as_bytes())).unwrap()
+}
+
+/// Method C: a WRITE of panel 0 to its end, then a READ of panel 1 to its end.
+const WRITE_THEN_READ: &str = "O 3 1 2 5\nW 0 1 6\n> 0 0\n< 0 0\n> 0 16\n< 0 16\nR 1 1\n> 1 0\n> 1 16\n< 1 0\n< 1 16\n";
+
+#[test]
+fn the_sample_is_right() {
+    let summary = check(SAMPLE.as_bytes(), PRINTED.as_bytes()).unwrap();
+    assert_eq!((summary.lines, summary.accepted, summary.tagged_writes, summary.finished_reads), (15, 15, 1, 1));
+}
+
+#[test]
+fn a_read_that_always_shows_the_opening() {
+    // Shown and registered consistently at tag 0: only real time is broken.
+    let right = printed(WRITE_THEN_READ);
+    let wrong =
+        right.replace("11 read 1 0=6", "11 read 0 0=5").replace("W 1 0 1 2 6\nR 1 1 7 11 0\n", "R 0 1 7 11 0\nW 1 0 1 2 6\n");
+    assert_ne!(right, wrong);
+    let report = check(WRITE_THEN_READ.as_bytes(), wrong.as_bytes()).unwrap_err();
+    assert!(report.what.starts_with("real time"), "{report}");
+}
+
+#[test]
+fn a_setpoint_that_is_not_the_rows() {
+    assert!(sample_report("1=30", "1=45").contains("the row has"));
+    assert!(sample_report("read 0 0=1200 1=30", "read 0 0=1200").contains("the row has"));
+    assert!(sample_report("read 0 0=1200 1=30", "read 0 1=30 0=1200").contains("the row has"));
+}
+
+#[test]
+fn an_invented_tag() {
+    assert!(sample_report("write 1", "write 2").contains("write answers 2"));
+    assert!(sample_report("read 0", "read 2").contains("shows tag 2"));
+    assert!(sample_report("W 1 0 1 2 15", "W 2 0 1 2 15").contains("register"));
+}
+
+#[test]
+fn tags_by_the_order_of_deliveries_at_the_head() {
+    let schedule = "O 2 1 2 5\nW 0 1 6\nW 1 1 7\n> 0 0\n> 1 0\n< 0 0\n< 1 0\n> 1 16\n> 0 16\n< 0 16\n< 1 16\n";
+    let right = printed(schedule);
+    assert!(report(schedule, &right, "10 write 2", "10 write 1").contains("write answers 1"));
+}
+
+#[test]
+fn an_invented_overlap() {
+    assert!(sample_report("R 0 1 4 14 1", "R 0 1 4 14 0").contains("register"));
+}
+
+#[test]
+fn an_invented_step_number() {
+    assert!(sample_report("R 0 1 4 14 1", "R 0 1 5 14 1").contains("register"));
+    assert!(sample_report("W 1 0 1 2 15", "W 1 0 1 2 16").contains("register"));
+    assert!(sample_report("W 1 0 1 2 15", "W 1 0 1 2 -").contains("register"));
+}
+
+#[test]
+fn reads_of_equal_tag_in_the_wrong_order() {
+    // Panel 0's READ begins first and ends last.
+    let schedule = "O 3 1 2 5\nR 0 1\nR 1 1\n> 0 0\n> 1 0\n> 0 16\n> 1 16\n< 1 0\n< 1 16\n< 0 0\n< 0 16\n";
+    let right = printed(schedule);
+    assert!(right.ends_with("R 0 1 3 9 0\nR 0 0 2 11 0\n"), "{right}");
+    assert!(report(schedule, &right, "R 0 1 3 9 0\nR 0 0 2 11 0\n", "R 0 0 2 11 0\nR 0 1 3 9 0\n").contains("register"));
+}
+
+#[test]
+fn the_write_behind_its_reads_in_the_register() {
+    let right = printed(WRITE_THEN_READ);
+    assert!(report(WRITE_THEN_READ, &right, "W 1 0 1 2 6\nR 1 1 7 11 0\n", "R 1 1 7 11 0\nW 1 0 1 2 6\n").contains("register"));
+}
+
+#[test]
+fn a_read_that_ends_one_delivery_late() {
+    assert!(sample_report("14 read 0 0=1200 1=30", "14 wait").contains("6 of 6 deliveries and has not ended"));
+}
+
+#[test]
+fn a_read_that_ends_early() {
+    assert!(sample_report("12 wait", "12 read 0 0=1200 1=30").contains("ends after 4 deliveries"));
+}
+
+#[test]
+fn wait_for_ever_under_a() {
+    let schedule = "O 1 1 2 5\nR 0 1\n> 0 0\n< 0 0\n";
+    let right = printed(schedule);
+    assert!(report(schedule, &right, "4 read 0 0=5", "4 wait").contains("2 of 2 deliveries"));
+}
+
+#[test]
+fn ok_with_no_reply_on_the_link() {
+    assert!(sample_report("12 wait", "12 no 9").contains("the link has a reply"));
+}
+
+#[test]
+fn a_reply_without_a_request() {
+    assert!(sample_report("11 ok", "11 no 9").contains("no request"));
+}
+
+#[test]
+fn answers_that_no_step_has() {
+    assert!(sample_report("7 wait", "7 ok").contains("no such answer"));
+    assert!(sample_report("3 ok", "3 wait").contains("no such answer"));
+    assert!(sample_report("15 write 1", "15 read 1 0=1800 1=45").contains("a WRITE answers read"));
+    assert!(sample_report("9 ok", "8 ok").contains("another line number"));
+    assert!(sample_report("9 ok", "9 OK").contains("not an answer"));
+}
+
+#[test]
+fn missing_and_added_lines() {
+    assert!(sample_report("W 1 0 1 2 15\n", "").contains("register"));
+    assert!(sample_report("W 1 0 1 2 15\n", "W 1 0 1 2 15\nW 1 0 1 2 15\n").contains("goes on"));
+    assert!(check(SAMPLE.as_bytes(), b"1 ok\n").is_err());
+}
+
+#[test]
+fn unreadable_lines_and_steps_before_an_opening() {
+    let schedule = "R 0 1\nR 0 01\n";
+    let right = printed(schedule);
+    assert_eq!(right, "1 no 2\n2 no 13\n");
+    assert!(report(schedule, &right, "1 no 2", "1 ok").contains("before any opening"));
+    assert!(report(schedule, &right, "1 no 2", "1 no 13").contains("readable"));
+    assert!(report(schedule, &right, "2 no 13", "2 no 2").contains("no shape"));
+}
+
+#[test]
+fn the_model_on_random_schedules() {
+    for seed in 0..60 {
+        let schedule = schedules::schedule(seed, 4);
+        let found = check(&schedule, &model::replay(&schedule));
+        assert!(found.is_ok(), "seed {seed}: {found:?}");
+    }
+}

@@ -1,0 +1,119 @@
+//! The frame reader and writer of crate `frames`.
+
+use frames::lent::Fixed;
+use model::Refusal;
+
+/// A handle that exists only where the library is linked.
+#[derive(Clone, Copy, Debug)]
+pub struct FrameLibrary(());
+
+#[cfg(not(frame_exports))]
+impl FrameLibrary {
+    pub fn linked() -> Option<FrameLibrary> {
+        None
+    }
+
+    pub fn read(self, _bytes: &[u8], _keys: &mut [u32], _numbers: &mut [u32]) -> Result<Fixed, Refusal> {
+        unreachable!("no handle without the library")
+    }
+
+    pub fn write(self, _fixed: &Fixed, _keys: &[u32], _numbers: &[u32], _bytes: &mut [u8]) -> Result<usize, Refusal> {
+        unreachable!("no handle without the library")
+    }
+}
+
+#[cfg(frame_exports)]
+impl FrameLibrary {
+    pub fn linked() -> Option<FrameLibrary> {
+        Some(FrameLibrary(()))
+    }
+
+    /// Reads a frame; its entries go to the front of the slices.
+    pub fn read(self, bytes: &[u8], keys: &mut [u32], numbers: &mut [u32]) -> Result<Fixed, Refusal> {
+        linked::read(bytes, keys, numbers)
+    }
+
+    /// Writes a message to the front of the bytes: its length.
+    pub fn write(self, fixed: &Fixed, keys: &[u32], numbers: &[u32], bytes: &mut [u8]) -> Result<usize, Refusal> {
+        linked::write(fixed, keys, numbers, bytes)
+    }
+}
+
+#[cfg(frame_exports)]
+mod linked {
+    use frames::lent::Fixed;
+    use model::Refusal;
+
+    // Nothing checks these declarations against crates/frame_exports/src/lib.rt.
+    type Reader = unsafe extern "C" fn(*const u8, usize, *mut u32, usize, *mut u32, usize) -> u64;
+
+    #[rustfmt::skip]
+    extern "C" {
+        fn frame_head(
+            bytes: *const u8, bytes_length: usize, keys: *mut u32, keys_length: usize,
+            numbers: *mut u32, numbers_length: usize,
+        ) -> u64;
+        fn frame_tail(
+            bytes: *const u8, bytes_length: usize, keys: *mut u32, keys_length: usize,
+            numbers: *mut u32, numbers_length: usize,
+        ) -> u64;
+        fn frame_write(
+            kind: u32, client: u8, server: u8, tag: u8, count: u8, owner: u8, number: u32, entries: u32,
+            keys: *const u32, keys_length: usize, numbers: *const u32, numbers_length: usize,
+            bytes: *mut u8, bytes_length: usize,
+        ) -> u64;
+    }
+
+    /// A refusal is 2^64 - 1 less its number; any other number is the answer.
+    fn answer(number: u64) -> Result<u64, Refusal> {
+        let refusal = u32::try_from(u64::MAX - number).ok().and_then(Refusal::from_number);
+        refusal.map_or(Ok(number), Err)
+    }
+
+    fn call(reader: Reader, bytes: &[u8], keys: &mut [u32], numbers: &mut [u32]) -> Result<u64, Refusal> {
+        // The library was proved to stay within the slices that it is lent.
+        let number =
+            unsafe { reader(bytes.as_ptr(), bytes.len(), keys.as_mut_ptr(), keys.len(), numbers.as_mut_ptr(), numbers.len()) };
+        answer(number)
+    }
+
+    /// The head and the tail come by two calls, which leave the slices alike.
+    pub fn read(bytes: &[u8], keys: &mut [u32], numbers: &mut [u32]) -> Result<Fixed, Refusal> {
+        let head = call(frame_head, bytes, keys, numbers)?;
+        let tail = call(frame_tail, bytes, keys, numbers)?;
+        let digit = |place: u32| (head >> (8 * place)) as u8;
+        Ok(Fixed {
+            kind: (head >> 40) as u32,
+            client: digit(4),
+            server: digit(3),
+            tag: digit(2),
+            key: (digit(1), digit(0)),
+            number: tail as u32,
+            entries: (tail >> 32) as u32,
+        })
+    }
+
+    pub fn write(fixed: &Fixed, keys: &[u32], numbers: &[u32], bytes: &mut [u8]) -> Result<usize, Refusal> {
+        let Fixed { kind, client, server, key: (count, owner), number, tag, entries } = *fixed;
+        // The library was proved to stay within the slices that it is lent.
+        let written = unsafe {
+            frame_write(
+                kind,
+                client,
+                server,
+                tag,
+                count,
+                owner,
+                number,
+                entries,
+                keys.as_ptr(),
+                keys.len(),
+                numbers.as_ptr(),
+                numbers.len(),
+                bytes.as_mut_ptr(),
+                bytes.len(),
+            )
+        };
+        answer(written).map(|length| length as usize)
+    }
+}

@@ -1,0 +1,117 @@
+//! Messages with their entries in two lent slices, key words and numbers, as the proved crate takes them.
+
+use crate::message::Message;
+use crate::{read, write};
+use model::{Entry, Key, Refusal, Version};
+
+/// What is fixed in a message, as numbers; what a kind lacks is 0. `target` is 16 for the head.
+#[derive(Clone, Copy, Debug, Default, PartialEq, Eq)]
+pub struct Fixed {
+    pub kind: u32,
+    pub client: u8,
+    pub server: u8,
+    pub key: (u8, u8),
+    pub number: u32,
+    pub tag: u8,
+    pub entries: u32,
+}
+
+/// Whether a kind has a number (setpoint or mask) in each entry.
+fn has_numbers(kind: u32) -> bool {
+    matches!(kind, 10 | 12)
+}
+
+/// Reads a frame: entries go to the front of the slices. Refused by 10, 11, then 12, with the slices as before.
+pub fn read_lent(bytes: &[u8], keys: &mut [u32], numbers: &mut [u32]) -> Result<Fixed, Refusal> {
+    let message = read(bytes)?;
+    let (found_keys, found_numbers) = entries_of(&message);
+    if keys.len() < found_keys.len() || numbers.len() < found_numbers.len() {
+        return Err(Refusal::NoRoom);
+    }
+    keys[..found_keys.len()].copy_from_slice(&found_keys);
+    numbers[..found_numbers.len()].copy_from_slice(&found_numbers);
+    Ok(fixed_of(&message))
+}
+
+/// Writes a message to the front of the bytes: its length, or refused by 11, then 12, with the bytes as before.
+pub fn write_lent(fixed: &Fixed, keys: &[u32], numbers: &[u32], bytes: &mut [u8]) -> Result<usize, Refusal> {
+    let message = message_of(fixed, keys, numbers).ok_or(Refusal::BadField)?;
+    let frame = write(&message)?;
+    let room = bytes.get_mut(..frame.len()).ok_or(Refusal::NoRoom)?;
+    room.copy_from_slice(&frame);
+    Ok(frame.len())
+}
+
+fn key_word(key: Key) -> u32 {
+    256 * u32::from(key.count) + u32::from(key.client)
+}
+
+/// The entries of a message as key words and numbers.
+pub fn entries_of(message: &Message) -> (Vec<u32>, Vec<u32>) {
+    match message {
+        Message::Keys { keys, .. } => (keys.iter().map(|&key| key_word(key)).collect(), Vec::new()),
+        Message::All { versions, .. } => versions.iter().map(|version| (key_word(version.key), version.setpoint)).unzip(),
+        Message::Log { entries, .. } => entries.iter().map(|entry| (key_word(entry.key), entry.mask)).unzip(),
+        _ => (Vec::new(), Vec::new()),
+    }
+}
+
+/// The fixed part of a message.
+pub fn fixed_of(message: &Message) -> Fixed {
+    let kind = message.kind();
+    let server = if crate::message::to_server(kind) { message.target() as u8 } else { 0 };
+    let plain = Fixed { kind, client: message.client(), server, ..Fixed::default() };
+    match *message {
+        Message::Set { key, setpoint, .. } => Fixed { key: (key.count, key.client), number: setpoint, ..plain },
+        Message::Enter { key, mask, .. } => Fixed { key: (key.count, key.client), number: mask, ..plain },
+        Message::Entered { tag, .. } => Fixed { tag, ..plain },
+        Message::Keys { tag, ref keys, .. } => Fixed { tag, entries: keys.len() as u32, ..plain },
+        Message::Get { key, .. } => Fixed { key: (key.count, key.client), ..plain },
+        Message::Got { setpoint, .. } => Fixed { number: setpoint, ..plain },
+        Message::All { ref versions, .. } => Fixed { entries: versions.len() as u32, ..plain },
+        Message::Log { ref entries, .. } => Fixed { entries: entries.len() as u32, ..plain },
+        _ => plain,
+    }
+}
+
+/// The message of a fixed part and its entries; none where entries are missing, too many, or have no key.
+fn message_of(fixed: &Fixed, keys: &[u32], numbers: &[u32]) -> Option<Message> {
+    let Fixed { kind, client, server, key: (count, key_client), number, tag, .. } = *fixed;
+    let key = Key { count, client: key_client };
+    let entries = fixed.entries as usize;
+    Some(match kind {
+        1 => Message::Set { client, server, key, setpoint: number },
+        2 => Message::SetDone { client, server },
+        3 => Message::Enter { client, key, mask: number },
+        4 => Message::Entered { client, tag },
+        5 => Message::WhichKeys { client },
+        6 => Message::Keys { client, tag, keys: lent_keys(keys, entries)? },
+        7 => Message::Get { client, server, key },
+        8 => Message::Got { client, server, setpoint: number },
+        9 => Message::GetAll { client, server },
+        10 => {
+            let version = |(key, &setpoint)| Version { key, setpoint };
+            let keys = lent_keys(keys, entries)?.into_iter();
+            Message::All { client, server, versions: keys.zip(numbers.get(..entries)?).map(version).collect() }
+        }
+        11 => Message::GetLog { client },
+        12 => {
+            let entry = |(key, &mask)| Entry { key, mask };
+            let keys = lent_keys(keys, entries)?.into_iter();
+            Message::Log { client, entries: keys.zip(numbers.get(..entries)?).map(entry).collect() }
+        }
+        _ => return None,
+    })
+}
+
+/// The first keys of the slice; none where it has fewer, or a word is no two bytes.
+fn lent_keys(words: &[u32], entries: usize) -> Option<Vec<Key>> {
+    let key = |&word: &u32| Some(Key { count: u8::try_from(word / 256).ok()?, client: (word % 256) as u8 });
+    words.get(..entries)?.iter().map(key).collect()
+}
+
+/// How many places each slice needs for the entries of this fixed part.
+pub fn places(fixed: &Fixed) -> (usize, usize) {
+    let entries = fixed.entries as usize;
+    (entries, if has_numbers(fixed.kind) { entries } else { 0 })
+}

@@ -1,0 +1,11 @@
+//! The wire frames of document 01: the messages of the 12 kinds, their writer and their reader.
+
+mod bits;
+pub mod lent;
+pub mod message;
+mod reader;
+mod writer;
+
+pub use message::Message;
+pub use reader::read;
+pub use writer::write;

@@ -1,0 +1,90 @@
+//! The bench cards about frames, the longest frames, and that every cut of a good frame is 10.
+
+use frames::{read, write, Message};
+use model::{Entry, Key, Refusal, Version};
+
+const CARD: [u8; 8] = [0x12, 0x18, 0x09, 0x00, 0x00, 0x03, 0x84, 0x00];
+
+fn card() -> Message {
+    Message::Set { client: 2, server: 3, key: Key { count: 1, client: 2 }, setpoint: 1800 }
+}
+
+/// One message of every kind; those with entries have the most.
+fn messages() -> Vec<Message> {
+    let key = Key { count: 255, client: 15 };
+    vec![
+        card(),
+        Message::SetDone { client: 15, server: 15 },
+        Message::Enter { client: 15, key, mask: 65535 },
+        Message::Entered { client: 0, tag: 255 },
+        Message::WhichKeys { client: 1 },
+        Message::Keys { client: 3, tag: 0, keys: vec![key; 16] },
+        Message::Get { client: 4, server: 0, key: Key::OPENING },
+        Message::Got { client: 5, server: 9, setpoint: u32::MAX },
+        Message::GetAll { client: 6, server: 7 },
+        Message::All { client: 7, server: 1, versions: vec![Version { key, setpoint: 1 }; 256] },
+        Message::GetLog { client: 8 },
+        Message::Log { client: 9, entries: vec![Entry { key, mask: 1 }; 256] },
+    ]
+}
+
+#[test]
+fn the_card_of_kind_1() {
+    assert_eq!(write(&card()), Ok(CARD.to_vec()));
+    assert_eq!(read(&CARD), Ok(card()));
+}
+
+#[test]
+fn the_refused_cards() {
+    let mut padded = CARD;
+    padded[7] = 1;
+    assert_eq!(read(&padded), Err(Refusal::BadField));
+    let longer = [&CARD[..], &[0]].concat();
+    assert_eq!(read(&longer), Err(Refusal::BadField));
+    assert_eq!(read(&[]), Err(Refusal::CutShort));
+}
+
+#[test]
+fn count_and_panel_of_a_key_are_two_fields() {
+    assert_eq!(read(&[0x10, 0x00, 0x00]), Err(Refusal::BadField));
+    assert_eq!(read(&[0x10, 0x00, 0x08]), Err(Refusal::CutShort));
+}
+
+#[test]
+fn every_kind_goes_there_and_back() {
+    for message in messages() {
+        let frame = write(&message).expect("writable");
+        assert_eq!(read(&frame), Ok(message));
+        for length in 0..frame.len() {
+            assert_eq!(read(&frame[..length]), Err(Refusal::CutShort));
+        }
+    }
+}
+
+#[test]
+fn the_longest_frames() {
+    let lengths: Vec<usize> = messages().iter().map(|message| write(message).unwrap().len()).collect();
+    assert_eq!([lengths[5], lengths[9], lengths[11]], [28, 1411, 899]);
+}
+
+#[test]
+fn messages_that_are_not_writable() {
+    let key = Key { count: 1, client: 1 };
+    let broken = [
+        Message::Set { client: 2, server: 0, key, setpoint: 0 },
+        Message::Set { client: 16, server: 0, key: Key { count: 1, client: 16 }, setpoint: 0 },
+        Message::Set { client: 1, server: 16, key, setpoint: 0 },
+        Message::Enter { client: 0, key: Key::OPENING, mask: 1 },
+        Message::Enter { client: 1, key, mask: 0 },
+        Message::Enter { client: 1, key, mask: 65536 },
+        Message::Entered { client: 1, tag: 0 },
+        Message::Keys { client: 1, tag: 0, keys: vec![] },
+        Message::Keys { client: 1, tag: 0, keys: vec![key; 17] },
+        Message::Get { client: 1, server: 0, key: Key { count: 0, client: 1 } },
+        Message::All { client: 1, server: 0, versions: vec![] },
+        Message::Log { client: 1, entries: vec![Entry { key, mask: 1 }; 257] },
+    ];
+    for message in broken {
+        assert_eq!(write(&message), Err(Refusal::BadField), "{message:?}");
+    }
+}

@@ -1,0 +1,85 @@
+//! What a step answers, and the numbers by which it is refused.
+
+use std::fmt;
+
+/// "Refused": the paper's numbers.
+#[derive(Clone, Copy, Debug, PartialEq, Eq)]
+pub enum Refusal {
+    BadOpening = 1,
+    Unsound = 2,
+    NoSuchPlace = 3,
+    WrongPart = 4,
+    Busy = 5,
+    BadMask = 6,
+    Exhausted = 7,
+    FullOrNotHeld = 8,
+    NothingThere = 9,
+    CutShort = 10,
+    BadField = 11,
+    NoRoom = 12,
+    Unreadable = 13,
+}
+
+/// "A delivered reply answers wait, next, write with tag, or read with tag and setpoints. Other accepted steps answer ok."
+#[derive(Clone, Debug, PartialEq, Eq)]
+pub enum Answer {
+    Ok,
+    Wait,
+    Next,
+    Write { tag: usize },
+    Read { tag: usize, shown: Vec<(usize, u32)> },
+}
+
+pub type Outcome = Result<Answer, Refusal>;
+
+impl fmt::Display for Answer {
+    fn fmt(&self, out: &mut fmt::Formatter) -> fmt::Result {
+        match self {
+            Answer::Ok => write!(out, "ok"),
+            Answer::Wait => write!(out, "wait"),
+            Answer::Next => write!(out, "next"),
+            Answer::Write { tag } => write!(out, "write {tag}"),
+            Answer::Read { tag, shown } => {
+                write!(out, "read {tag}")?;
+                shown.iter().try_for_each(|(server, setpoint)| write!(out, " {server}={setpoint}"))
+            }
+        }
+    }
+}
+
+impl fmt::Display for Refusal {
+    fn fmt(&self, out: &mut fmt::Formatter) -> fmt::Result {
+        write!(out, "no {}", *self as u8)
+    }
+}
+
+/// An outcome as the yard program prints it.
+pub fn printed(outcome: &Outcome) -> String {
+    match outcome {
+        Ok(answer) => answer.to_string(),
+        Err(refusal) => refusal.to_string(),
+    }
+}
+
+impl Refusal {
+    /// The refusal of a number, 1 to 13.
+    pub fn from_number(number: u32) -> Option<Refusal> {
+        use Refusal::*;
+        let all = [
+            BadOpening,
+            Unsound,
+            NoSuchPlace,
+            WrongPart,
+            Busy,
+            BadMask,
+            Exhausted,
+            FullOrNotHeld,
+            NothingThere,
+            CutShort,
+            BadField,
+            NoRoom,
+            Unreadable,
+        ];
+        all.into_iter().find(|&refusal| refusal as u32 == number)
+    }
+}

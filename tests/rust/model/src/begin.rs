@@ -1,0 +1,88 @@
+//! The begins of a WRITE and of a READ.
+
+use crate::answer::{Answer, Outcome, Refusal};
+use crate::client::State;
+use crate::history::{ReadRecord, WriteRecord};
+use crate::key::{key_at, servers_of, Key};
+use crate::link::{Link, Request};
+use crate::store::{Method, Store};
+use crate::{COORDINATOR, MOST_BEGUN};
+
+impl Store {
+    /// "Begin a WRITE: next count; a request to each masked station; state 1."
+    pub fn begin_write(&mut self, client: u32, mask: u32, setpoints: &[u32]) -> Outcome {
+        let client = self.existing_client(client)?;
+        if self.method == Method::A && client == 0 {
+            return Err(Refusal::WrongPart);
+        }
+        self.idle(client)?;
+        self.good_mask(mask)?;
+        if setpoints.len() != self.servers.len() {
+            return Err(Refusal::BadMask);
+        }
+        if self.writes.len() >= MOST_BEGUN {
+            return Err(Refusal::Exhausted);
+        }
+        self.step_left()?;
+
+        self.step += 1;
+        let count = self.clients[client].count + 1;
+        let key = Key { count, client: client as u8 };
+        let writer = &mut self.clients[client];
+        writer.state = State::WritingSetpoints;
+        writer.count = count;
+        writer.mask = mask;
+        writer.setpoints[..setpoints.len()].copy_from_slice(setpoints);
+        for server in servers_of(mask) {
+            let setpoint = setpoints[server];
+            writer.links[server] = Link::Request(Request::Set { key, setpoint });
+        }
+        writer.record = self.writes.len();
+        self.writes.push(WriteRecord { client, count, tag: 0, begin: self.step, end: None });
+        Ok(Answer::Ok)
+    }
+
+    /// "Begin a READ." Method 1: only panel 0 reads.
+    pub fn begin_read(&mut self, client: u32, mask: u32) -> Outcome {
+        let client = self.existing_client(client)?;
+        if self.method == Method::A && client != 0 {
+            return Err(Refusal::WrongPart);
+        }
+        self.idle(client)?;
+        self.good_mask(mask)?;
+        if self.reads.len() >= MOST_BEGUN {
+            return Err(Refusal::Exhausted);
+        }
+        self.step_left()?;
+
+        self.step += 1;
+        self.clients[client].mask = mask;
+        self.clients[client].record = self.reads.len();
+        self.reads.push(ReadRecord { client, mask, tag: 0, begin: self.step, end: None });
+        self.ask(client);
+        Ok(Answer::Ok)
+    }
+
+    /// The first requests of a READ, by the method.
+    fn ask(&mut self, client: usize) {
+        let tag = self.last_tag();
+        let reader = &mut self.clients[client];
+        match self.method {
+            Method::A => {
+                reader.tag = tag;
+                reader.ask_for_keys(|server| key_at(&self.log, server, tag));
+            }
+            Method::B => {
+                reader.links[COORDINATOR] = Link::Request(Request::WhichKeys);
+                reader.state = State::AskingCoordinator;
+            }
+            Method::C => {
+                for server in servers_of(reader.mask) {
+                    reader.links[server] = Link::Request(Request::GetAll);
+                }
+                reader.links[COORDINATOR] = Link::Request(Request::GetLog);
+                reader.state = State::AskingAll;
+            }
+        }
+    }
+}

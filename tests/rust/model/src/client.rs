@@ -1,0 +1,63 @@
+//! A panel: its state, its fields and its links.
+
+use crate::key::{servers_of, Entry, Key, Version};
+use crate::link::{Link, Request};
+use crate::COORDINATOR;
+
+/// "States: 0 idle, 1 writing setpoints, 2 waiting for its tag, 3 (B only) asking the head,
+/// 4 (A, B) asking for setpoints, 5 (C only) asking all."
+#[derive(Clone, Copy, Debug, Default, PartialEq, Eq)]
+pub enum State {
+    #[default]
+    Idle = 0,
+    WritingSetpoints = 1,
+    WaitingForTag = 2,
+    AskingCoordinator = 3,
+    AskingSetpoints = 4,
+    AskingAll = 5,
+}
+
+/// "Per panel: state, last count, mask, tag, setpoints and, under C, the n received from each target."
+#[derive(Clone, Debug, Default, PartialEq, Eq)]
+pub struct Client {
+    pub state: State,
+    pub count: u8,
+    pub mask: u32,
+    pub tag: usize,
+    pub setpoints: [u32; 16],
+    /// Under C, the versions received from each server in this READ; n is their number.
+    pub versions: [Vec<Version>; 16],
+    /// Under C, the log received in this READ.
+    pub log: Vec<Entry>,
+    /// One link for each server, and the coordinator's at place 16.
+    pub links: [Link; 17],
+    /// The place, among the WRITEs' or the READs' records, of the one last begun.
+    pub record: usize,
+}
+
+impl Client {
+    /// Whether each link to a masked server is empty.
+    pub fn servers_answered(&self) -> bool {
+        servers_of(self.mask).all(|server| self.links[server] == Link::Nothing)
+    }
+
+    /// Whether each link to a masked server, and that to the coordinator, is empty.
+    pub fn all_answered(&self) -> bool {
+        self.servers_answered() && self.links[COORDINATOR] == Link::Nothing
+    }
+
+    /// "ask each masked station for its key"
+    pub fn ask_for_keys(&mut self, key_of: impl Fn(usize) -> Key) {
+        for server in servers_of(self.mask) {
+            let key = key_of(server);
+            self.links[server] = Link::Request(Request::Get { key });
+        }
+        self.state = State::AskingSetpoints;
+    }
+
+    /// The setpoints of the masked servers, as a READ shows them.
+    pub fn shown(&self) -> Vec<(usize, u32)> {
+        let pairs = servers_of(self.mask).map(|server| (server, self.setpoints[server]));
+        pairs.collect()
+    }
+}

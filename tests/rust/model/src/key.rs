@@ -1,0 +1,51 @@
+//! Keys, and the two kinds of row that bear one: a station's versions and the entries of the log.
+
+/// "A key is (count, panel)."
+#[derive(Clone, Copy, Debug, PartialEq, Eq)]
+pub struct Key {
+    pub count: u8,
+    pub client: u8,
+}
+
+impl Key {
+    /// "the opening's own key is (0, 0), the only key of count 0"
+    pub const OPENING: Key = Key { count: 0, client: 0 };
+}
+
+/// One record of a station's versions.
+#[derive(Clone, Copy, Debug, PartialEq, Eq)]
+pub struct Version {
+    pub key: Key,
+    pub setpoint: u32,
+}
+
+/// One entry of the log; its place is its tag.
+#[derive(Clone, Copy, Debug, PartialEq, Eq)]
+pub struct Entry {
+    pub key: Key,
+    pub mask: u32,
+}
+
+/// "bit i (worth 2^i) is station i"
+pub fn has_server(mask: u32, server: usize) -> bool {
+    server < 32 && mask >> server & 1 == 1
+}
+
+/// The servers of a mask, rising.
+pub fn servers_of(mask: u32) -> impl Iterator<Item = usize> {
+    (0..16).filter(move |&server| has_server(mask, server))
+}
+
+/// "The key of station i at tag t is that of the latest log entry, at t or before it, whose mask has i."
+/// The caller's log has an entry of all stations at tag 0, so there is one.
+pub fn key_at(log: &[Entry], server: usize, tag: usize) -> Key {
+    let entries = log[..=tag].iter();
+    let latest = entries.rev().find(|entry| has_server(entry.mask, server));
+    latest.expect("tag 0 has all stations").key
+}
+
+/// "A key is looked up as the first version that bears it."
+pub fn setpoint_of(versions: &[Version], key: Key) -> Option<u32> {
+    let first = versions.iter().find(|version| version.key == key);
+    first.map(|version| version.setpoint)
+}

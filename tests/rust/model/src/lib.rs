@@ -1,0 +1,34 @@
+//! Document 01 in plain Rust: the store, its five steps, the history and the program that plays a schedule.
+//! It is written from the paper alone and shares neither code nor tables with the proved crates.
+//!
+//! A press is a `Store` here, a station a server, a panel a client, the head the coordinator, the register the history.
+
+pub mod answer;
+mod begin;
+mod choice;
+pub mod client;
+pub mod history;
+pub mod key;
+pub mod line;
+pub mod link;
+pub mod replay;
+mod reply;
+mod request;
+pub mod step;
+pub mod store;
+
+pub use answer::{Answer, Outcome, Refusal};
+pub use client::{Client, State};
+pub use history::{ReadRecord, WriteRecord};
+pub use key::{Entry, Key, Version};
+pub use link::{Link, Reply, Request};
+pub use replay::{replay, Player};
+pub use step::Step;
+pub use store::{Method, Store};
+
+/// Target 16 means the head.
+pub const COORDINATOR: usize = 16;
+/// A station holds at most 256 versions, and the log tags 0 to 255.
+pub const MOST_HELD: usize = 256;
+/// At most 255 WRITEs and 255 READs begin after an opening.
+pub const MOST_BEGUN: usize = 255;

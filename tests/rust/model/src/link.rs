@@ -1,0 +1,33 @@
+//! What a link (panel, target) holds: nothing, a request or a reply with its contents.
+
+use crate::key::{Entry, Key, Version};
+
+/// What a client sends.
+#[derive(Clone, Debug, PartialEq, Eq)]
+pub enum Request {
+    Set { key: Key, setpoint: u32 },
+    Enter { key: Key, mask: u32 },
+    WhichKeys,
+    Get { key: Key },
+    GetAll,
+    GetLog,
+}
+
+/// What it gets back. Lists are copies of the moment of answering.
+#[derive(Clone, Debug, PartialEq, Eq)]
+pub enum Reply {
+    SetDone,
+    Entered { tag: usize },
+    Keys { tag: usize, keys: Vec<Key> },
+    Got { setpoint: u32 },
+    All { versions: Vec<Version> },
+    Log { entries: Vec<Entry> },
+}
+
+#[derive(Clone, Debug, Default, PartialEq, Eq)]
+pub enum Link {
+    #[default]
+    Nothing,
+    Request(Request),
+    Reply(Reply),
+}

@@ -1,0 +1,102 @@
+//! The delivery of a reply: what the panel stores, and whether its transaction goes on or ends.
+
+use crate::answer::{Answer, Outcome, Refusal};
+use crate::choice::chosen_tag;
+use crate::client::State;
+use crate::key::{key_at, servers_of, setpoint_of, Key};
+use crate::link::{Link, Reply, Request};
+use crate::store::Store;
+use crate::COORDINATOR;
+
+impl Store {
+    pub fn deliver_reply(&mut self, client: u32, target: u32) -> Outcome {
+        let (client, target) = self.existing_link(client, target)?;
+        self.step_left()?;
+        let Link::Reply(reply) = self.clients[client].links[target].clone() else {
+            return Err(Refusal::NothingThere);
+        };
+        self.step += 1;
+        self.clients[client].links[target] = Link::Nothing;
+        Ok(self.receive(client, target, reply))
+    }
+
+    fn receive(&mut self, client: usize, target: usize, reply: Reply) -> Answer {
+        match reply {
+            Reply::SetDone => self.acknowledged(client),
+            Reply::Entered { tag } => self.end_write(client, tag),
+            Reply::Keys { tag, keys } => {
+                self.clients[client].tag = tag;
+                self.clients[client].ask_for_keys(|server| keys[server]);
+                Answer::Next
+            }
+            Reply::Got { setpoint } => {
+                self.clients[client].setpoints[target] = setpoint;
+                self.end_read_if(client, self.clients[client].servers_answered())
+            }
+            Reply::All { versions } => {
+                self.clients[client].versions[target] = versions;
+                self.choose_if_complete(client)
+            }
+            Reply::Log { entries } => {
+                self.clients[client].log = entries;
+                self.choose_if_complete(client)
+            }
+        }
+    }
+
+    /// "When the last acknowledgement arrives, key and mask go to the head."
+    fn acknowledged(&mut self, client: usize) -> Answer {
+        let writer = &mut self.clients[client];
+        if !writer.servers_answered() {
+            return Answer::Wait;
+        }
+        let key = Key { count: writer.count, client: client as u8 };
+        let mask = writer.mask;
+        writer.links[COORDINATOR] = Link::Request(Request::Enter { key, mask });
+        writer.state = State::WaitingForTag;
+        Answer::Next
+    }
+
+    /// "The tag's arrival ends the WRITE."
+    fn end_write(&mut self, client: usize, tag: usize) -> Answer {
+        let writer = &mut self.clients[client];
+        writer.tag = tag;
+        writer.state = State::Idle;
+        self.writes[writer.record].end = Some(self.step);
+        Answer::Write { tag }
+    }
+
+    /// C: "when all replies are in", the tag is chosen and the setpoints are stored.
+    fn choose_if_complete(&mut self, client: usize) -> Answer {
+        let complete = self.clients[client].all_answered();
+        if complete {
+            self.choose(client);
+        }
+        self.end_read_if(client, complete)
+    }
+
+    fn choose(&mut self, client: usize) {
+        let reader = &mut self.clients[client];
+        reader.tag = chosen_tag(&reader.log, &reader.versions, reader.mask);
+        for server in servers_of(reader.mask) {
+            let key = key_at(&reader.log, server, reader.tag);
+            let setpoint = setpoint_of(&reader.versions[server], key);
+            reader.setpoints[server] = setpoint.expect("the chosen tag's key was received");
+        }
+        reader.versions = Default::default();
+        reader.log.clear();
+    }
+
+    /// Ends a READ that has all it asked for: the tag is recorded and shown with the setpoints.
+    fn end_read_if(&mut self, client: usize, complete: bool) -> Answer {
+        if !complete {
+            return Answer::Wait;
+        }
+        let reader = &mut self.clients[client];
+        reader.state = State::Idle;
+        let record = &mut self.reads[reader.record];
+        record.tag = reader.tag;
+        record.end = Some(self.step);
+        Answer::Read { tag: reader.tag, shown: reader.shown() }
+    }
+}

@@ -1,0 +1,68 @@
+//! Document 01's sample, and the readings of its text that an input can show.
+
+use model::replay;
+
+const INPUT: &str = "O 2 2 2 1200 30\nW 0 3 1800 45\n> 0 0\nR 1 3\n> 1 16\n> 0 1\n< 0 0\n< 0 1\n> 0 16\n< 1 16\n> 1 0\n< 1 0\n> 1 1\n< 1 1\n< 0 16\n";
+
+const OUTPUT: &str = "1 ok\n2 ok\n3 ok\n4 ok\n5 ok\n6 ok\n7 wait\n8 next\n9 ok\n10 next\n11 ok\n12 wait\n13 ok\n14 read 0 0=1200 1=30\n15 write 1\nR 0 1 4 14 1\nW 1 0 1 2 15\n";
+
+/// What the program prints, as text.
+fn printed(input: &str) -> String {
+    String::from_utf8(replay(input.as_bytes())).expect("the output is text")
+}
+
+/// The answers alone, of inputs that print no register.
+fn answers(input: &str) -> Vec<String> {
+    let text = printed(input);
+    text.lines().map(|line| line.split_once(' ').expect("number and answer").1.to_string()).collect()
+}
+
+#[test]
+fn the_sample_prints_its_output() {
+    assert_eq!(printed(INPUT), OUTPUT);
+}
+
+#[test]
+fn a_missing_last_newline_changes_nothing() {
+    assert_eq!(printed(INPUT.trim_end()), OUTPUT);
+}
+
+#[test]
+fn an_empty_text_prints_nothing() {
+    assert_eq!(printed(""), "");
+}
+
+#[test]
+fn before_any_opening() {
+    assert_eq!(
+        answers("R 99 0\nW 0 1 1\n> 0 0\n< 0 0\nO 4 1 1 5\nO 1 1 1 5\n\nhello\n"),
+        ["no 2", "no 2", "no 2", "no 2", "no 1", "no 1", "no 13", "no 13"]
+    );
+}
+
+#[test]
+fn a_refused_opening_leaves_the_store() {
+    assert_eq!(answers("O 2 1 1 7\nR 0 1\nO 2 1 1\n> 0 16\n< 0 16\n"), ["ok", "ok", "no 1", "ok", "next"]);
+}
+
+#[test]
+fn shapes() {
+    assert_eq!(
+        answers("O 2 2 1 5 6\nO 2 2 2\nO 2 2\nW 0 3\nW 0\nR 0 1 5\nR 0 01\nR 0 4294967296\nR 0 4294967295\n"),
+        ["ok", "no 1", "no 13", "no 6", "no 13", "no 13", "no 13", "no 13", "no 6"]
+    );
+    for odd in
+        ["", " ", "R", "R ", "R  0 1", " R 0 1", "R 0 1 ", "R 0 1\r", "r 0 1", "R0 1", "R -1 1", "R +1 1", "R 00 1", "R 0 1x"]
+    {
+        assert_eq!(answers(&format!("{odd}\n")), ["no 13"], "{odd:?}");
+    }
+}
+
+#[test]
+fn two_hundred_bytes_are_a_line() {
+    let most = format!("O 2 2{}", " 7".repeat(97) + "0");
+    assert_eq!(most.len(), 200);
+    let longer = format!("{most}0");
+    let longest = "x".repeat(5000);
+    assert_eq!(answers(&format!("{most}\n{longer}\n{longest}\n{most}")), ["no 1", "no 13", "no 13", "no 1"]);
+}

@@ -1,0 +1,233 @@
+//! Schedules section by section: each section opens a store, then begins and delivers, with wrong lines between.
+
+use crate::lines::line_of;
+use crate::random::Random;
+use crate::wrong;
+use model::{Link, Method, Player, State, Step, Store};
+
+/// What a section is after.
+#[derive(Clone, Copy, PartialEq)]
+enum Aim {
+    /// Transactions of all kinds, many at a time.
+    Overlaps,
+    /// As many WRITEs as can begin, and one more.
+    AllWrites,
+    /// As many READs as can begin, and one more.
+    AllReads,
+}
+
+/// A schedule in the making, with the store as the lines so far left it.
+pub struct Generator {
+    pub random: Random,
+    pub player: Player,
+    text: Vec<u8>,
+    aim: Aim,
+    favourite: usize,
+    fresh: u32,
+}
+
+/// A text of this many openings. The last line may have no byte 10 behind it.
+pub fn schedule(seed: u64, sections: usize) -> Vec<u8> {
+    let mut generator = Generator::new(seed);
+    if generator.random.chance(1, 3) {
+        generator.before_opening();
+    }
+    for _ in 0..sections {
+        generator.section();
+    }
+    generator.finish()
+}
+
+impl Generator {
+    pub fn new(seed: u64) -> Generator {
+        Generator {
+            random: Random::new(seed),
+            player: Player::default(),
+            text: Vec::new(),
+            aim: Aim::Overlaps,
+            favourite: 0,
+            fresh: 1,
+        }
+    }
+
+    fn push(&mut self, line: &[u8]) {
+        // What it answers is for the reader of the text; here only the store matters.
+        let _ = self.player.take_line(line);
+        self.text.extend(line);
+        self.text.push(b'\n');
+    }
+
+    fn before_opening(&mut self) {
+        for _ in 0..self.random.below(8) {
+            let line = self.wrong_line();
+            self.push(&line);
+        }
+    }
+
+    /// An opening and the lines behind it.
+    pub fn section(&mut self) {
+        self.aim = match self.random.below(24) {
+            0 => Aim::AllWrites,
+            1 => Aim::AllReads,
+            _ => Aim::Overlaps,
+        };
+        let opening = self.opening();
+        self.push(&line_of(&opening));
+        for _ in 0..self.length() {
+            let line = self.line();
+            self.push(&line);
+        }
+    }
+
+    fn length(&mut self) -> usize {
+        match self.aim {
+            Aim::Overlaps if self.random.chance(1, 20) => self.random.within(400, 1500),
+            Aim::Overlaps => self.random.within(0, 250),
+            _ => self.random.within(1200, 2600),
+        }
+    }
+
+    /// The opening that a section starts with.
+    pub fn opening(&mut self) -> Step {
+        let method = self.random.within(1, 3) as u32;
+        let small = self.aim != Aim::Overlaps || self.random.chance(1, 2);
+        let (most_servers, most_clients) = if small { (3, 4) } else { (16, 16) };
+        let servers = self.random.within(1, most_servers) as u32;
+        let fewest = if method == 1 { 2 } else { 1 };
+        let clients = self.random.within(fewest, most_clients) as u32;
+        let setpoints = self.setpoints(servers as usize);
+        Step::Open { method, servers, clients, setpoints }
+    }
+
+    /// Setpoints that no WRITE gave before, now and then at the ends of their range.
+    fn setpoints(&mut self, servers: usize) -> Vec<u32> {
+        let edge = self.random.chance(1, 20);
+        let mut fresh = || {
+            self.fresh = self.fresh.wrapping_add(1);
+            self.fresh
+        };
+        let mut setpoints: Vec<u32> = (0..servers).map(|_| fresh()).collect();
+        if edge {
+            let place = self.random.below(servers);
+            setpoints[place] = self.random.pick(&[0, u32::MAX, u32::MAX - 1, 1 << 31]);
+        }
+        setpoints
+    }
+
+    /// The next line: two of three are steps that the store accepts, where there is one.
+    fn line(&mut self) -> Vec<u8> {
+        let wrong_of_60 = if self.aim == Aim::Overlaps { 18 } else { 4 };
+        if self.random.chance(wrong_of_60, 60) {
+            return self.wrong_line();
+        }
+        line_of(&self.likely_step())
+    }
+
+    fn wrong_line(&mut self) -> Vec<u8> {
+        if self.random.chance(1, 2) {
+            return wrong::unreadable(&mut self.random);
+        }
+        line_of(&self.wrong_step())
+    }
+
+    /// A step with arguments that mostly do not fit the store.
+    pub fn wrong_step(&mut self) -> Step {
+        wrong::step_of_any_kind(&mut self.random)
+    }
+
+    /// A step that the store most likely accepts.
+    pub fn likely_step(&mut self) -> Step {
+        let Some(store) = &self.player.store else {
+            return Step::BeginRead { client: 0, mask: 1 };
+        };
+        let waiting = waiting_links(store);
+        let idle = (0..store.clients.len()).filter(|&client| store.clients[client].state == State::Idle).count();
+        let begin_of_100 = if self.aim == Aim::Overlaps { 15 } else { 5 };
+        if waiting.is_empty() || (idle > 0 && self.random.chance(begin_of_100, 100)) {
+            return self.begin();
+        }
+        self.delivery(&waiting)
+    }
+
+    /// A delivery on one of these links, often on one of the favourite client's.
+    fn delivery(&mut self, waiting: &[(usize, usize, bool)]) -> Step {
+        if self.random.chance(1, 30) {
+            self.favourite = self.random.below(16);
+        }
+        let favoured: Vec<_> = waiting.iter().copied().filter(|&(client, ..)| client == self.favourite).collect();
+        let prefer = !favoured.is_empty() && self.random.chance(1, 2);
+        let (client, target, request) = self.random.pick(if prefer { &favoured } else { waiting });
+        let (client, target) = (client as u32, target as u32);
+        if request {
+            Step::DeliverRequest { client, target }
+        } else {
+            Step::DeliverReply { client, target }
+        }
+    }
+
+    /// A begin at a client that is idle, if one of those drawn is.
+    fn begin(&mut self) -> Step {
+        let store = self.player.store.as_ref().expect("opened");
+        let (method, servers, clients) = (store.method, store.servers.len(), store.clients.len());
+        let busy: Vec<bool> = store.clients.iter().map(|client| client.state != State::Idle).collect();
+        let writes = match self.aim {
+            Aim::AllWrites => self.random.chance(9, 10),
+            Aim::AllReads => self.random.chance(1, 10),
+            Aim::Overlaps => self.random.chance(1, 2),
+        };
+        let draw = |random: &mut Random| match (method, writes) {
+            (Method::A, true) => random.within(1, clients - 1),
+            (Method::A, false) => 0,
+            _ => random.below(clients),
+        };
+        let mut client = draw(&mut self.random);
+        for _ in 0..4 {
+            if busy[client] {
+                client = draw(&mut self.random);
+            }
+        }
+        let mask = self.mask(servers);
+        let client = client as u32;
+        if writes {
+            let setpoints = self.setpoints(servers);
+            Step::BeginWrite { client, mask, setpoints }
+        } else {
+            Step::BeginRead { client, mask }
+        }
+    }
+
+    fn mask(&mut self, servers: usize) -> u32 {
+        let all = (1 << servers) - 1;
+        let kind = if self.aim == Aim::Overlaps { self.random.below(3) } else { 0 };
+        match kind {
+            0 => 1 << self.random.below(servers),
+            1 => all,
+            _ => (self.random.draw() as u32 & all).max(1),
+        }
+    }
+
+    /// The whole text; of every three one lacks its last byte 10, and some end in a line that is too long.
+    pub fn finish(mut self) -> Vec<u8> {
+        if self.random.chance(1, 10) {
+            self.text.extend(wrong::unreadable(&mut self.random));
+        } else if self.random.chance(1, 3) {
+            self.text.pop();
+        }
+        self.text
+    }
+}
+
+/// The links that hold something: client, target, and whether it is a request.
+fn waiting_links(store: &Store) -> Vec<(usize, usize, bool)> {
+    let mut waiting = Vec::new();
+    for (client, row) in store.clients.iter().enumerate() {
+        for (target, link) in row.links.iter().enumerate() {
+            match link {
+                Link::Nothing => {}
+                Link::Request(_) => waiting.push((client, target, true)),
+                Link::Reply(_) => waiting.push((client, target, false)),
+            }
+        }
+    }
+    waiting
+}

@@ -1,0 +1,10 @@
+//! Random schedules: the same seed gives the same text. The generator plays each line on the model,
+//! so that most deliveries find something on their link.
+
+mod generator;
+mod lines;
+mod random;
+mod wrong;
+
+pub use generator::{schedule, Generator};
+pub use random::Random;

@@ -1,0 +1,111 @@
+//! Lines that are refused: unreadable ones of every kind, and steps with arguments that mostly do not fit.
+
+use crate::lines::line_of;
+use crate::random::Random;
+use model::Step;
+
+/// A line that is most likely of no shape that the program knows.
+pub fn unreadable(random: &mut Random) -> Vec<u8> {
+    let good = line_of(&step_of_any_kind(random));
+    let letter = random.pick(b"OWR><");
+    match random.below(19) {
+        0 => Vec::new(),
+        1 => vec![b' '],
+        2 => vec![letter],
+        3 => vec![letter, b' '],
+        4 => [&good[..], b" "].concat(),
+        5 => [b" ", &good[..]].concat(),
+        6 => replaced(&good, b"  "),
+        7 => replaced(&good, b"\t"),
+        8 => replaced(&good, b""),
+        9 => [&good[..], b"\r"].concat(),
+        10 => [&[random.pick(b"owrXY0=!+\x00\xff")][..], &good[1..]].concat(),
+        11 => replaced(&good, random.pick(&[&b" 0"[..], b" -", b" +", b" 00", b" 0x"])),
+        12 => [&good[..], random.pick(&[&b"x"[..], b".", b",1", b" x", b"\x00", b"=1"])].concat(),
+        13 => [&[letter][..], random.pick(&[&b" 4294967296 1"[..], b" 0 4294967296", b" 0 42949672960"])].concat(),
+        14 => format!("{} 1 {}", letter as char, "9".repeat(random.within(11, 60))).into_bytes(),
+        15 => format!("{} {}", letter as char, random.below(3)).into_bytes(),
+        16 => [&good[..], b" 1 2 3"].concat(),
+        17 => noise(random),
+        _ => too_long(random),
+    }
+}
+
+/// The line with one space replaced.
+fn replaced(line: &[u8], by: &[u8]) -> Vec<u8> {
+    let space = line.iter().position(|&byte| byte == b' ').unwrap_or(0);
+    [&line[..space], by, &line[space + 1..]].concat()
+}
+
+/// Bytes of any value but 10.
+fn noise(random: &mut Random) -> Vec<u8> {
+    let length = random.within(1, 30);
+    let byte = |random: &mut Random| match random.draw() as u8 {
+        10 => 11,
+        other => other,
+    };
+    (0..length).map(|_| byte(random)).collect()
+}
+
+/// A line of numbers that has about 200 bytes: 200 is a line, 201 is none.
+fn too_long(random: &mut Random) -> Vec<u8> {
+    let length = random.pick(&[199, 200, 201, 202, 203, 400, 401, 1000, 5000]);
+    let start = random.pick(&[&b"O 2 1 1"[..], b"W 0 1", b"R 0 1", b"> 0 0", b"xyz"]);
+    let mut line = start.to_vec();
+    while line.len() + 2 <= length {
+        line.extend(b" 7");
+    }
+    line.resize(length, b'7');
+    line
+}
+
+/// A step whose arguments fit no store, or only by luck.
+pub fn step_of_any_kind(random: &mut Random) -> Step {
+    let setpoints = (0..random.below(18)).map(|place| place as u32).collect();
+    match random.below(5) {
+        0 => bad_opening(random),
+        1 => Step::BeginWrite { client: client(random), mask: mask(random), setpoints },
+        2 => Step::BeginRead { client: client(random), mask: mask(random) },
+        3 => Step::DeliverRequest { client: client(random), target: target(random) },
+        _ => Step::DeliverReply { client: client(random), target: target(random) },
+    }
+}
+
+fn client(random: &mut Random) -> u32 {
+    match random.below(4) {
+        0 => random.pick(&[16, 17, 255, 256, 257, 65536, u32::MAX]),
+        _ => random.below(17) as u32,
+    }
+}
+
+fn target(random: &mut Random) -> u32 {
+    match random.below(4) {
+        0 => random.pick(&[17, 31, 32, 256, 272, 65552, u32::MAX]),
+        _ => random.below(17) as u32,
+    }
+}
+
+fn mask(random: &mut Random) -> u32 {
+    match random.below(3) {
+        0 => random.pick(&[0, 65535, 65536, 65537, 1 << 31, u32::MAX]),
+        _ => random.below(1 << 16) as u32 >> random.below(16),
+    }
+}
+
+/// An opening with one argument out of its range.
+fn bad_opening(random: &mut Random) -> Step {
+    let servers = random.within(1, 16) as u32;
+    let mut setpoints = vec![7; servers as usize];
+    let (mut method, mut asked, mut clients) = (random.within(1, 3) as u32, servers, 2);
+    match random.below(5) {
+        0 => method = random.pick(&[0, 4, 257, 258, 259, u32::MAX]),
+        1 => asked = random.pick(&[0, 17, 256, 257, u32::MAX]),
+        2 => clients = random.pick(&[0, 17, 256, 258, u32::MAX]),
+        3 => (method, clients) = (1, 1),
+        _ => setpoints.push(7),
+    }
+    if random.chance(1, 8) {
+        setpoints.pop();
+    }
+    Step::Open { method, servers: asked, clients, setpoints }
+}

@@ -1,0 +1,133 @@
+//! Where each word of the lent tables stands.
+
+use model::Key;
+
+/// The eight tables, each one slice of 32-bit words.
+#[derive(Clone, Debug, Default, PartialEq, Eq)]
+pub struct Tables {
+    pub counts: Vec<u32>,
+    pub clients: Vec<u32>,
+    pub links: Vec<u32>,
+    pub keys: Vec<u32>,
+    pub setpoints: Vec<u32>,
+    pub log: Vec<u32>,
+    pub writes: Vec<u32>,
+    pub reads: Vec<u32>,
+}
+
+/// Words of each table's row, and rows of a fixed number.
+pub const COUNTS_WORDS: usize = 23;
+pub const CLIENT_WORDS: usize = 38;
+pub const LINK_WORDS: usize = 3;
+pub const LINKS_OF_CLIENT: usize = 17;
+pub const VERSIONS_OF_SERVER: usize = 256;
+pub const LOG_WORDS: usize = 2;
+pub const LOG_ENTRIES: usize = 256;
+pub const RECORD_WORDS: usize = 5;
+pub const RECORDS: usize = 255;
+
+/// Places in the counts.
+pub const METHOD: usize = 0;
+pub const SERVERS: usize = 1;
+pub const CLIENTS: usize = 2;
+pub const STEP: usize = 3;
+pub const ENTRIES: usize = 4;
+pub const WRITES: usize = 5;
+pub const READS: usize = 6;
+pub const HELD: usize = 7;
+
+/// Places in a client's row.
+pub const STATE: usize = 0;
+pub const COUNT: usize = 1;
+pub const MASK: usize = 2;
+pub const TAG: usize = 3;
+pub const RECORD: usize = 4;
+pub const SETPOINTS: usize = 5;
+pub const RECEIVED: usize = 21;
+
+/// Kinds of what a link holds.
+pub const NOTHING: u32 = 0;
+pub const REQUEST: u32 = 1;
+pub const REPLY: u32 = 2;
+
+impl Tables {
+    /// Tables of exactly the length that k servers and p clients need, every word the same.
+    pub fn filled(servers: usize, clients: usize, word: u32) -> Tables {
+        Tables {
+            counts: vec![word; COUNTS_WORDS],
+            clients: vec![word; CLIENT_WORDS * clients],
+            links: vec![word; LINK_WORDS * LINKS_OF_CLIENT * clients],
+            keys: vec![word; VERSIONS_OF_SERVER * servers],
+            setpoints: vec![word; VERSIONS_OF_SERVER * servers],
+            log: vec![word; LOG_WORDS * LOG_ENTRIES],
+            writes: vec![word; RECORD_WORDS * RECORDS],
+            reads: vec![word; RECORD_WORDS * RECORDS],
+        }
+    }
+
+    /// All tables in a fixed order, for what goes over each of them.
+    pub fn all_mut(&mut self) -> [&mut Vec<u32>; 8] {
+        [
+            &mut self.counts,
+            &mut self.clients,
+            &mut self.links,
+            &mut self.keys,
+            &mut self.setpoints,
+            &mut self.log,
+            &mut self.writes,
+            &mut self.reads,
+        ]
+    }
+
+    /// The words of each table, in the same order.
+    pub fn lengths(&self) -> [usize; 8] {
+        [
+            self.counts.len(),
+            self.clients.len(),
+            self.links.len(),
+            self.keys.len(),
+            self.setpoints.len(),
+            self.log.len(),
+            self.writes.len(),
+            self.reads.len(),
+        ]
+    }
+
+    pub fn count(&self, place: usize) -> usize {
+        self.counts[place] as usize
+    }
+
+    pub fn client(&self, client: usize) -> &[u32] {
+        &self.clients[CLIENT_WORDS * client..][..CLIENT_WORDS]
+    }
+
+    pub fn link(&self, client: usize, target: usize) -> &[u32] {
+        &self.links[link_place(client, target)..][..LINK_WORDS]
+    }
+
+    pub fn entry(&self, tag: usize) -> &[u32] {
+        &self.log[LOG_WORDS * tag..][..LOG_WORDS]
+    }
+
+    pub fn write(&self, place: usize) -> &[u32] {
+        &self.writes[RECORD_WORDS * place..][..RECORD_WORDS]
+    }
+
+    pub fn read(&self, place: usize) -> &[u32] {
+        &self.reads[RECORD_WORDS * place..][..RECORD_WORDS]
+    }
+}
+
+/// Links stand at 17 times the client plus the target.
+pub fn link_place(client: usize, target: usize) -> usize {
+    LINK_WORDS * (LINKS_OF_CLIENT * client + target)
+}
+
+/// "a key is 256 times its count plus its client"
+pub fn key_word(key: Key) -> u32 {
+    256 * u32::from(key.count) + u32::from(key.client)
+}
+
+pub fn key_of(word: u32) -> Key {
+    Key { count: (word / 256) as u8, client: (word % 256) as u8 }
+}

@@ -1,0 +1,37 @@
+//! The lent tables of words, in the layout of docs/DECISIONS.md: soundness, and the model's steps on them.
+
+pub mod layout;
+mod reading;
+pub mod sound;
+mod writing;
+
+use model::{Answer, Outcome, Refusal, Step, Store};
+
+pub use layout::Tables;
+pub use reading::store_of;
+pub use sound::{long_enough, sound};
+
+/// Takes a step on any tables: refused with all words as before, or answered with the words that the model's step changes.
+pub fn take(tables: &mut Tables, step: &Step) -> Outcome {
+    if let Step::Open { method, servers, clients, setpoints } = step {
+        return open(tables, *method, *servers, *clients, setpoints);
+    }
+    if !sound(tables) {
+        return Err(Refusal::Unsound);
+    }
+    let before = store_of(tables);
+    let mut after = before.clone();
+    let answer = after.take(step)?;
+    writing::write_changes(tables, &before, &after);
+    Ok(answer)
+}
+
+/// An opening asks only that the tables are long enough for the new k and p.
+fn open(tables: &mut Tables, method: u32, servers: u32, clients: u32, setpoints: &[u32]) -> Outcome {
+    let store = Store::open(method, servers, clients, setpoints)?;
+    if !long_enough(tables, servers as usize, clients as usize) {
+        return Err(Refusal::Unsound);
+    }
+    writing::write_opening(tables, &store);
+    Ok(Answer::Ok)
+}
