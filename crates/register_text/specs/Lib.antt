@@ -1,0 +1,3 @@
+-- The register in print.
+pub mod Text
+pub mod TextLaws

@@ -1,0 +1,72 @@
+// The register in print: the rows that listing lays, line by line.
+ghost use mathlib.Core.Path.{_≡_};
+ghost use Prim.Native.Nat.{_+_, _*_, _≤_, _<_};
+ghost use lib.ListN.{length};
+ghost use Rattle.tables.specs.Tables.{tablesOf, methodOf};
+ghost use Rattle.soundness.specs.Facts.{Sound};
+ghost use Rattle.printing.specs.Printed.{Printed};
+ghost use Rattle.register_text.specs.Text.{rowText, rowsText, registerText};
+use listing::Listed;
+
+// How many words listing needs at most: 510 rows of 7.
+pub const LIST: usize = 3570;
+
+// The line of a row: kind, tag, client, count or mask, begin, end, overlap.
+fn print_row(row: &[u32], out: &mut [u8], at: usize) -> usize
+    requires { ⌜ (7 ≤ length (now row)) × (at + 57 ≤ length (now out)) ⌝ }
+    ensures { λ r. ⌜ Printed (now (out .entry)) at (rowText (now (row .entry))) r (now (out .exit)) × (r ≤ at + 57) ⌝ }
+{
+    if row[0] == 0 {
+        return printing::print_write_record(row[1], row[2], row[3], row[4], row[5], out, at);
+    }
+    printing::print_read_record(row[1], row[2], row[4], row[5], row[6], out, at)
+}
+
+// The lines of the first rows of a list.
+fn print_rows(list: &[u32], rows: usize, out: &mut [u8], at: usize) -> usize
+    requires { ⌜ (7 * rows ≤ length (now list)) × (at + 57 * rows ≤ length (now out)) ⌝ }
+    requires { ⌜ rows ≤ 510 ⌝ }
+    ensures { λ r. ⌜ Printed (now (out .entry)) at (rowsText (now (list .entry)) rows) r (now (out .exit)) × (r ≤ at + 57 * rows) ⌝ }
+{
+    let mut next = at;
+    let mut i = 0;
+    while i < rows {
+        next = print_row(&list[7 * i..7 * i + 7], out, next);
+        i += 1;
+    }
+    next
+}
+
+// The register of sound tables, printed from a place on; it answers where the print ends.
+pub fn print_register(
+    counts: &[u32],
+    clients: &[u32],
+    links: &[u32],
+    keys: &[u32],
+    values: &[u32],
+    log: &[u32],
+    writes: &[u32],
+    reads: &[u32],
+    out: &mut [u8],
+    at: usize,
+) -> usize
+    requires { ⌜ Sound (tablesOf (now counts) (now clients) (now links) (now keys) (now values) (now log) (now writes) (now reads)) ⌝ }
+    requires { ⌜ at + 29070 ≤ length (now out) ⌝ }
+    ensures { λ r. ⌜ Printed (now (out .entry)) at (registerText (tablesOf (now (counts .entry)) (now (clients .entry)) (now (links .entry)) (now (keys .entry)) (now (values .entry)) (now (log .entry)) (now (writes .entry)) (now (reads .entry)))) r (now (out .exit)) × (r ≤ at + 29070) ⌝ }
+{
+    let mut list = [0u32; LIST];
+    match listing::list_register_sound(
+        counts,
+        clients,
+        links,
+        keys,
+        values,
+        log,
+        writes,
+        reads,
+        &mut list,
+    ) {
+        Listed::Rows(rows) => print_rows(&list, rows, out, at),
+        Listed::Refused(_) => at,
+    }
+}
