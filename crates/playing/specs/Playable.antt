@@ -32,6 +32,10 @@ pub record Playable (t : Tables) : Type 0 where
 pub sound-playable : (t : Tables) → Sound t → Playable t
 sound-playable t s = record { long = s .long .counts; sound = λ h. s }
 
+-- tables of zeros, as they stand before the first line
+pub unopened-playable : (t : Tables) → countWords ≤ length (t .counts) → methodOf t ≡ 0 → Playable t
+unopened-playable t long e = record { long = long; sound = λ h. let z : ⊥ = omega (arith, h, e) in absurd z }
+
 module _ (t : Tables) (unopened : methodOf t ≡ 0) where
   -- tables that were not opened are not sound
   not-sound : sound t ≡ false

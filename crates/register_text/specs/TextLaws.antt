@@ -111,3 +111,13 @@ module _ (t : Tables) (s : Sound t) (list : List ℕ) (room : 3570 ≤ length li
 
       pub never-refused : {n : ℕ} → r ≡ Refused n → ⊥
       never-refused {n} e = not-refused n (ap (λ (x : Listed). listing x left) (sym e) ∙ told)
+
+-- before an opening there is no register, and behind one it is that of the tables
+module _ (t : Tables) where
+  pub unopened-printed : (out : List ℕ) → methodOf t ≡ 0 → Printed out 0 (registerPrinted t) 0 out
+  unfolding registerPrinted
+  unopened-printed out e = rw (eq-eqb _ _ e) (printed-none out 0 (omega arith))
+
+  pub opened-printed : (out : List ℕ) (at next bound : ℕ) (left : List ℕ) → (methodOf t ≡ 0 → ⊥) → Printed out at (registerText t) next left × (next ≤ bound) → Printed out at (registerPrinted t) next left × (next ≤ bound)
+  unfolding registerPrinted
+  opened-printed out at next bound left n p = rw (ne-eqb _ _ n) p

@@ -9,8 +9,11 @@ ghost use Rattle.tables.specs.Tables.{tablesOf};
 ghost use Rattle.playing.specs.Playable.{Playable};
 ghost use Rattle.streaming.specs.Stream.{lacksEnd, passed, Answered, Going, Turned};
 ghost use Rattle.streaming.specs.Windows.{Came, ReadOn, roomy};
+ghost use Rattle.printing.specs.Printed.{Printed};
+ghost use Rattle.register_text.specs.Text.{registerPrinted};
 use libc::STDIN_FILENO;
 use libc::STDOUT_FILENO;
+use tables::counts::METHOD;
 
 // The run between two turns.
 pub struct Run {
@@ -226,4 +229,88 @@ fn turn(
         line,
         out,
     )
+}
+
+// The register of the last opening, at the front of the print; before any opening there is none. It answers where the print ends.
+fn print_end(
+    counts: &[u32],
+    clients: &[u32],
+    links: &[u32],
+    keys: &[u32],
+    values: &[u32],
+    log: &[u32],
+    writes: &[u32],
+    reads: &[u32],
+    out: &mut [u8],
+) -> usize
+    requires { ⌜ Playable (tablesOf (now counts) (now clients) (now links) (now keys) (now values) (now log) (now writes) (now reads)) ⌝ }
+    requires { ⌜ 29070 ≤ length (now out) ⌝ }
+    ensures { λ r. ⌜ Printed (now (out .entry)) 0 (registerPrinted (tablesOf (now (counts .entry)) (now (clients .entry)) (now (links .entry)) (now (keys .entry)) (now (values .entry)) (now (log .entry)) (now (writes .entry)) (now (reads .entry)))) r (now (out .exit)) × (r ≤ 29070) ⌝ }
+{
+    if tables::counts::count_at(counts, METHOD) == 0 {
+        return 0;
+    }
+    register_text::print_register(
+        counts,
+        clients,
+        links,
+        keys,
+        values,
+        log,
+        writes,
+        reads,
+        out,
+        0,
+    )
+}
+
+// Plays standard input to its end, and prints the answers and the register.
+pub fn replay() {
+    let mut counts = [0u32; 23];
+    let mut clients = [0u32; 608];
+    let mut links = [0u32; 816];
+    let mut keys = [0u32; 4096];
+    let mut values = [0u32; 4096];
+    let mut log = [0u32; 512];
+    let mut writes = [0u32; 1275];
+    let mut reads = [0u32; 1275];
+    let mut window = [0u8; 65536];
+    let mut out = [0u8; 65536];
+    let mut run = Run {
+        left: 9223372036854775808,
+        lines: 0,
+        from: 0,
+        held: 0,
+        used: 0,
+        skipping: false,
+    };
+    while 0 < run.left {
+        run = turn(
+            run,
+            &mut counts,
+            &mut clients,
+            &mut links,
+            &mut keys,
+            &mut values,
+            &mut log,
+            &mut writes,
+            &mut reads,
+            &mut window,
+            &mut out,
+        );
+    }
+    let used = run.used;
+    io::write_all(STDOUT_FILENO, &out[..used]);
+    let end = print_end(
+        &counts,
+        &clients,
+        &links,
+        &keys,
+        &values,
+        &log,
+        &writes,
+        &reads,
+        &mut out,
+    );
+    io::write_all(STDOUT_FILENO, &out[..end]);
 }
