@@ -1,0 +1,4 @@
+-- What a link holds as a message, and what writing its frame answers and leaves.
+pub mod OnLink
+pub mod Sending
+pub mod Writable
