@@ -2,3 +2,4 @@
 pub mod OnLink
 pub mod Sending
 pub mod Writable
+pub mod Always
