@@ -88,7 +88,7 @@ module _ (t : Tables) (s : Sound t) where
     client-fits = omega (arith, few-clients)
 
     -- B's reply
-    keys-can : (n : ℕ) → Between 1 n (entriesOf t) → CanBeWritten (keysReply n q t)
+    keys-can : (n : ℕ) → Between 1 n (entriesOf t) → CanBeWritten (keysReply n q (serversOf t) (t .log))
     keys-can n b =
         let k = serversOf t in
         let f : ℕ → ℕ = λ i. keyWord (latestKey (t .log) i (n - 1)) in
@@ -98,7 +98,7 @@ module _ (t : Tables) (s : Sound t) where
         (n - 1) (omega (arith, s .scalars .entries .most)) few-servers
 
     -- C's replies
-    log-can : (n : ℕ) → Between 1 n (entriesOf t) → CanBeWritten (logReply n q t)
+    log-can : (n : ℕ) → Between 1 n (entriesOf t) → CanBeWritten (logReply n q (t .log))
     log-can n b =
         let f : ℕ → ℕ = λ tag. wordAt entryWidth (t .log) tag 0 in
         let g : ℕ → ℕ = entryMask (t .log) in
@@ -109,7 +109,7 @@ module _ (t : Tables) (s : Sound t) where
         (λ j h. rw (built-at g n j h) (e j h .mask .some))
         (λ j h. rw (built-at g n j h) (mask-fits (g j) (e j h .mask)))
 
-    all-can : ((j : ℕ) → getD (t .values) j 0 < 4294967296) → (i : ℕ) → i < serversOf t → (n : ℕ) → Between 1 n (heldOf t i) → CanBeWritten (allReply n q i t)
+    all-can : ((j : ℕ) → getD (t .values) j 0 < 4294967296) → (i : ℕ) → i < serversOf t → (n : ℕ) → Between 1 n (heldOf t i) → CanBeWritten (allReply n q i (t .keys) (t .values))
     all-can words i l n b =
         let f : ℕ → ℕ = versionWord (t .keys) i in
         let g : ℕ → ℕ = versionWord (t .values) i in

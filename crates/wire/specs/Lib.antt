@@ -3,3 +3,5 @@ pub mod OnLink
 pub mod Sending
 pub mod Writable
 pub mod Always
+pub mod Ready
+pub mod Cases

@@ -35,24 +35,26 @@ requestIn state w q i =
     (cond (eqb i coordinator) (GetLog q) (GetAll q i)))))
 
 -- B: "its reply has the last tag and all k keys". The reply holds the number n of log entries at the moment of answering, so the last tag was n - 1.
-abbrev pub keysReply : ℕ → ℕ → Tables → OnLink
-keysReply n q t = carries (Keys q (n - 1) (serversOf t)) (built (λ i. keyWord (latestKey (t .log) i (n - 1))) (serversOf t)) []
+abbrev pub keysReply : ℕ → ℕ → ℕ → List ℕ → OnLink
+keysReply n q k log = carries (Keys q (n - 1) k) (built (λ i. keyWord (latestKey log i (n - 1))) k) []
 
 -- "C's replies hold the first n versions, or the first n log entries, of the moment of answering."
-abbrev pub allReply : ℕ → ℕ → ℕ → Tables → OnLink
-allReply n q i t = carries (All q i n) (built (versionWord (t .keys) i) n) (built (versionWord (t .values) i) n)
+abbrev pub allReply : ℕ → ℕ → ℕ → List ℕ → List ℕ → OnLink
+allReply n q i keys values = carries (All q i n) (built (versionWord keys i) n) (built (versionWord values i) n)
 
-abbrev pub logReply : ℕ → ℕ → Tables → OnLink
-logReply n q t = carries (Log q n) (built (λ tag. wordAt entryWidth (t .log) tag 0) n) (built (entryMask (t .log)) n)
+abbrev pub logReply : ℕ → ℕ → List ℕ → OnLink
+logReply n q log = carries (Log q n) (built (λ tag. wordAt entryWidth log tag 0) n) (built (entryMask log) n)
+
+abbrev pub everythingReply : ℕ → ℕ → ℕ → List ℕ → List ℕ → List ℕ → OnLink
+everythingReply n q i keys values log = cond (eqb i coordinator) (logReply n q log) (allReply n q i keys values)
 
 -- A reply, by the state that gets it back; n is the number on the link. State 1: set done; 2: entered, with the tag; 3: keys; 4: got; 5: all or log.
 unfoldable pub replyIn : ℕ → ℕ → ℕ → ℕ → Tables → OnLink
 replyIn state n q i t =
     cond (eqb state writing) (alone (SetDone q i))
     (cond (eqb state entering) (alone (Entered q n))
-    (cond (eqb state askingKeys) (keysReply n q t)
-    (cond (eqb state askingSetpoints) (alone (Got q i n))
-    (cond (eqb i coordinator) (logReply n q t) (allReply n q i t)))))
+    (cond (eqb state askingKeys) (keysReply n q (serversOf t) (t .log))
+    (cond (eqb state askingSetpoints) (alone (Got q i n)) (everythingReply n q i (t .keys) (t .values) (t .log)))))
 
 abbrev pub onLinkBy : Content → ℕ → ℕ → Tables → OnLink
 onLinkBy Nothing q i t = empty

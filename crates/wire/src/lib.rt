@@ -1,2 +1,154 @@
 // The frame of a link: the message that a link holds, written from lent tables into lent bytes.
+// As in `store` there are two functions: the one judges any tables; the other, whose name ends in `_sound`, asks for sound tables and does not check them.
 ghost use mathlib.Core.Path.{_≡_};
+ghost use mathlib.Core.List.{List};
+ghost use Prim.Native.Nat.{ℕ, _+_, _*_, _≤_, _<_};
+ghost use lib.ListN.{length, take, drop};
+ghost use Rattle.tables.specs.Rows.{wordAt};
+ghost use Rattle.tables.specs.Layout.{countWords, entryWidth, entryMask, serverPlaces};
+ghost use Rattle.tables.specs.Tables.{tablesOf};
+ghost use Rattle.soundness.specs.Facts.{Sound};
+ghost use Rattle.frames.specs.Lists.{laid};
+ghost use Rattle.wire.specs.OnLink.{alone, requestIn, keysReply, allReply, logReply, everythingReply, replyIn, onLink};
+ghost use Rattle.wire.specs.Sending.{sent, isAbsent, linkFrame};
+ghost use Rattle.wire.specs.Ready.{LogReady, AllReady, EverythingReady, ReplyReady, LinkReady};
+ghost use Rattle.wire.specs.Cases.{wroteFrom};
+use frames::Message;
+use frames::Written;
+use soundness::states;
+use tables::clients;
+use tables::counts;
+use tables::links;
+use tables::links::Content;
+use tables::links::Contents;
+use tables::log;
+use tables::versions;
+
+// A message with no entries.
+fn write_alone(message: Message, bytes: &mut [u8]) -> Written
+    ensures { λ r. ⌜ sent r (now (bytes .exit)) ≡ wroteFrom (alone message) (now (bytes .entry)) ⌝ }
+{
+    let none = [0u32; 0];
+    frames::write_frame(message, &none, &none, bytes)
+}
+
+// The message of a request, by the state that sent it.
+fn request_message(state: u32, contents: Contents, client: u8, target: u8) -> Message
+    ensures { λ r. ⌜ r ≡ requestIn state contents client target ⌝ }
+{
+    let key = contents.key;
+    let number = contents.number;
+    if state == states::WRITING {
+        return Message::Set {
+            client: client,
+            server: target,
+            key: key,
+            setpoint: number,
+        };
+    }
+    if state == states::ENTERING {
+        return Message::Enter {
+            client: client,
+            key: key,
+            mask: number,
+        };
+    }
+    if state == states::ASKING_KEYS {
+        return Message::WhichKeys { client: client };
+    }
+    if state == states::ASKING_SETPOINTS {
+        return Message::Get {
+            client: client,
+            server: target,
+            key: key,
+        };
+    }
+    if target == 16 {
+        return Message::GetLog { client: client };
+    }
+    Message::GetAll {
+        client: client,
+        server: target,
+    }
+}
+
+// The words of the keys of the first entries of the log.
+fn log_keys(log: &[u32], entries: usize, words: &mut [u32])
+    requires { ⌜ (entryWidth * entries ≤ length (now log)) × (entries ≤ length (now words)) ⌝ }
+    ensures { λ _. ⌜ now (words .exit) ≡ laid (λ tag. wordAt entryWidth (now (log .entry)) tag 0) entries (now (words .entry)) ⌝ }
+{
+    let mut tag: usize = 0;
+    while tag < entries {
+        words[tag] = log::key_word(log, tag);
+        tag += 1;
+    }
+}
+
+// Their masks.
+fn log_masks(log: &[u32], entries: usize, words: &mut [u32])
+    requires { ⌜ (entryWidth * entries ≤ length (now log)) × (entries ≤ length (now words)) ⌝ }
+    ensures { λ _. ⌜ now (words .exit) ≡ laid (λ tag. entryMask (now (log .entry)) tag) entries (now (words .entry)) ⌝ }
+{
+    let mut tag: usize = 0;
+    while tag < entries {
+        words[tag] = log::entry_mask(log, tag);
+        tag += 1;
+    }
+}
+
+// The head's reply to a client that asks for keys: the last tag of the log as it was, and the keys of all servers at it.
+fn write_keys(log: &[u32], servers: u32, number: u32, client: u8, bytes: &mut [u8]) -> Written
+    requires { ⌜ LogReady (now log) number × (servers ≤ 16) ⌝ }
+    ensures { λ r. ⌜ sent r (now (bytes .exit)) ≡ wroteFrom (keysReply number client servers (now (log .entry))) (now (bytes .entry)) ⌝ }
+{
+    let mut words = [0u32; 16];
+    let none = [0u32; 0];
+    let tag = number - 1;
+    let count = servers as usize;
+    coordinator::keys_at(log, count, tag as usize, &mut words);
+    let message = Message::Keys {
+        client: client,
+        tag: tag as u8,
+        entries: servers,
+    };
+    frames::write_frame(message, &words[..count], &none, bytes)
+}
+
+// The head's reply under C: the first entries of the log.
+fn write_log(log: &[u32], number: u32, client: u8, bytes: &mut [u8]) -> Written
+    requires { ⌜ LogReady (now log) number ⌝ }
+    ensures { λ r. ⌜ sent r (now (bytes .exit)) ≡ wroteFrom (logReply number client (now (log .entry))) (now (bytes .entry)) ⌝ }
+{
+    let mut words = [0u32; 256];
+    let mut masks = [0u32; 256];
+    let count = number as usize;
+    log_keys(log, count, &mut words);
+    log_masks(log, count, &mut masks);
+    let message = Message::Log {
+        client: client,
+        entries: number,
+    };
+    frames::write_frame(message, &words[..count], &masks[..count], bytes)
+}
+
+// A server's reply under C: its first versions.
+fn write_all(
+    keys: &[u32],
+    values: &[u32],
+    number: u32,
+    client: u8,
+    target: u8,
+    bytes: &mut [u8],
+) -> Written
+    requires { ⌜ AllReady (now keys) (now values) target number ⌝ }
+    ensures { λ r. ⌜ sent r (now (bytes .exit)) ≡ wroteFrom (allReply number client target (now (keys .entry)) (now (values .entry))) (now (bytes .entry)) ⌝ }
+{
+    let first = versions::first_place(target as usize);
+    let end = first + number as usize;
+    let message = Message::All {
+        client: client,
+        server: target,
+        entries: number,
+    };
+    frames::write_frame(message, &keys[first..end], &values[first..end], bytes)
+}

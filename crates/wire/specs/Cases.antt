@@ -1,0 +1,84 @@
+-- The cases of what is written, as the code meets them.
+use Prim.Native.Nat.{ℕ, _+_, _*_, _≤_}
+use mathlib.Core.Path.{_≡_, refl, sym, ap, _∙_}
+use mathlib.Core.List.{List, []}
+use native.Mathlib.Omega.{arith}
+use lib.ListN.{length, getD, take, drop, length-drop, length-set}
+use lib.Seq.{take-at, getD-drop}
+use borrow.Author.Tests.{eq-eqb, ne-eqb}
+use Rattle.ranges.specs.Turns.{turns-keep}
+use Rattle.tables.specs.Layout.{serverPlaces, versionWord}
+use Rattle.tables.specs.declared.links.Contents.{Contents}
+use Rattle.coordinator.specs.Latest.{latestKey, putKey, putKeys}
+use Rattle.coordinator.specs.LatestLaws.{keys-put}
+use Rattle.keys.specs.Keys.{keyWord}
+use Rattle.rules.specs.Common.{writing, entering, askingKeys, askingSetpoints, coordinator}
+use Rattle.frames.specs.declared.Message.{Message}
+use Rattle.frames.specs.declared.Message.the-variants.{Set, Enter, WhichKeys, Get, GetAll, GetLog}
+use Rattle.frames.specs.declared.Written.{Written}
+use Rattle.frames.specs.Frames.{writtenOf, bytesWritten}
+use Rattle.frames.specs.Lists.{built, built-length, built-same, built-take, laid}
+use Rattle.wire.specs.OnLink.{OnLink, empty, carries, requestIn}
+use Rattle.wire.specs.Sending.{Sent, sent, refused}
+
+-- what `frames` leaves of a message and its entries: it may refuse by 11 besides
+unfoldable pub wroteFrom : OnLink → List ℕ → Sent
+wroteFrom empty bytes = refused 9 bytes
+wroteFrom (carries m keys numbers) bytes = sent (writtenOf m keys numbers bytes) (bytesWritten m keys numbers bytes)
+
+-- the writer of `frames` was lent these entries
+pub wrote : (m : Message) {keys numbers keys′ numbers′ : List ℕ} (bytes : List ℕ) {r : Written} {after : List ℕ} → keys′ ≡ keys → numbers′ ≡ numbers → (r ≡ writtenOf m keys′ numbers′ bytes) × (after ≡ bytesWritten m keys′ numbers′ bytes) → sent r after ≡ wroteFrom (carries m keys numbers) bytes
+unfolding wroteFrom
+wrote m bytes d f e = (λ i. sent (e .0 i) (e .1 i)) ∙ (λ i. sent (writtenOf m (d i) (f i) bytes) (bytesWritten m (d i) (f i) bytes))
+
+-- ---- the message of a request
+
+module _ (state : ℕ) (w : Contents) (q i : ℕ) where
+  pub request-set : state ≡ writing → Set q i (w .key) (w .number) ≡ requestIn state w q i
+  unfolding requestIn
+  request-set e = rw (eq-eqb state writing e)
+
+  module _ (d : state ≡ writing → ⊥) where
+    pub request-enter : state ≡ entering → Enter q (w .key) (w .number) ≡ requestIn state w q i
+    unfolding requestIn
+    request-enter e = rw (ne-eqb state writing d, eq-eqb state entering e)
+
+    module _ (f : state ≡ entering → ⊥) where
+      pub request-keys : state ≡ askingKeys → WhichKeys q ≡ requestIn state w q i
+      unfolding requestIn
+      request-keys e = rw (ne-eqb state writing d, ne-eqb state entering f, eq-eqb state askingKeys e)
+
+      module _ (g : state ≡ askingKeys → ⊥) where
+        pub request-get : state ≡ askingSetpoints → Get q i (w .key) ≡ requestIn state w q i
+        unfolding requestIn
+        request-get e = rw (ne-eqb state writing d, ne-eqb state entering f, ne-eqb state askingKeys g, eq-eqb state askingSetpoints e)
+
+        module _ (h : state ≡ askingSetpoints → ⊥) where
+          pub request-log : i ≡ coordinator → GetLog q ≡ requestIn state w q i
+          unfolding requestIn
+          request-log e = rw (ne-eqb state writing d, ne-eqb state entering f, ne-eqb state askingKeys g, ne-eqb state askingSetpoints h, eq-eqb i coordinator e)
+
+          pub request-all : (i ≡ coordinator → ⊥) → GetAll q i ≡ requestIn state w q i
+          unfolding requestIn
+          request-all e = rw (ne-eqb state writing d, ne-eqb state entering f, ne-eqb state askingKeys g, ne-eqb state askingSetpoints h, ne-eqb i coordinator e)
+
+-- ---- the entries that the code lends
+
+-- the front of a row that was laid
+pub laid-front : (f : ℕ → ℕ) (n : ℕ) (row : List ℕ) {after : List ℕ} → after ≡ laid f n row → take n after ≡ built f n
+laid-front f n row e = ap (take n) e ∙ take-at (built f n) (drop n row) n (built-length f n)
+
+-- a part of a server's versions
+pub versions-part : (words : List ℕ) (i n : ℕ) {at many : ℕ} → serverPlaces * i + n ≤ length words → at ≡ serverPlaces * i → many ≡ n → take many (drop at words) ≡ built (versionWord words i) n
+versions-part words i n h d e =
+    let first = serverPlaces * i in
+    (λ j. take (e j) (drop (d j) words))
+    ∙ sym (built-take (drop first words) n (omega (arith, length-drop first words)))
+    ∙ built-same (λ j. getD (drop first words) j 0) (versionWord words i) n (λ j l. getD-drop first words j 0)
+
+-- the keys put at the front of a row
+pub keys-front : (log : List ℕ) (tag k : ℕ) (row : List ℕ) {after : List ℕ} → k ≤ length row → after ≡ putKeys log tag k row → take k after ≡ built (λ i. keyWord (latestKey log i tag)) k
+keys-front log tag k row h e =
+    let put = putKeys log tag k row in
+    let long : k ≤ length put = turns-keep (putKey log tag) (λ l. k ≤ length l) (λ i l r. rw length-set r) k row h in
+    ap (take k) e ∙ sym (built-take put k long) ∙ built-same (λ i. getD put i 0) (λ i. keyWord (latestKey log i tag)) k (keys-put log tag k row h)
