@@ -1,25 +1,32 @@
 -- The cases of what is written, as the code meets them.
-use Prim.Native.Nat.{ℕ, _+_, _*_, _≤_}
+use Prim.Native.Nat.{ℕ, _+_, _*_, _≤_, _<_}
 use mathlib.Core.Path.{_≡_, refl, sym, ap, _∙_}
-use mathlib.Core.List.{List, []}
+use mathlib.Core.Bool.{Bool, true, not}
+use mathlib.Core.List.{List}
 use native.Mathlib.Omega.{arith}
 use lib.ListN.{length, getD, take, drop, length-drop, length-set}
 use lib.Seq.{take-at, getD-drop}
-use borrow.Author.Tests.{eq-eqb, ne-eqb}
+use borrow.Author.Tests.{eq-eqb, ne-eqb, le-leb, lt-leb}
 use Rattle.ranges.specs.Turns.{turns-keep}
 use Rattle.tables.specs.Layout.{serverPlaces, versionWord}
+use Rattle.tables.specs.Links.{linkAt}
+use Rattle.tables.specs.Tables.{Tables, serversOf, clientsOf, stateOf, contentAt}
 use Rattle.tables.specs.declared.links.Contents.{Contents}
+use Rattle.tables.specs.declared.links.Content.{Content}
+use Rattle.tables.specs.declared.links.Content.the-variants.{Nothing, Request, Reply}
+use Rattle.tables.specs.declared.links.Link.{Link}
 use Rattle.coordinator.specs.Latest.{latestKey, putKey, putKeys}
 use Rattle.coordinator.specs.LatestLaws.{keys-put}
 use Rattle.keys.specs.Keys.{keyWord}
 use Rattle.rules.specs.Common.{writing, entering, askingKeys, askingSetpoints, coordinator}
+use Rattle.refusals.specs.Refusals.{isTarget}
 use Rattle.frames.specs.declared.Message.{Message}
-use Rattle.frames.specs.declared.Message.the-variants.{Set, Enter, WhichKeys, Get, GetAll, GetLog}
+use Rattle.frames.specs.declared.Message.the-variants.{Set, SetDone, Enter, Entered, WhichKeys, Get, Got, GetAll, GetLog}
 use Rattle.frames.specs.declared.Written.{Written}
 use Rattle.frames.specs.Frames.{writtenOf, bytesWritten}
 use Rattle.frames.specs.Lists.{built, built-length, built-same, built-take, laid}
-use Rattle.wire.specs.OnLink.{OnLink, empty, carries, requestIn}
-use Rattle.wire.specs.Sending.{Sent, sent, refused}
+use Rattle.wire.specs.OnLink.{OnLink, empty, carries, alone, requestIn, keysReply, allReply, logReply, everythingReply, replyIn, onLinkBy, onLink}
+use Rattle.wire.specs.Sending.{Sent, sent, refused, isAbsent}
 
 -- what `frames` leaves of a message and its entries: it may refuse by 11 besides
 unfoldable pub wroteFrom : OnLink → List ℕ → Sent
@@ -82,3 +89,63 @@ keys-front log tag k row h e =
     let put = putKeys log tag k row in
     let long : k ≤ length put = turns-keep (putKey log tag) (λ l. k ≤ length l) (λ i l r. rw length-set r) k row h in
     ap (take k) e ∙ sym (built-take put k long) ∙ built-same (λ i. getD put i 0) (λ i. keyWord (latestKey log i tag)) k (keys-put log tag k row h)
+
+-- ---- the replies
+
+module _ (n q i : ℕ) (keys values log bytes : List ℕ) {x : Sent} where
+  pub from-head : i ≡ coordinator → x ≡ wroteFrom (logReply n q log) bytes → x ≡ wroteFrom (everythingReply n q i keys values log) bytes
+  from-head e d = rw (eq-eqb i coordinator e) d
+
+  pub from-server : (i ≡ coordinator → ⊥) → x ≡ wroteFrom (allReply n q i keys values) bytes → x ≡ wroteFrom (everythingReply n q i keys values log) bytes
+  from-server e d = rw (ne-eqb i coordinator e) d
+
+module _ (state n q i : ℕ) (t : Tables) (bytes : List ℕ) {x : Sent} where
+  pub reply-done : state ≡ writing → x ≡ wroteFrom (alone (SetDone q i)) bytes → x ≡ wroteFrom (replyIn state n q i t) bytes
+  unfolding replyIn
+  reply-done e o = rw (eq-eqb state writing e) o
+
+  module _ (d : state ≡ writing → ⊥) where
+    pub reply-entered : state ≡ entering → x ≡ wroteFrom (alone (Entered q n)) bytes → x ≡ wroteFrom (replyIn state n q i t) bytes
+    unfolding replyIn
+    reply-entered e o = rw (ne-eqb state writing d, eq-eqb state entering e) o
+
+    module _ (f : state ≡ entering → ⊥) where
+      pub reply-keys : {k : ℕ} → k ≡ serversOf t → state ≡ askingKeys → x ≡ wroteFrom (keysReply n q k (t .log)) bytes → x ≡ wroteFrom (replyIn state n q i t) bytes
+      unfolding replyIn
+      reply-keys s e o = rw (ne-eqb state writing d, ne-eqb state entering f, eq-eqb state askingKeys e) (o ∙ ap (λ (k : ℕ). wroteFrom (keysReply n q k (t .log)) bytes) s)
+
+      module _ (g : state ≡ askingKeys → ⊥) where
+        pub reply-got : state ≡ askingSetpoints → x ≡ wroteFrom (alone (Got q i n)) bytes → x ≡ wroteFrom (replyIn state n q i t) bytes
+        unfolding replyIn
+        reply-got e o = rw (ne-eqb state writing d, ne-eqb state entering f, ne-eqb state askingKeys g, eq-eqb state askingSetpoints e) o
+
+        pub reply-everything : (state ≡ askingSetpoints → ⊥) → x ≡ wroteFrom (everythingReply n q i (t .keys) (t .values) (t .log)) bytes → x ≡ wroteFrom (replyIn state n q i t) bytes
+        unfolding replyIn
+        reply-everything e o = rw (ne-eqb state writing d, ne-eqb state entering f, ne-eqb state askingKeys g, ne-eqb state askingSetpoints e) o
+
+-- ---- the link
+
+module _ (q i : ℕ) (t : Tables) (bytes : List ℕ) {link : Link} (l : link ≡ linkAt (t .links) q i) where
+  held : {c : Content} → link .content ≡ c → contentAt t q i ≡ c
+  held e = ap (λ (k : Link). k .content) (sym l) ∙ e
+
+  pub link-empty : link .content ≡ Nothing → refused 9 bytes ≡ wroteFrom (onLink q i t) bytes
+  unfolding onLink wroteFrom
+  link-empty e = rw (held e)
+
+  pub link-request : (w : Contents) {state : ℕ} {m : Message} {x : Sent} → link .content ≡ Request w → state ≡ stateOf t q → m ≡ requestIn state w q i → x ≡ wroteFrom (alone m) bytes → x ≡ wroteFrom (onLink q i t) bytes
+  unfolding onLink
+  link-request w e s d o = o ∙ ap (λ (m : Message). wroteFrom (alone m) bytes) (d ∙ ap (λ (state : ℕ). requestIn state w q i) s) ∙ ap (λ (c : Content). wroteFrom (onLinkBy c q i t) bytes) (sym (held e))
+
+  pub link-reply : (w : Contents) {state : ℕ} {x : Sent} → link .content ≡ Reply w → state ≡ stateOf t q → x ≡ wroteFrom (replyIn state (w .number) q i t) bytes → x ≡ wroteFrom (onLink q i t) bytes
+  unfolding onLink
+  link-reply w e s o = o ∙ ap (λ (state : ℕ). wroteFrom (replyIn state (w .number) q i t) bytes) s ∙ ap (λ (c : Content). wroteFrom (onLinkBy c q i t) bytes) (sym (held e))
+
+-- ---- who is there
+
+module _ (q i : ℕ) (t : Tables) {n : ℕ} (d : n ≡ clientsOf t) where
+  pub absent-client : n ≤ q → true ≡ isAbsent q i t
+  absent-client h = rw (← d, le-leb n q h)
+
+  pub absent-target : {b : Bool} → q < n → b ≡ isTarget t i → not b ≡ isAbsent q i t
+  absent-target h e = rw (← d, lt-leb n q h) (ap not e)

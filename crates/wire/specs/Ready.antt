@@ -1,14 +1,15 @@
 -- What the functions ask of the tables that they are lent, and that sound tables have it.
 use Prim.Native.Nat.{ℕ, _+_, _*_, _≤_, _<_}
-use mathlib.Core.Path.{_≡_}
+use mathlib.Core.Path.{_≡_, sym, ap, subst, _∙_}
 use mathlib.Core.List.{List}
 use lib.ListN.{length}
 use Rattle.tables.specs.Rows.{HasRow}
 use Rattle.tables.specs.Layout.{countAt, countWords, serversField, clientWidth, entryWidth, serverPlaces}
-use Rattle.tables.specs.Links.{linkWidth, linkRow}
+use Rattle.tables.specs.Links.{linkWidth, linkRow, linkAt}
 use Rattle.tables.specs.Tables.{Tables, stateOf, contentAt}
 use Rattle.tables.specs.declared.links.Contents.{Contents}
 use Rattle.tables.specs.declared.links.Content.the-variants.{Reply}
+use Rattle.tables.specs.declared.links.Link.{Link}
 use Rattle.rules.specs.Common.{writing, entering, askingKeys, askingSetpoints, coordinator}
 
 -- the first n entries of the log are there
@@ -50,3 +51,8 @@ pub record LinkReady (q i : ℕ) (t : Tables) : Type 0 where
   pub row : HasRow clientWidth (t .clients) q
   pub linked : HasRow linkWidth (t .links) (linkRow q i)
   pub reply : (w : Contents) → contentAt t q i ≡ Reply w → ReplyReady (t .counts) (t .keys) (t .values) (t .log) (stateOf t q) (w .number) i
+
+-- what the reply asks, by what was read of the client's row and the link
+pub reply-ready : (q i : ℕ) (t : Tables) → LinkReady q i t → {state : ℕ} {link : Link} (w : Contents) → state ≡ stateOf t q → link ≡ linkAt (t .links) q i → link .content ≡ Reply w → ReplyReady (t .counts) (t .keys) (t .values) (t .log) state (w .number) i
+reply-ready q i t r w s l e =
+    subst (λ (state : ℕ). ReplyReady (t .counts) (t .keys) (t .values) (t .log) state (w .number) i) (sym s) (r .reply w (ap (λ (k : Link). k .content) (sym l) ∙ e))

@@ -152,3 +152,107 @@ fn write_all(
     };
     frames::write_frame(message, &keys[first..end], &values[first..end], bytes)
 }
+
+// A reply under C: the head's or a server's.
+fn write_everything(
+    keys: &[u32],
+    values: &[u32],
+    log: &[u32],
+    number: u32,
+    client: u8,
+    target: u8,
+    bytes: &mut [u8],
+) -> Written
+    requires { ⌜ EverythingReady (now keys) (now values) (now log) number target ⌝ }
+    ensures { λ r. ⌜ sent r (now (bytes .exit)) ≡ wroteFrom (everythingReply number client target (now (keys .entry)) (now (values .entry)) (now (log .entry))) (now (bytes .entry)) ⌝ }
+{
+    if target == 16 {
+        return write_log(log, number, client, bytes);
+    }
+    write_all(keys, values, number, client, target, bytes)
+}
+
+// A reply, by the state that gets it back.
+fn write_reply(
+    counts: &[u32],
+    keys: &[u32],
+    values: &[u32],
+    log: &[u32],
+    state: u32,
+    number: u32,
+    client: u8,
+    target: u8,
+    bytes: &mut [u8],
+) -> Written
+    requires { ⌜ ReplyReady (now counts) (now keys) (now values) (now log) state number target ⌝ }
+    ensures { λ r. ⌜ ((clients links writes reads : List ℕ) → sent r (now (bytes .exit)) ≡ wroteFrom (replyIn state number client target (tablesOf (now (counts .entry)) clients links (now (keys .entry)) (now (values .entry)) (now (log .entry)) writes reads)) (now (bytes .entry))) ⌝ }
+{
+    if state == states::WRITING {
+        let done = Message::SetDone {
+            client: client,
+            server: target,
+        };
+        return write_alone(done, bytes);
+    }
+    if state == states::ENTERING {
+        let entered = Message::Entered {
+            client: client,
+            tag: number as u8,
+        };
+        return write_alone(entered, bytes);
+    }
+    if state == states::ASKING_KEYS {
+        let servers = counts::count_at(counts, counts::SERVERS);
+        return write_keys(log, servers, number, client, bytes);
+    }
+    if state == states::ASKING_SETPOINTS {
+        let got = Message::Got {
+            client: client,
+            server: target,
+            setpoint: number,
+        };
+        return write_alone(got, bytes);
+    }
+    write_everything(keys, values, log, number, client, target, bytes)
+}
+
+// What the link holds; 9 where it holds nothing.
+fn write_link(
+    counts: &[u32],
+    clients: &[u32],
+    links: &[u32],
+    keys: &[u32],
+    values: &[u32],
+    log: &[u32],
+    client: u32,
+    target: u32,
+    bytes: &mut [u8],
+) -> Written
+    requires { ⌜ ((writes reads : List ℕ) → LinkReady client target (tablesOf (now counts) (now clients) (now links) (now keys) (now values) (now log) writes reads)) ⌝ }
+    ensures { λ r. ⌜ ((writes reads : List ℕ) → sent r (now (bytes .exit)) ≡ wroteFrom (onLink client target (tablesOf (now (counts .entry)) (now (clients .entry)) (now (links .entry)) (now (keys .entry)) (now (values .entry)) (now (log .entry)) writes reads)) (now (bytes .entry))) ⌝ }
+{
+    let state = clients::client_word(clients, client as usize, clients::STATE);
+    let link = links::link_at(links, client as usize, target as usize);
+    let content = link.content;
+    let from = client as u8;
+    let to = target as u8;
+    match content {
+        Content::Nothing => Written::Refused(9),
+        Content::Request(contents) => write_alone(request_message(state, contents, from, to), bytes),
+        Content::Reply(contents) => {
+            let number = contents.number;
+            write_reply(counts, keys, values, log, state, number, from, to, bytes)
+        }
+    }
+}
+
+// Whether there is no such client or target.
+fn is_absent(counts: &[u32], client: u32, target: u32) -> bool
+    requires { ⌜ countWords ≤ length (now counts) ⌝ }
+    ensures { λ r. ⌜ ((clients links keys values log writes reads : List ℕ) → r ≡ isAbsent client target (tablesOf (now (counts .entry)) clients links keys values log writes reads)) ⌝ }
+{
+    if counts::count_at(counts, counts::CLIENTS) <= client {
+        return true;
+    }
+    !refusals::is_target(counts::count_at(counts, counts::SERVERS), target)
+}
