@@ -22,25 +22,20 @@ use Rattle.tables.specs.declared.links.Content.the-variants.{Nothing, Request, 
 use Rattle.coordinator.specs.Latest.{latestTag, latestKey}
 use Rattle.coordinator.specs.LatestLaws.{latest-within}
 use Rattle.rules.specs.Common.{writing, entering, askingKeys, askingSetpoints, askingAll, coordinator}
-use Rattle.soundness.specs.Sound.{between, keyInRange, uses, holding, ownKey, requestSound, replySound, keyOn}
+use Rattle.soundness.specs.Sound.{between, keyInRange, keyOn}
 use Rattle.soundness.specs.Facts.{Between, between-facts, EntryFacts, Sound}
-use Rattle.refusals.specs.Refusals.{isTarget}
-use Rattle.keeping.specs.Links.{kindOn, numberOn, LinkAsks, link-asks, request-kind, request-words, reply-kind, reply-words}
-use Rattle.keeping.specs.States.{uses-writing, uses-keys, uses-setpoints, by-state, masked-below, own-key, range-below, request-writing, request-entering, request-setpoints, reply-entering, reply-keys, reply-all}
+use Rattle.keeping.specs.Links.{kindOn, numberOn, request-kind, request-words, reply-kind, reply-words}
+use Rattle.keeping.specs.States.{by-state, range-below}
 use Rattle.frames.specs.Lists.{built, built-length, built-at}
 use Rattle.frames.specs.Frames.{writable}
 use Rattle.wire.specs.OnLink.{OnLink, empty, carries, alone, requestIn, keysReply, allReply, logReply, replyIn, onLinkBy, onLink}
+use Rattle.wire.specs.Known.{Present, few-servers, client-fits, is-server, asks, used, writing-server, setpoints-server, set-key, enter-key, enter-mask, get-key, entered-tag, keys-held, log-held, all-held}
 use Rattle.wire.specs.Writable.{KeyFits, WordFits, set-writable, set-done-writable, enter-writable, entered-writable, which-keys-writable, keys-writable, get-writable, got-writable, get-all-writable, all-writable, get-log-writable, log-writable}
 
 -- tables of 32-bit words: "A setpoint is an unsigned 32-bit number." Lent slices of such words are always so.
 pub record Words (links values : List ℕ) : Type 0 where
   pub link : (j : ℕ) → getD links j 0 < 4294967296
   pub value : (j : ℕ) → getD values j 0 < 4294967296
-
--- the client and the target are there
-pub record Present (q i : ℕ) (t : Tables) : Type 0 where
-  pub client : q < clientsOf t
-  pub target : isTarget t i ≡ true
 
 abbrev pub CanBeWritten : OnLink → Type 0
 CanBeWritten empty = Unit {0}
@@ -64,9 +59,6 @@ read-fits : (word : ℕ) → word < 65536 → WordFits word → KeyFits (keyAtWo
 read-fits word h f = let e : word / 256 % 256 ≡ word / 256 = omega arith in rw e f
 
 module _ (t : Tables) (s : Sound t) where
-  few-servers : serversOf t ≤ 16
-  few-servers = s .scalars .press .servers .most
-
   few-clients : clientsOf t ≤ 16
   few-clients = s .scalars .press .clients .most
 
@@ -74,7 +66,7 @@ module _ (t : Tables) (s : Sound t) where
   in-range word e = range-fits (clientsOf t) word few-clients e
 
   mask-fits : (m : ℕ) → Within m (serversOf t) → m < 65536
-  mask-fits m w = let e : 2 ^ serversOf t ≤ 2 ^ 16 = pow-mono few-servers in lt-of-lt-of-le (w .below) e
+  mask-fits m w = let e : 2 ^ serversOf t ≤ 2 ^ 16 = pow-mono (s .scalars .press .servers .most) in lt-of-lt-of-le (w .below) e
 
   -- the key of a server at a tag of the log
   latest-fits : (i tag : ℕ) → tag < entriesOf t → WordFits (keyWord (latestKey (t .log) i tag))
@@ -84,8 +76,8 @@ module _ (t : Tables) (s : Sound t) where
       rw (key-back (wordAt entryWidth (t .log) (latestTag (t .log) i tag) 0) (range-below (clientsOf t) _ k)) (in-range _ k)
 
   module _ (q : ℕ) (there : q < clientsOf t) where
-    client-fits : q < 16
-    client-fits = omega (arith, few-clients)
+    below : q < 16
+    below = omega (arith, few-clients)
 
     -- B's reply
     keys-can : (n : ℕ) → Between 1 n (entriesOf t) → CanBeWritten (keysReply n q (serversOf t) (t .log))
@@ -93,9 +85,9 @@ module _ (t : Tables) (s : Sound t) where
         let k = serversOf t in
         let f : ℕ → ℕ = λ i. keyWord (latestKey (t .log) i (n - 1)) in
         let l : n - 1 < entriesOf t = omega (arith, b .least, b .most) in
-        keys-writable q client-fits k (s .scalars .press .servers .least) (built f k) (omega (arith, built-length f k))
+        keys-writable q below k (s .scalars .press .servers .least) (built f k) (omega (arith, built-length f k))
         (λ j h. rw (built-at f k j h) (latest-fits j (n - 1) l))
-        (n - 1) (omega (arith, s .scalars .entries .most)) few-servers
+        (n - 1) (omega (arith, s .scalars .entries .most)) (s .scalars .press .servers .most)
 
     -- C's replies
     log-can : (n : ℕ) → Between 1 n (entriesOf t) → CanBeWritten (logReply n q (t .log))
@@ -103,7 +95,7 @@ module _ (t : Tables) (s : Sound t) where
         let f : ℕ → ℕ = λ tag. wordAt entryWidth (t .log) tag 0 in
         let g : ℕ → ℕ = entryMask (t .log) in
         let e : (j : ℕ) → j < n → EntryFacts t j = λ j h. s .log .entry j (omega (arith, b .most)) in
-        log-writable q client-fits n (b .least) (built f n) (omega (arith, built-length f n))
+        log-writable q below n (b .least) (built f n) (omega (arith, built-length f n))
         (λ j h. rw (built-at f n j h) (in-range (f j) (e j h .key)))
         (built g n) (omega (arith, built-length g n)) (omega (arith, b .most, s .scalars .entries .most))
         (λ j h. rw (built-at g n j h) (e j h .mask .some))
@@ -113,127 +105,73 @@ module _ (t : Tables) (s : Sound t) where
     all-can words i l n b =
         let f : ℕ → ℕ = versionWord (t .keys) i in
         let g : ℕ → ℕ = versionWord (t .values) i in
-        all-writable q client-fits n (b .least) (built f n) (omega (arith, built-length f n))
+        all-writable q below n (b .least) (built f n) (omega (arith, built-length f n))
         (λ j h. rw (built-at f n j h) (in-range (f j) (s .server i l .key j (omega (arith, b .most)))))
         (built g n) (omega (arith, built-length g n)) (omega (arith, b .most, s .server i l .held .most))
-        i (omega (arith, few-servers))
+        i (omega (arith, s .scalars .press .servers .most))
         (λ j h. rw (built-at g n j h) (words _))
 
 -- ---- what stands on a link
 
 module _ (t : Tables) (s : Sound t) (words : Words (t .links) (t .values)) (q i : ℕ) (a : Present q i t) where
-  by-target : {C : Type 0} → (i < serversOf t → C) → (i ≡ coordinator → C) → C
-  by-target server head =
-      by-test (ltb i (serversOf t))
-      (λ b. server (ltb-true _ _ b))
-      (λ b. head (eqb-true i coordinator (rw b at (a .target))))
-
-  target-below : i < targets
-  target-below = by-target (λ h. omega (arith, few-servers t s)) (λ e. omega arith)
-
-  q-fits : q < 16
-  q-fits = client-fits t s q (a .client)
-
-  asks : LinkAsks t q i
-  asks = link-asks t q i (s .client q (a .client) .link i target-below)
-
-  masked : hasServer (maskOf t q) i ≡ true → i < serversOf t
-  masked e = masked-below (maskOf t q) (serversOf t) i (s .client q (a .client) .mask) e
-
-  server-fits : i < serversOf t → i < 16
-  server-fits h = omega (arith, few-servers t s)
-
-  -- a target that is not the coordinator is a server
-  is-server : (i ≡ coordinator → ⊥) → i < serversOf t
-  is-server d = by-target (λ h. h) (λ e. absurd (d e))
-
   abbrev word : ℕ
   word = keyOn t q i
 
   abbrev number : ℕ
   number = numberOn t q i
 
-  own-fits : ownKey q word ≡ true → (1 ≤ word / 256 % 256) × (word / 256 % 256 < 256) × (word % 256 ≡ q)
-  own-fits e = let f = own-key (clientsOf t) q word e in (omega (arith, f .0 .least, f .0 .most), omega arith, f .1)
+  q-fits : q < 16
+  q-fits = client-fits t s q i a
 
   module _ (asked : kindOn t q i ≡ 1) where
-    request-used : uses (stateOf t q) (maskOf t q) i ≡ true
-    request-used = asks .used (λ e. omega arith)
-
-    asked-in : (state : ℕ) → stateOf t q ≡ state → requestSound state q word number t ≡ true
-    asked-in state e = rw e at (asks .request asked)
-
-    used-in : (state : ℕ) → stateOf t q ≡ state → uses state (maskOf t q) i ≡ true
-    used-in state e = rw e at request-used
+    full : kindOn t q i ≡ 0 → ⊥
+    full e = omega arith
 
     request-can : writable (requestIn (stateOf t q) (contentsOf word number) q i) [] [] ≡ true
     unfolding requestIn
     request-can =
-        by-state (maskOf t q) i (stateOf t q) request-used
+        by-state (maskOf t q) i (stateOf t q) (used t s q i a full)
+        (λ e. let k = set-key t s q i a asked e in rw e (set-writable q q-fits i (writing-server t s q i a full e) (keyAtWord word) number (k .some) (k .few) (k .client) (words .link _)))
         (λ e.
-        let o = own-fits (sym (request-writing t q word number) ∙ asked-in writing e) in
-        let l = masked (sym (uses-writing (maskOf t q) i) ∙ used-in writing e) in
-        rw e (set-writable q q-fits i (server-fits l) (keyAtWord word) number (o .0) (o .1) (o .2) (words .link _)))
-        (λ e.
-        let r = sym (request-entering t q word number) ∙ asked-in entering e in
-        let o = own-fits (both-left (ownKey q word) (maskWithin number (serversOf t)) r) in
-        let m = within-true number (serversOf t) (both-right (ownKey q word) (maskWithin number (serversOf t)) r) in
-        rw e (enter-writable q q-fits (keyAtWord word) number (o .0) (o .1) (o .2) (m .some) (mask-fits t s number m)))
+        let k = enter-key t s q i a asked e in
+        let m = enter-mask t s q i a asked e in
+        rw e (enter-writable q q-fits (keyAtWord word) number (k .some) (k .few) (k .client) (m .some) (mask-fits t s number m)))
         (λ e. rw e (which-keys-writable q q-fits))
         (λ e.
-        let r = sym (request-setpoints t q word number) ∙ asked-in askingSetpoints e in
-        let l = masked (sym (uses-setpoints (maskOf t q) i) ∙ used-in askingSetpoints e) in
-        rw e (get-writable q q-fits i (server-fits l) (keyAtWord word) (read-fits word (range-below (clientsOf t) word r) (in-range t s word r))))
+        let r = get-key t s q i a asked e in
+        rw e (get-writable q q-fits i (setpoints-server t s q i a full e) (keyAtWord word) (read-fits word (range-below (clientsOf t) word r) (in-range t s word r))))
         (λ e.
         rw e
         (by-equal i coordinator
         (λ c. rw (eq-eqb i coordinator c) (get-log-writable q q-fits))
-        (λ d. rw (ne-eqb i coordinator d) (get-all-writable q q-fits i (server-fits (is-server d))))))
+        (λ d. rw (ne-eqb i coordinator d) (get-all-writable q q-fits i (omega (arith, is-server t s q i a d, few-servers t s q i a))))))
 
   module _ (came : kindOn t q i ≡ 2) where
-    reply-used : uses (stateOf t q) (maskOf t q) i ≡ true
-    reply-used = asks .used (λ e. omega arith)
-
-    came-in : (state : ℕ) → stateOf t q ≡ state → replySound state i number t ≡ true
-    came-in state e = rw e at (asks .reply came)
-
-    back-in : (state : ℕ) → stateOf t q ≡ state → uses state (maskOf t q) i ≡ true
-    back-in state e = rw e at reply-used
-
-    -- n is no more than is held
-    from-head : i ≡ coordinator → between 1 number (holding t i) ≡ true → Between 1 number (entriesOf t)
-    from-head c b = between-facts 1 number (entriesOf t) (rw (eq-eqb i coordinator c) at b)
-
-    from-server : (i ≡ coordinator → ⊥) → between 1 number (holding t i) ≡ true → Between 1 number (heldOf t i)
-    from-server d b = between-facts 1 number (heldOf t i) (rw (ne-eqb i coordinator d) at b)
+    not-empty : kindOn t q i ≡ 0 → ⊥
+    not-empty e = omega arith
 
     reply-can : CanBeWritten (replyIn (stateOf t q) number q i t)
     unfolding replyIn
     reply-can =
-        by-state (maskOf t q) i (stateOf t q) reply-used
-        (λ e. rw e (set-done-writable q q-fits i (server-fits (masked (sym (uses-writing (maskOf t q) i) ∙ back-in writing e)))))
+        by-state (maskOf t q) i (stateOf t q) (used t s q i a not-empty)
+        (λ e. rw e (set-done-writable q q-fits i (writing-server t s q i a not-empty e)))
+        (λ e. let g = entered-tag t s q i a came e in rw e (entered-writable q q-fits number (g .0) (omega (arith, g .1, s .scalars .entries .most))))
+        (λ e. rw e (keys-can t s q (a .client) number (keys-held t s q i a came e)))
+        (λ e. rw e (got-writable q q-fits i (setpoints-server t s q i a not-empty e) number (words .link _)))
         (λ e.
-        let r = sym (reply-entering t i number) ∙ came-in entering e in
-        let l : 1 ≤ number = leb-true _ _ (both-left (leb 1 number) (ltb number (entriesOf t)) r) in
-        let m : number < entriesOf t = ltb-true _ _ (both-right (leb 1 number) (ltb number (entriesOf t)) r) in
-        rw e (entered-writable q q-fits number l (omega (arith, s .scalars .entries .most))))
-        (λ e.
-        let c : i ≡ coordinator = eqb-true i coordinator (sym (uses-keys (maskOf t q) i) ∙ back-in askingKeys e) in
-        rw e (keys-can t s q (a .client) number (from-head c (sym (reply-keys t i number) ∙ came-in askingKeys e))))
-        (λ e. rw e (got-writable q q-fits i (server-fits (masked (sym (uses-setpoints (maskOf t q) i) ∙ back-in askingSetpoints e))) number (words .link _)))
-        (λ e.
-        let b = sym (reply-all t i number) ∙ came-in askingAll e in
         rw e
         (by-equal i coordinator
-        (λ c. rw (eq-eqb i coordinator c) (log-can t s q (a .client) number (from-head c b)))
-        (λ d. rw (ne-eqb i coordinator d) (all-can t s q (a .client) (words .value) i (is-server d) number (from-server d b)))))
+        (λ c. rw (eq-eqb i coordinator c) (log-can t s q (a .client) number (log-held t s q i a came e c)))
+        (λ d. rw (ne-eqb i coordinator d) (all-can t s q (a .client) (words .value) i (is-server t s q i a d) number (all-held t s q i a came e d)))))
 
   by-content : (c : Content) → contentAt t q i ≡ c → CanBeWritten (onLinkBy c q i t)
   by-content Nothing e = tt
   by-content (Request w) e =
-      subst (λ (w : Contents). CanBeWritten (alone (requestIn (stateOf t q) w q i))) (request-words (t .links) q i w (asks .kind) e) (request-can (request-kind (t .links) q i w (asks .kind) e))
+      let k = asks t s q i a .kind in
+      subst (λ (w : Contents). CanBeWritten (alone (requestIn (stateOf t q) w q i))) (request-words (t .links) q i w k e) (request-can (request-kind (t .links) q i w k e))
   by-content (Reply w) e =
-      subst (λ (w : Contents). CanBeWritten (replyIn (stateOf t q) (w .number) q i t)) (reply-words (t .links) q i w (asks .kind) e) (reply-can (reply-kind (t .links) q i w (asks .kind) e))
+      let k = asks t s q i a .kind in
+      subst (λ (w : Contents). CanBeWritten (replyIn (stateOf t q) (w .number) q i t)) (reply-words (t .links) q i w k e) (reply-can (reply-kind (t .links) q i w k e))
 
   -- what a link of sound tables holds can be written
   pub always-writable : CanBeWritten (onLink q i t)

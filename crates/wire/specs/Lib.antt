@@ -2,6 +2,8 @@
 pub mod OnLink
 pub mod Sending
 pub mod Writable
+pub mod Known
 pub mod Always
 pub mod Ready
 pub mod Cases
+pub mod Answers

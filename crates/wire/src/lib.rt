@@ -238,7 +238,10 @@ fn write_link(
     let to = target as u8;
     match content {
         Content::Nothing => Written::Refused(9),
-        Content::Request(contents) => write_alone(request_message(state, contents, from, to), bytes),
+        Content::Request(contents) => write_alone(
+            request_message(state, contents, from, to),
+            bytes,
+        ),
         Content::Reply(contents) => {
             let number = contents.number;
             write_reply(counts, keys, values, log, state, number, from, to, bytes)
@@ -255,4 +258,73 @@ fn is_absent(counts: &[u32], client: u32, target: u32) -> bool
         return true;
     }
     !refusals::is_target(counts::count_at(counts, counts::SERVERS), target)
+}
+
+// Writes the frame of the link of a client and a target into the lent bytes: its length, or 3, 9 or 12, and then the bytes are as before. On tables known to be sound.
+pub fn write_link_frame_sound(
+    counts: &[u32],
+    clients: &[u32],
+    links: &[u32],
+    keys: &[u32],
+    values: &[u32],
+    log: &[u32],
+    writes: &[u32],
+    reads: &[u32],
+    client: u32,
+    target: u32,
+    bytes: &mut [u8],
+) -> Written
+    requires { ⌜ Sound (tablesOf (now counts) (now clients) (now links) (now keys) (now values) (now log) (now writes) (now reads)) ⌝ }
+    ensures { λ r. ⌜ sent r (now (bytes .exit))
+        ≡ linkFrame client target (tablesOf (now (counts .entry)) (now (clients .entry)) (now (links .entry)) (now (keys .entry)) (now (values .entry)) (now (log .entry)) (now (writes .entry)) (now (reads .entry))) (now (bytes .entry)) ⌝ }
+{
+    if is_absent(counts, client, target) {
+        return Written::Refused(3);
+    }
+    write_link(
+        counts,
+        clients,
+        links,
+        keys,
+        values,
+        log,
+        client,
+        target,
+        bytes,
+    )
+}
+
+// Writes the frame of the link of a client and a target into the lent bytes: its length, or 2, 3, 9 or 12, and then the bytes are as before.
+pub fn write_link_frame(
+    counts: &[u32],
+    clients: &[u32],
+    links: &[u32],
+    keys: &[u32],
+    values: &[u32],
+    log: &[u32],
+    writes: &[u32],
+    reads: &[u32],
+    client: u32,
+    target: u32,
+    bytes: &mut [u8],
+) -> Written
+    ensures { λ r. ⌜ sent r (now (bytes .exit))
+        ≡ linkFrame client target (tablesOf (now (counts .entry)) (now (clients .entry)) (now (links .entry)) (now (keys .entry)) (now (values .entry)) (now (log .entry)) (now (writes .entry)) (now (reads .entry))) (now (bytes .entry)) ⌝ }
+{
+    if !soundness::sound(counts, clients, links, keys, values, log, writes, reads) {
+        return Written::Refused(2);
+    }
+    write_link_frame_sound(
+        counts,
+        clients,
+        links,
+        keys,
+        values,
+        log,
+        writes,
+        reads,
+        client,
+        target,
+        bytes,
+    )
 }

@@ -7,10 +7,6 @@ use Rattle.wire.specs.Cases.{absent-client, absent-target}
 use borrow.Author.Needs.{needs}
 use Rattle.wire.proofs.is_absent.Statement.{statement}
 use Rattle.wire.proofs.is_absent.Tie as tie
-use Rattle.wire.proofs.is_absent.Reads as reads
-use Rattle.wire.proofs.is_absent.Lts as lts
-use Rattle.refusals.proofs.is_target.Reads as is-target-reads
-use Rattle.tables.proofs.counts.count_at.Reads as count-at-reads
 
 returns : tie.Need-returns
 returns c clients links keys values log writes reads = let a = c .before .before .before .args in absent-client (a .client) (a .target) (tablesOf (a .counts .now) clients links keys values log writes reads) (c .before .count-at .ensures) (c .if1 .taken)

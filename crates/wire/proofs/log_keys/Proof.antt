@@ -1,4 +1,4 @@
--- The first places hold the words of the entries passed.
+-- `wire::log_keys` meets its contract: the first places hold the words of the keys passed.
 use borrow.Author.Needs.{needs}
 use mathlib.Core.Path.{_≡_, ap, _∙_}
 use mathlib.Core.List.{List}

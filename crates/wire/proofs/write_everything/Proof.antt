@@ -3,10 +3,6 @@ use Rattle.wire.specs.Cases.{from-head, from-server}
 use borrow.Author.Needs.{needs}
 use Rattle.wire.proofs.write_everything.Statement.{statement}
 use Rattle.wire.proofs.write_everything.Tie as tie
-use Rattle.wire.proofs.write_everything.Reads as reads
-use Rattle.wire.proofs.write_everything.Lts as lts
-use Rattle.wire.proofs.write_all.Reads as write-all-reads
-use Rattle.wire.proofs.write_log.Reads as write-log-reads
 
 write-log-requires : tie.Need-write-log-requires
 write-log-requires c κs = c .before .before .before .before .before .before .pre .head (c .before .if1 .taken)

@@ -7,13 +7,6 @@ use Rattle.wire.specs.Cases.{link-empty, link-request, link-reply}
 use borrow.Author.Needs.{needs}
 use Rattle.wire.proofs.write_link.Statement.{statement}
 use Rattle.wire.proofs.write_link.Tie as tie
-use Rattle.wire.proofs.write_link.Reads as reads
-use Rattle.wire.proofs.write_link.Lts as lts
-use Rattle.tables.proofs.clients.client_word.Reads as client-word-reads
-use Rattle.tables.proofs.links.link_at.Reads as link-at-reads
-use Rattle.wire.proofs.request_message.Reads as request-message-reads
-use Rattle.wire.proofs.write_alone.Reads as write-alone-reads
-use Rattle.wire.proofs.write_reply.Reads as write-reply-reads
 
 client-word-requires : tie.Need-client-word-requires
 client-word-requires c κs = (c .before .before .before .before .before .before .before .pre [] [] .row, omega arith)

@@ -5,12 +5,6 @@ use Rattle.wire.specs.Cases.{reply-done, reply-entered, reply-keys, repl
 use borrow.Author.Needs.{needs}
 use Rattle.wire.proofs.write_reply.Statement.{statement}
 use Rattle.wire.proofs.write_reply.Tie as tie
-use Rattle.wire.proofs.write_reply.Reads as reads
-use Rattle.wire.proofs.write_reply.Lts as lts
-use Rattle.tables.proofs.counts.count_at.Reads as count-at-reads
-use Rattle.wire.proofs.write_alone.Reads as write-alone-reads
-use Rattle.wire.proofs.write_everything.Reads as write-everything-reads
-use Rattle.wire.proofs.write_keys.Reads as write-keys-reads
 
 returns : tie.Need-returns
 returns c clients links writes reads = let a = c .before .before .before .before .before .before .before .before .before .before .args in reply-done (a .state) (a .number) (a .client) (a .target) (tablesOf (a .counts .now) clients links (a .keys .now) (a .values .now) (a .log .now) writes reads) (a .bytes .now) (c .before .before .before .before .if1 .taken) (c .before .before .write-alone .ensures)
