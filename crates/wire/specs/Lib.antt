@@ -7,3 +7,4 @@ pub mod Always
 pub mod Ready
 pub mod Cases
 pub mod Answers
+pub mod Trip
