@@ -8,3 +8,4 @@ pub mod Ready
 pub mod Cases
 pub mod Answers
 pub mod Trip
+pub mod Examples
