@@ -1,8 +1,8 @@
 -- The cases of what is written, as the code meets them.
-use Prim.Native.Nat.{ℕ, _+_, _*_, _≤_, _<_}
+use Prim.Native.Nat.{ℕ, _+_, _-_, _*_, _≤_, _<_}
 use mathlib.Core.Path.{_≡_, refl, sym, ap, _∙_}
 use mathlib.Core.Bool.{Bool, true, not}
-use mathlib.Core.List.{List}
+use mathlib.Core.List.{List, []}
 use native.Mathlib.Omega.{arith}
 use lib.ListN.{length, getD, take, drop, length-drop, length-set}
 use lib.Seq.{take-at, getD-drop}
@@ -21,7 +21,7 @@ use Rattle.keys.specs.Keys.{keyWord}
 use Rattle.rules.specs.Common.{writing, entering, askingKeys, askingSetpoints, coordinator}
 use Rattle.refusals.specs.Refusals.{isTarget}
 use Rattle.frames.specs.declared.Message.{Message}
-use Rattle.frames.specs.declared.Message.the-variants.{Set, SetDone, Enter, Entered, WhichKeys, Get, Got, GetAll, GetLog}
+use Rattle.frames.specs.declared.Message.the-variants.{Set, SetDone, Enter, Entered, WhichKeys, Keys, Get, Got, GetAll, GetLog}
 use Rattle.frames.specs.declared.Written.{Written}
 use Rattle.frames.specs.Frames.{writtenOf, bytesWritten}
 use Rattle.frames.specs.Lists.{built, built-length, built-same, built-take, laid}
@@ -91,6 +91,10 @@ keys-front log tag k row h e =
     ap (take k) e ∙ sym (built-take put k long) ∙ built-same (λ i. getD put i 0) (λ i. keyWord (latestKey log i tag)) k (keys-put log tag k row h)
 
 -- ---- the replies
+
+-- the tag is the last of n entries
+pub last-keys : (n q k : ℕ) (log bytes : List ℕ) {tag : ℕ} {x : Sent} → tag ≡ n - 1 → x ≡ wroteFrom (carries (Keys q tag k) (built (λ i. keyWord (latestKey log i tag)) k) []) bytes → x ≡ wroteFrom (keysReply n q k log) bytes
+last-keys n q k log bytes e o = o ∙ ap (λ (tag : ℕ). wroteFrom (carries (Keys q tag k) (built (λ i. keyWord (latestKey log i tag)) k) []) bytes) e
 
 module _ (n q i : ℕ) (keys values log bytes : List ℕ) {x : Sent} where
   pub from-head : i ≡ coordinator → x ≡ wroteFrom (logReply n q log) bytes → x ≡ wroteFrom (everythingReply n q i keys values log) bytes

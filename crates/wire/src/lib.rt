@@ -2,10 +2,10 @@
 // As in `store` there are two functions: the one judges any tables; the other, whose name ends in `_sound`, asks for sound tables and does not check them.
 ghost use mathlib.Core.Path.{_≡_};
 ghost use mathlib.Core.List.{List};
-ghost use Prim.Native.Nat.{ℕ, _+_, _*_, _≤_, _<_};
-ghost use lib.ListN.{length, take, drop};
+ghost use Prim.Native.Nat.{ℕ, _-_, _*_, _≤_};
+ghost use lib.ListN.{length};
 ghost use Rattle.tables.specs.Rows.{wordAt};
-ghost use Rattle.tables.specs.Layout.{countWords, entryWidth, entryMask, serverPlaces};
+ghost use Rattle.tables.specs.Layout.{countWords, entryWidth, entryMask};
 ghost use Rattle.tables.specs.Tables.{tablesOf};
 ghost use Rattle.soundness.specs.Facts.{Sound};
 ghost use Rattle.frames.specs.Lists.{laid};
@@ -96,6 +96,14 @@ fn log_masks(log: &[u32], entries: usize, words: &mut [u32])
     }
 }
 
+// The last tag of a log with so many entries.
+fn last_tag(entries: u32) -> u8
+    requires { ⌜ (1 ≤ entries) × (entries ≤ 256) ⌝ }
+    ensures { λ r. ⌜ r ≡ entries - 1 ⌝ }
+{
+    (entries - 1) as u8
+}
+
 // The head's reply to a client that asks for keys: the last tag of the log as it was, and the keys of all servers at it.
 fn write_keys(log: &[u32], servers: u32, number: u32, client: u8, bytes: &mut [u8]) -> Written
     requires { ⌜ LogReady (now log) number × (servers ≤ 16) ⌝ }
@@ -103,12 +111,12 @@ fn write_keys(log: &[u32], servers: u32, number: u32, client: u8, bytes: &mut [u
 {
     let mut words = [0u32; 16];
     let none = [0u32; 0];
-    let tag = number - 1;
+    let tag = last_tag(number);
     let count = servers as usize;
     coordinator::keys_at(log, count, tag as usize, &mut words);
     let message = Message::Keys {
         client: client,
-        tag: tag as u8,
+        tag: tag,
         entries: servers,
     };
     frames::write_frame(message, &words[..count], &none, bytes)
