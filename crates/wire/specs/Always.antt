@@ -1,27 +1,27 @@
 -- On sound tables of 32-bit words the message on a link can always be written: number 11 never arises.
-use Prim.Native.Nat.{ℕ, _+_, _-_, _*_, _/_, _%_, _^_, _≤_, _<_}
-use mathlib.Core.Path.{_≡_, refl, sym, ap, subst, _∙_}
-use mathlib.Core.Bool.{Bool, true, false, cond, _&&_, _||_}
+use Prim.Native.Nat.{ℕ, _-_, _/_, _%_, _^_, _≤_, _<_}
+use mathlib.Core.Path.{_≡_, refl, subst}
+use mathlib.Core.Bool.{true, _&&_}
 use mathlib.Core.List.{List, []}
 use native.Mathlib.Omega.{arith}
 use native.Mathlib.Nat.{lt-of-lt-of-le}
-use lib.Dec.{eqb, leb, ltb}
-use lib.ListN.{length, getD}
+use lib.Dec.{ltb}
+use lib.ListN.{getD}
 use lib.Pow.{pow-mono}
-use borrow.Author.Tests.{ltb-true, leb-true, eqb-true, eq-eqb, ne-eqb}
-use Rattle.ranges.specs.Tests.{by-equal, by-test, both-left, both-right}
+use borrow.Author.Tests.{ltb-true, eq-eqb, ne-eqb}
+use Rattle.ranges.specs.Tests.{by-equal, both-left, both-right}
 use Rattle.keys.specs.Keys.{keyWord, keyAtWord, key-back}
-use Rattle.keys.specs.Masks.{hasServer, maskWithin, Within, within-true}
+use Rattle.keys.specs.Masks.{Within}
 use Rattle.tables.specs.Rows.{wordAt}
 use Rattle.tables.specs.Layout.{entryWidth, entryMask, versionWord}
-use Rattle.tables.specs.Links.{targets, contentsOf}
+use Rattle.tables.specs.Links.{contentsOf}
 use Rattle.tables.specs.Tables.{Tables, serversOf, clientsOf, entriesOf, heldOf, stateOf, maskOf, contentAt}
 use Rattle.tables.specs.declared.links.Contents.{Contents}
 use Rattle.tables.specs.declared.links.Content.{Content}
 use Rattle.tables.specs.declared.links.Content.the-variants.{Nothing, Request, Reply}
 use Rattle.coordinator.specs.Latest.{latestTag, latestKey}
 use Rattle.coordinator.specs.LatestLaws.{latest-within}
-use Rattle.rules.specs.Common.{writing, entering, askingKeys, askingSetpoints, askingAll, coordinator}
+use Rattle.rules.specs.Common.{coordinator}
 use Rattle.soundness.specs.Sound.{between, keyInRange, keyOn}
 use Rattle.soundness.specs.Facts.{Between, between-facts, EntryFacts, Sound}
 use Rattle.keeping.specs.Links.{kindOn, numberOn, request-kind, request-words, reply-kind, reply-words}

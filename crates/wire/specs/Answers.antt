@@ -1,28 +1,27 @@
 -- What the public functions answer, by their cases; and that sound tables are ready for what they call.
-use Prim.Native.Nat.{ℕ, _+_, _*_, _-_, _≤_, _<_}
-use mathlib.Core.Path.{_≡_, refl, sym, ap, subst, _∙_}
-use mathlib.Core.Bool.{Bool, true, false, cond, not, _||_}
+use Prim.Native.Nat.{ℕ}
+use mathlib.Core.Path.{_≡_, refl, sym, subst, _∙_}
+use mathlib.Core.Bool.{Bool, true, false, not}
 use mathlib.Core.List.{List}
 use native.Mathlib.Omega.{arith}
-use lib.Dec.{leb, ltb, eqb}
-use borrow.Author.Tests.{leb-false, not-false, eqb-true, ltb-true, ne-eqb}
-use Rattle.ranges.specs.Tests.{by-test, by-equal}
-use Rattle.tables.specs.Tables.{Tables, tablesOf, clientsOf, serversOf, entriesOf, stateOf, maskOf, contentAt}
+use lib.Dec.{leb}
+use borrow.Author.Tests.{leb-false, not-false}
+use Rattle.ranges.specs.Tests.{by-test}
+use Rattle.tables.specs.Tables.{Tables, tablesOf, clientsOf, entriesOf, stateOf, maskOf}
 use Rattle.tables.specs.declared.links.Contents.{Contents}
-use Rattle.tables.specs.declared.links.Content.the-variants.{Reply}
-use Rattle.rules.specs.Common.{writing, entering, askingKeys, askingSetpoints, askingAll, coordinator}
-use Rattle.soundness.specs.Sound.{sound, holding, between, uses}
+use Rattle.rules.specs.Common.{askingAll}
+use Rattle.soundness.specs.Sound.{sound}
 use Rattle.soundness.specs.Facts.{Between, Sound, facts-sound}
 use Rattle.refusals.specs.Refusals.{isTarget}
 use Rattle.keeping.specs.Accepted.{neither}
-use Rattle.keeping.specs.Links.{numberOn, kindOn, LinkAsks, reply-kind, reply-words}
-use Rattle.keeping.specs.States.{by-state, uses-keys, reply-entering, reply-keys, reply-all}
-use Rattle.frames.specs.Frames.{writable, fits, writtenOf, bytesWritten}
+use Rattle.keeping.specs.Links.{numberOn, kindOn, reply-kind, reply-words}
+use Rattle.keeping.specs.States.{by-state}
+use Rattle.frames.specs.Frames.{fits, writtenOf, bytesWritten}
 use Rattle.wire.specs.OnLink.{OnLink, empty, carries, onLink}
-use Rattle.wire.specs.Sending.{Sent, sent, refused, sentFrom, isAbsent, linkFrame}
+use Rattle.wire.specs.Sending.{Sent, refused, sentFrom, isAbsent, linkFrame}
 use Rattle.wire.specs.Known.{Present, few-servers, client-fits, target-below, is-server, asks, used, entered-tag, keys-held, log-held, all-held}
 use Rattle.wire.specs.Always.{Words, CanBeWritten, always-writable}
-use Rattle.wire.specs.Ready.{LogReady, AllReady, EverythingReady, Later, ReplyReady, LinkReady}
+use Rattle.wire.specs.Ready.{LogReady, EverythingReady, ReplyReady, LinkReady}
 use Rattle.wire.specs.Cases.{wroteFrom}
 
 -- what can be written is never refused by 11

@@ -1,7 +1,7 @@
 -- What links hold on the way of document 01's sample and of a READ by C, one checked table.
 use Prim.Native.Nat.{ℕ, _*_}
 use mathlib.Core.Path.{_≡_, refl}
-use mathlib.Core.List.{List, [], _∷_}
+use mathlib.Core.List.{[], _∷_}
 use lib.ListN.{replicate}
 use Rattle.ranges.specs.All.{anyBelow}
 use Rattle.ranges.specs.First.{firstFrom}
@@ -26,7 +26,7 @@ use Rattle.frames.specs.declared.Written.the-variants.{Length, Refused}
 use Rattle.frames.specs.Lists.{built}
 use Rattle.frames.specs.Entries.{entryValue, valuesOf}
 use Rattle.frames.specs.Frames.{frameOf, fits}
-use Rattle.wire.specs.OnLink.{OnLink, empty, carries, alone, requestIn, replyIn, onLink}
+use Rattle.wire.specs.OnLink.{empty, carries, alone, requestIn, replyIn, onLink}
 use Rattle.wire.specs.Sending.{sent, sentFrom}
 
 -- ---- a press with two servers and two clients, just opened, and the accepted steps

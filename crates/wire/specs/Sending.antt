@@ -7,7 +7,6 @@ use lib.ListN.{length, drop}
 use Rattle.tables.specs.Tables.{Tables, clientsOf}
 use Rattle.soundness.specs.Sound.{sound}
 use Rattle.refusals.specs.Refusals.{isTarget}
-use Rattle.frames.specs.declared.Message.{Message}
 use Rattle.frames.specs.declared.Written.{Written}
 use Rattle.frames.specs.declared.Written.the-variants.{Length, Refused}
 use Rattle.frames.specs.Frames.{frameOf, fits}

@@ -1,13 +1,13 @@
 -- Round trip and uniqueness on tables: the frame of a link is read back as the message and the entries that the link holds, and no other bytes are.
-use Prim.Native.Nat.{ℕ, _+_, _*_, _/_, _%_, _≤_, _<_}
+use Prim.Native.Nat.{ℕ, _*_, _/_, _%_, _<_}
 use mathlib.Core.Path.{_≡_, refl, sym, ap, ap₂, subst, _∙_}
-use mathlib.Core.Bool.{Bool, true, false, cond, not, _||_}
+use mathlib.Core.Bool.{Bool, true, false, cond}
 use mathlib.Core.List.{List, [], _∷_, _++_}
 use native.Mathlib.Omega.{arith}
-use lib.Dec.{eqb, leb}
+use lib.Dec.{eqb}
 use lib.ListN.{length, getD, take, drop, List·getD-append}
 use lib.Seq.{take-at, take-length}
-use borrow.Author.Tests.{lt-leb, eq-eqb, ne-eqb}
+use borrow.Author.Tests.{lt-leb}
 use Rattle.ranges.specs.Tests.{either, by-test}
 use Rattle.fields.specs.BitLaws.{Bytes}
 use Rattle.formats.specs.Grammar.{frame}
@@ -21,7 +21,7 @@ use Rattle.soundness.specs.Facts.{Sound, facts-sound}
 use Rattle.frames.specs.declared.Message.{Message}
 use Rattle.frames.specs.declared.Reading.the-variants.{Read}
 use Rattle.frames.specs.declared.Written.the-variants.{Length, Refused}
-use Rattle.frames.specs.Lists.{built, built-length, built-same}
+use Rattle.frames.specs.Lists.{built-length, built-same}
 use Rattle.frames.specs.Messages.{entriesOf, fixedOf}
 use Rattle.frames.specs.Entries.{entryValue, kindOf, valuesOf}
 use Rattle.frames.specs.Frames.{hasPlaces, writable, frameOf, fits, readingOf, keysRead, numbersRead, found}

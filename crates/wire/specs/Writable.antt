@@ -1,6 +1,6 @@
 -- When a message can be written, kind by kind: every value stands in its field.
 use Prim.Native.Nat.{ℕ, zero, suc, _+_, _-_, _*_, _/_, _%_, _≤_, _<_, _^_}
-use mathlib.Core.Path.{_≡_, refl, sym, ap, _∙_}
+use mathlib.Core.Path.{_≡_, refl, ap, _∙_}
 use mathlib.Core.Bool.{Bool, true, false, cond, _&&_}
 use mathlib.Core.List.{List, [], _∷_, _++_}
 use native.Mathlib.Omega.{arith}
@@ -10,10 +10,9 @@ use borrow.Author.Tests.{lt-ltb, le-leb, eq-eqb, ne-eqb}
 use Rattle.ranges.specs.Tests.{by-equal, both}
 use Rattle.keys.specs.declared.Key.{Key}
 use Rattle.formats.specs.declared.state.State.{State}
-use Rattle.formats.specs.Grammar.{Grammar, good}
+use Rattle.formats.specs.Grammar.{good}
 use Rattle.formats.specs.Table.{count, of, sortAt, bitsOf, leastOf, mostOf, entriesIn, hasNumbers}
 use Rattle.formats.specs.Format.{fieldOf, within, leftAfter, placeAfter, nextOf, entries, fixed, format}
-use Rattle.frames.specs.declared.Message.{Message}
 use Rattle.frames.specs.declared.Message.the-variants.{Set, SetDone, Enter, Entered, WhichKeys, Keys, Get, Got, GetAll, All, GetLog, Log}
 use Rattle.frames.specs.Lists.{built}
 use Rattle.frames.specs.Entries.{entryValue, valuesOf}
