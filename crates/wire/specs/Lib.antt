@@ -1,4 +1,4 @@
--- What a link holds as a message, and what writing its frame answers and leaves.
+-- What a link holds as a message on the wire, and what writing its frame answers and leaves.
 pub mod OnLink
 pub mod Sending
 pub mod Writable
