@@ -5,11 +5,11 @@ use lib.Dec.{leb, eqb}
 use Rattle.formats.specs.declared.state.Field.{Field}
 use Rattle.formats.specs.declared.state.State.{State}
 use Rattle.formats.specs.Grammar.{Grammar, end, field}
-use Rattle.formats.specs.Table.{sortAt, bitsOf, leastOf, mostOf, mostEntries, entriesIn}
+use Rattle.formats.specs.Table.{manyPlace, entryPlace, numberPlace, sortAt, bitsOf, leastOf, mostOf, mostEntries, entriesIn}
 
 -- the fields of the header and the fixed body, and of an entry
 abbrev pub fixedFields : ℕ
-fixedFields = 8
+fixedFields = entryPlace
 
 abbrev pub entryFields : ℕ
 entryFields = 3
@@ -42,13 +42,13 @@ within f v = leb (f .least) v && leb v (f .most)
 abbrev pub allowed : State → ℕ → Bool
 allowed st v = within (fieldOf st) v
 
--- behind place 7 come three fields for each entry
+-- behind the field that says how many come three fields for each entry
 unfoldable pub leftAfter : State → ℕ → ℕ
-leftAfter st v = cond (eqb (st .place) 7) (entryFields * entriesIn (st .kind) v) (st .left - 1)
+leftAfter st v = cond (eqb (st .place) manyPlace) (entryFields * entriesIn (st .kind) v) (st .left - 1)
 
 -- behind an entry's last field comes the next entry's first
 unfoldable pub placeAfter : ℕ → ℕ
-placeAfter place = cond (eqb place 10) 8 (place + 1)
+placeAfter place = cond (eqb place numberPlace) entryPlace (place + 1)
 
 unfoldable pub nextOf : State → ℕ → State
 nextOf st v =

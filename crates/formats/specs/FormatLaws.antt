@@ -9,18 +9,18 @@ use Rattle.ranges.specs.Tests.{by-equal, by-test, both-left, both-right}
 use Rattle.formats.specs.declared.state.Field.{Field}
 use Rattle.formats.specs.declared.state.State.{State}
 use Rattle.formats.specs.Grammar.{Grammar, end}
-use Rattle.formats.specs.Table.{sortAt, bitsOf, leastOf, mostOf, mostEntries, entriesIn}
+use Rattle.formats.specs.Table.{manyPlace, entryPlace, numberPlace, sortAt, bitsOf, leastOf, mostOf, mostEntries, entriesIn}
 use Rattle.formats.specs.TableLaws.{entries-most, few-entries}
 use Rattle.formats.specs.Format.{entryFields, mostValues, sortOf, widthOf, fieldOf, within, allowed, leftAfter, placeAfter, nextOf, one, entries, fixed, start, format}
 
 module _ (place : ℕ) where
-  pub place-last : place ≡ 10 → placeAfter place ≡ 8
+  pub place-last : place ≡ numberPlace → placeAfter place ≡ entryPlace
   unfolding placeAfter
-  place-last e = rw (eq-eqb place 10 e)
+  place-last e = rw (eq-eqb place numberPlace e)
 
-  pub place-inner : (place ≡ 10 → ⊥) → placeAfter place ≡ place + 1
+  pub place-inner : (place ≡ numberPlace → ⊥) → placeAfter place ≡ place + 1
   unfolding placeAfter
-  place-inner d = rw (ne-eqb place 10 d)
+  place-inner d = rw (ne-eqb place numberPlace d)
 
 module _ (st : State) where
   -- the field, by what was found for its parts
@@ -33,23 +33,23 @@ module _ (st : State) where
   }
 
 module _ (st : State) (v : ℕ) where
-  pub left-entries : {n : ℕ} → st .place ≡ 7 → n ≡ entriesIn (st .kind) v → 3 * n ≡ leftAfter st v
+  pub left-entries : {n : ℕ} → st .place ≡ manyPlace → n ≡ entriesIn (st .kind) v → 3 * n ≡ leftAfter st v
   unfolding leftAfter
-  left-entries e d = rw (eq-eqb (st .place) 7 e) (ap (λ (n : ℕ). 3 * n) d)
+  left-entries e d = rw (eq-eqb (st .place) manyPlace e) (ap (λ (n : ℕ). 3 * n) d)
 
-  pub left-one-less : (st .place ≡ 7 → ⊥) → st .left - 1 ≡ leftAfter st v
+  pub left-one-less : (st .place ≡ manyPlace → ⊥) → st .left - 1 ≡ leftAfter st v
   unfolding leftAfter
-  left-one-less d = rw (ne-eqb (st .place) 7 d)
+  left-one-less d = rw (ne-eqb (st .place) manyPlace d)
 
   next-by : {k p l a : ℕ} → k ≡ cond (eqb (st .place) 0) v (st .kind) → p ≡ cond (eqb (st .place) 1) v (st .client) → l ≡ leftAfter st v → a ≡ placeAfter (st .place) → record { kind = k; client = p; before = v; left = l; place = a } ≡ nextOf st v
   unfolding nextOf
   next-by e f g h i = record { kind = e i; client = f i; before = v; left = g i; place = h i }
 
   module _ {k p l : ℕ} (e : k ≡ cond (eqb (st .place) 0) v (st .kind)) (f : p ≡ cond (eqb (st .place) 1) v (st .client)) (g : l ≡ leftAfter st v) where
-    pub next-last : st .place ≡ 10 → record { kind = k; client = p; before = v; left = l; place = 8 } ≡ nextOf st v
+    pub next-last : st .place ≡ numberPlace → record { kind = k; client = p; before = v; left = l; place = entryPlace } ≡ nextOf st v
     next-last d = next-by e f g (sym (place-last (st .place) d))
 
-    pub next-inner : (st .place ≡ 10 → ⊥) → record { kind = k; client = p; before = v; left = l; place = st .place + 1 } ≡ nextOf st v
+    pub next-inner : (st .place ≡ numberPlace → ⊥) → record { kind = k; client = p; before = v; left = l; place = st .place + 1 } ≡ nextOf st v
     next-inner d = next-by e f g (sym (place-inner (st .place) d))
 
   pub next-place : (nextOf st v) .place ≡ placeAfter (st .place)
@@ -67,29 +67,29 @@ module _ (st : State) (v : ℕ) where
 
 -- A state that a frame can be in: the first eight fields are counted down, and the places are those of the table.
 pub record Goes (st : State) : Type 0 where
-  pub counted : st .place < 8 → st .left + st .place ≡ 8
-  pub inside : st .place ≤ 10
+  pub counted : st .place < entryPlace → st .left + st .place ≡ entryPlace
+  pub inside : st .place ≤ numberPlace
 
 pub goes-start : Goes start
 goes-start = record { counted = λ h. refl; inside = omega arith }
 
 -- how many fields can be left: until the number of entries is known, the most that there can be
 unfoldable pub room : State → ℕ
-room st = cond (ltb (st .place) 8) (st .left + entryFields * mostEntries) (st .left)
+room st = cond (ltb (st .place) entryPlace) (st .left + entryFields * mostEntries) (st .left)
 
 module _ (st : State) where
-  pub room-early : st .place < 8 → room st ≡ st .left + entryFields * mostEntries
+  pub room-early : st .place < entryPlace → room st ≡ st .left + entryFields * mostEntries
   unfolding room
-  room-early h = rw (lt-ltb (st .place) 8 h)
+  room-early h = rw (lt-ltb (st .place) entryPlace h)
 
-  pub room-late : 8 ≤ st .place → room st ≡ st .left
+  pub room-late : entryPlace ≤ st .place → room st ≡ st .left
   unfolding room
-  room-late h = rw (le-ltb (st .place) 8 h)
+  room-late h = rw (le-ltb (st .place) entryPlace h)
 
 -- behind an entry's field stands an entry's field
-pub later : (st : State) (v : ℕ) → 8 ≤ st .place → 8 ≤ (nextOf st v) .place
+pub later : (st : State) (v : ℕ) → entryPlace ≤ st .place → entryPlace ≤ (nextOf st v) .place
 later st v h =
-    by-equal (st .place) 10
+    by-equal (st .place) numberPlace
     (λ e. omega (arith, next-place st v ∙ place-last (st .place) e))
     (λ d. omega (arith, next-place st v ∙ place-inner (st .place) d))
 
@@ -101,9 +101,9 @@ at-most st v a = leb-true _ _ (both-right (leb (leastOf (sortOf st) (st .client)
 module _ (st : State) (v : ℕ) (g : Goes st) (some : 0 < st .left) where
   pub goes-next : Goes (nextOf st v)
   goes-next =
-      by-equal (st .place) 10
+      by-equal (st .place) numberPlace
       (λ e.
-      let p : (nextOf st v) .place ≡ 8 = next-place st v ∙ place-last (st .place) e in
+      let p : (nextOf st v) .place ≡ entryPlace = next-place st v ∙ place-last (st .place) e in
       record { counted = λ h. let z : ⊥ = omega arith in absurd z; inside = omega arith })
       (λ d.
       let p : (nextOf st v) .place ≡ st .place + 1 = next-place st v ∙ place-inner (st .place) d in
@@ -115,37 +115,37 @@ module _ (st : State) (v : ℕ) (g : Goes st) (some : 0 < st .left) where
   -- a field that is read or written leaves less room
   pub room-next : allowed st v ≡ true → room (nextOf st v) < room st
   room-next a =
-      by-equal (st .place) 7
+      by-equal (st .place) manyPlace
       (λ e.
-      let p : (nextOf st v) .place ≡ 8 = next-place st v ∙ place-inner (st .place) (λ d. omega arith) ∙ omega arith in
+      let p : (nextOf st v) .place ≡ entryPlace = next-place st v ∙ place-inner (st .place) (λ d. omega arith) ∙ omega arith in
       let l : (nextOf st v) .left ≡ 3 * entriesIn (st .kind) v = next-left st v ∙ sym (left-entries st v e refl) in
       let m : v ≤ 255 = omega (arith, at-most st v a, ap (λ (q : ℕ). mostOf (sortAt (st .kind) q) (st .client) (st .before)) e, few-entries (st .kind) (st .client) (st .before)) in
       omega (arith, room-early st (omega arith), room-late (nextOf st v) (omega arith), entries-most (st .kind) v))
       (λ d.
       let l : (nextOf st v) .left ≡ st .left - 1 = next-left st v ∙ sym (left-one-less st v d) in
-      by-test (ltb (st .place) 8)
+      by-test (ltb (st .place) entryPlace)
       (λ early.
-      let h : st .place < 8 = ltb-true _ _ early in
+      let h : st .place < entryPlace = ltb-true _ _ early in
       let p : (nextOf st v) .place ≡ st .place + 1 = next-place st v ∙ place-inner (st .place) (λ e. omega arith) in
       omega (arith, room-early st h, room-early (nextOf st v) (omega arith)))
       (λ late.
-      let h : 8 ≤ st .place = ltb-false _ _ late in
+      let h : entryPlace ≤ st .place = ltb-false _ _ late in
       omega (arith, room-late st h, room-late (nextOf st v) (later st v h))))
 
 -- ---- the grammar
 
 -- what is left of the format in a state
 unfoldable pub rest : State → Grammar
-rest st = cond (ltb (st .place) 8) (fixed (st .left) st) (entries (st .left) st)
+rest st = cond (ltb (st .place) entryPlace) (fixed (st .left) st) (entries (st .left) st)
 
 module _ (st : State) where
-  rest-early : st .place < 8 → rest st ≡ fixed (st .left) st
+  rest-early : st .place < entryPlace → rest st ≡ fixed (st .left) st
   unfolding rest
-  rest-early h = rw (lt-ltb (st .place) 8 h)
+  rest-early h = rw (lt-ltb (st .place) entryPlace h)
 
-  rest-late : 8 ≤ st .place → rest st ≡ entries (st .left) st
+  rest-late : entryPlace ≤ st .place → rest st ≡ entries (st .left) st
   unfolding rest
-  rest-late h = rw (le-ltb (st .place) 8 h)
+  rest-late h = rw (le-ltb (st .place) entryPlace h)
 
 pub rest-start : format ≡ rest start
 unfolding format rest
@@ -164,24 +164,24 @@ entries-more (suc n) st h = ap (λ (k : ℕ). one st (λ v. entries k (nextOf st
 -- no field is left: the end
 pub rest-end : (st : State) → Goes st → st .left ≡ 0 → rest st ≡ end
 unfolding entries
-rest-end st g e = rest-late st (by-test (ltb (st .place) 8) (λ b. omega (arith, g .counted (ltb-true _ _ b))) (λ b. ltb-false _ _ b)) ∙ ap (λ (n : ℕ). entries n st) e
+rest-end st g e = rest-late st (by-test (ltb (st .place) entryPlace) (λ b. omega (arith, g .counted (ltb-true _ _ b))) (λ b. ltb-false _ _ b)) ∙ ap (λ (n : ℕ). entries n st) e
 
 -- a field is left: that field, and then what is left in the state behind it
 pub rest-one : (st : State) → Goes st → 0 < st .left → rest st ≡ one st (λ v. rest (nextOf st v))
 unfolding fixed
 rest-one st g h =
-    by-test (ltb (st .place) 8)
+    by-test (ltb (st .place) entryPlace)
     (λ b. let early = ltb-true _ _ b in rest-early st early ∙ fixed-more (st .left) st h ∙ (λ i. one st (λ v. behind-fixed early v i)))
     (λ b. let late = ltb-false _ _ b in rest-late st late ∙ entries-more (st .left) st h ∙ (λ i. one st (λ v. behind-entry late v i)))
   where
-    behind-entry : 8 ≤ st .place → (v : ℕ) → entries (st .left - 1) (nextOf st v) ≡ rest (nextOf st v)
+    behind-entry : entryPlace ≤ st .place → (v : ℕ) → entries (st .left - 1) (nextOf st v) ≡ rest (nextOf st v)
     behind-entry late v =
         sym (rest-late (nextOf st v) (later st v late) ∙ ap (λ (n : ℕ). entries n (nextOf st v)) (next-left st v ∙ sym (left-one-less st v (λ e. omega arith))))
 
-    behind-fixed : st .place < 8 → (v : ℕ) → fixed (st .left - 1) (nextOf st v) ≡ rest (nextOf st v)
+    behind-fixed : st .place < entryPlace → (v : ℕ) → fixed (st .left - 1) (nextOf st v) ≡ rest (nextOf st v)
     behind-fixed early v =
         let p : (nextOf st v) .place ≡ st .place + 1 = next-place st v ∙ place-inner (st .place) (λ e. omega arith) in
-        by-equal (st .place) 7
+        by-equal (st .place) manyPlace
         (λ e. let z : st .left - 1 ≡ 0 = omega (arith, g .counted early) in ap (λ (n : ℕ). fixed n (nextOf st v)) z ∙ sym (rest-late (nextOf st v) (omega arith)))
         (λ d. sym (rest-early (nextOf st v) (omega arith) ∙ ap (λ (n : ℕ). fixed n (nextOf st v)) (next-left st v ∙ sym (left-one-less st v d))))
 
@@ -191,7 +191,7 @@ room-start = refl
 
 pub room-left : (st : State) → st .left ≤ room st
 room-left st =
-    by-test (ltb (st .place) 8)
+    by-test (ltb (st .place) entryPlace)
     (λ b. omega (arith, room-early st (ltb-true _ _ b)))
     (λ b. omega (arith, room-late st (ltb-false _ _ b)))
 

@@ -14,6 +14,7 @@ use Rattle.fields.specs.FieldLaws.{length-putField}
 use Rattle.formats.specs.declared.state.State.{State}
 use Rattle.formats.specs.Grammar.{Grammar, end, field, good, size, lay, zeros, frame}
 use Rattle.formats.specs.RoundTrip.{length-frame}
+use Rattle.formats.specs.Table.{numberPlace}
 use Rattle.formats.specs.TableLaws.{columns-small, entries-fit}
 use Rattle.formats.specs.Format.{widthOf, nextOf, start, format}
 use Rattle.formats.specs.FormatLaws.{rest, rest-start, rest-one}
@@ -64,7 +65,7 @@ module _ (vs : List ℕ) (g : good format vs ≡ true) where
 
     module _ (h : i < length vs) where
       -- there is a field for the value
-      pub laid-goes : (0 < st .left) × (st .place ≤ 10)
+      pub laid-goes : (0 < st .left) × (st .place ≤ numberPlace)
       laid-goes = rw (c .state) (let t = walk vs g i (omega arith) in (some-left vs g i (stateAt vs i) t h, t .goes .inside))
 
       -- which lies within the frame

@@ -59,6 +59,30 @@ keys = 13
 abbrev pub less : ℕ
 less = 14
 
+-- How the table is laid out: these numbers stand here only. A row's places, from 0: the field that says how many entries there are,
+-- an entry's first field, its last, which is its setpoint or mask, and how many places a row has; how many kinds there are, with 0, and how many sorts of fields.
+abbrev pub manyPlace : ℕ
+manyPlace = 7
+
+abbrev pub entryPlace : ℕ
+entryPlace = 8
+
+abbrev pub numberPlace : ℕ
+numberPlace = 10
+
+abbrev pub rowPlaces : ℕ
+rowPlaces = 11
+
+abbrev pub kinds : ℕ
+kinds = 13
+
+abbrev pub sorts : ℕ
+sorts = 15
+
+-- "Header: kind 4 bits, panel 4, target 5"
+abbrev pub headerBits : ℕ
+headerBits = 13
+
 -- a row: kind, client, target; tag, key's count and client, setpoint or mask, how many entries; of an entry key's count and client, setpoint or mask
 abbrev pub row : ℕ → ℕ → ℕ → ℕ → ℕ → ℕ → ℕ → ℕ → ℕ → List ℕ
 row target t c p x n c′ p′ x′ = kind ∷ client ∷ target ∷ t ∷ c ∷ p ∷ x ∷ n ∷ c′ ∷ p′ ∷ x′ ∷ []
@@ -111,11 +135,11 @@ mostEntries = 256
 
 -- how many entries, by the value that says it
 unfoldable pub entriesIn : ℕ → ℕ → ℕ
-entriesIn kind v = cond (eqb (sortAt kind 7) less) (v + 1) v
+entriesIn kind v = cond (eqb (sortAt kind manyPlace) less) (v + 1) v
 
 -- an entry has a setpoint or a mask beside its key
 unfoldable pub hasNumbers : ℕ → Bool
-hasNumbers kind = not (eqb (sortAt kind 10) none)
+hasNumbers kind = not (eqb (sortAt kind numberPlace) none)
 
 -- the columns "fixed body bits" and "bits per entry"
 abbrev pub bodyBits : List ℕ
@@ -126,4 +150,4 @@ entryBits = 0 ∷ 0 ∷ 0 ∷ 0 ∷ 0 ∷ 0 ∷ 12 ∷ 0 ∷ 0 ∷ 0 ∷ 44 ∷ 
 
 -- header, body and entries, up to the next byte
 unfoldable pub frameLength : ℕ → ℕ → ℕ
-frameLength kind entries = (13 + getD bodyBits kind 0 + entries * getD entryBits kind 0 + 7) / 8
+frameLength kind entries = (headerBits + getD bodyBits kind 0 + entries * getD entryBits kind 0 + 7) / 8

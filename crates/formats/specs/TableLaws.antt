@@ -10,7 +10,7 @@ use lib.ListN.{length, getD, List·getD-eq-default}
 use borrow.Author.Tests.{eqb-true, eq-eqb, ne-eqb, leb-true, ltb-true, ltb-false, not-true}
 use Rattle.ranges.specs.Tests.{either, by-test, both-left, both-right}
 use Rattle.ranges.specs.All.{allBelow, all-at}
-use Rattle.formats.specs.Table.{table, mostEntries, own, of, sortAt, bitsOf, leastOf, mostOf, mosts, leasts, less, entriesIn, bodyBits, entryBits}
+use Rattle.formats.specs.Table.{manyPlace, entryPlace, rowPlaces, kinds, sorts, headerBits, table, mostEntries, own, of, sortAt, bitsOf, leastOf, mostOf, mosts, leasts, less, entriesIn, bodyBits, entryBits}
 
 -- the bits of n fields of a kind from a place on
 unfoldable pub bitsFrom : ℕ → ℕ → ℕ → ℕ
@@ -20,36 +20,36 @@ bitsFrom kind place (suc n) = bitsOf (sortAt kind place) + bitsFrom kind (place 
 -- What holds of a row: it has eleven places, the header has 13 bits, the columns "fixed body bits" and "bits per entry" are
 -- the sums of the fields' bits, a frame has at most 256 entries, and every row begins with the kind.
 pub record Row (kind : ℕ) : Type 0 where
-  pub places : length (getD table kind []) ≡ 11
-  pub header : bitsFrom kind 0 3 ≡ 13
+  pub places : length (getD table kind []) ≡ rowPlaces
+  pub header : bitsFrom kind 0 3 ≡ headerBits
   pub body : bitsFrom kind 3 5 ≡ getD bodyBits kind 0
-  pub entry : bitsFrom kind 8 3 ≡ getD entryBits kind 0
-  pub few : getD mosts (sortAt kind 7) 0 ≤ 255
-  pub plain : eqb (sortAt kind 7) own ≡ false
+  pub entry : bitsFrom kind entryPlace 3 ≡ getD entryBits kind 0
+  pub few : getD mosts (sortAt kind manyPlace) 0 ≤ 255
+  pub plain : eqb (sortAt kind manyPlace) own ≡ false
   pub begins : sortAt kind 0 ≡ sortAt 0 0
 
 rowRight : ℕ → Bool
 rowRight kind =
-    eqb (length (getD table kind [])) 11
-    && (eqb (bitsFrom kind 0 3) 13
+    eqb (length (getD table kind [])) rowPlaces
+    && (eqb (bitsFrom kind 0 3) headerBits
     && (eqb (bitsFrom kind 3 5) (getD bodyBits kind 0)
-    && (eqb (bitsFrom kind 8 3) (getD entryBits kind 0)
-    && (leb (getD mosts (sortAt kind 7) 0) 255 && (not (eqb (sortAt kind 7) own) && eqb (sortAt kind 0) (sortAt 0 0))))))
+    && (eqb (bitsFrom kind entryPlace 3) (getD entryBits kind 0)
+    && (leb (getD mosts (sortAt kind manyPlace) 0) 255 && (not (eqb (sortAt kind manyPlace) own) && eqb (sortAt kind 0) (sortAt 0 0))))))
 
 -- the test
-table-right : allBelow rowRight 13 ≡ true
+table-right : allBelow rowRight kinds ≡ true
 unfolding allBelow rowRight bitsFrom sortAt bitsOf
 table-right = refl
 
-pub row-right : (kind : ℕ) → kind < 13 → Row kind
+pub row-right : (kind : ℕ) → kind < kinds → Row kind
 unfolding rowRight
 row-right kind h =
-    let e₀ = all-at rowRight 13 table-right kind h in
-    let e₁ = both-right (eqb (length (getD table kind [])) 11) _ e₀ in
-    let e₂ = both-right (eqb (bitsFrom kind 0 3) 13) _ e₁ in
+    let e₀ = all-at rowRight kinds table-right kind h in
+    let e₁ = both-right (eqb (length (getD table kind [])) rowPlaces) _ e₀ in
+    let e₂ = both-right (eqb (bitsFrom kind 0 3) headerBits) _ e₁ in
     let e₃ = both-right (eqb (bitsFrom kind 3 5) (getD bodyBits kind 0)) _ e₂ in
-    let e₄ = both-right (eqb (bitsFrom kind 8 3) (getD entryBits kind 0)) _ e₃ in
-    let e₅ = both-right (leb (getD mosts (sortAt kind 7) 0) 255) _ e₄ in
+    let e₄ = both-right (eqb (bitsFrom kind entryPlace 3) (getD entryBits kind 0)) _ e₃ in
+    let e₅ = both-right (leb (getD mosts (sortAt kind manyPlace) 0) 255) _ e₄ in
     record {
       places = eqb-true _ _ (both-left _ _ e₀);
       header = eqb-true _ _ (both-left _ _ e₁);
@@ -57,44 +57,44 @@ row-right kind h =
       entry = eqb-true _ _ (both-left _ _ e₃);
       few = leb-true _ _ (both-left _ _ e₄);
       plain = not-true _ (both-left _ _ e₅);
-      begins = eqb-true _ _ (both-right (not (eqb (sortAt kind 7) own)) _ e₅);
+      begins = eqb-true _ _ (both-right (not (eqb (sortAt kind manyPlace) own)) _ e₅);
     }
 
 -- beyond the table there are no fields
-pub beyond-kind : (kind place : ℕ) → 13 ≤ kind → 0 ≡ sortAt kind place
+pub beyond-kind : (kind place : ℕ) → kinds ≤ kind → 0 ≡ sortAt kind place
 unfolding sortAt
 beyond-kind kind place h = ap (λ (r : List ℕ). getD r place 0) (sym (List·getD-eq-default table [] h))
 
-pub beyond-place : (kind place : ℕ) → kind < 13 → 11 ≤ place → 0 ≡ sortAt kind place
+pub beyond-place : (kind place : ℕ) → kind < kinds → rowPlaces ≤ place → 0 ≡ sortAt kind place
 unfolding sortAt
 beyond-place kind place h g = sym (List·getD-eq-default (getD table kind []) 0 (let p = row-right kind h .places in omega arith))
 
 -- each entry is one of the fifteen sorts, and none of them has more than 32 bits
-pub sort-below : (kind place : ℕ) → kind < 13 → place < 11 → sortAt kind place < 15
+pub sort-below : (kind place : ℕ) → kind < kinds → place < rowPlaces → sortAt kind place < sorts
 unfolding allBelow sortAt
 sort-below kind place h g =
-    ltb-true _ _ (all-at (λ p. ltb (sortAt kind p) 15) 11 (all-at (λ k. allBelow (λ p. ltb (sortAt k p) 15) 11) 13 refl kind h) place g)
+    ltb-true _ _ (all-at (λ p. ltb (sortAt kind p) sorts) rowPlaces (all-at (λ k. allBelow (λ p. ltb (sortAt k p) sorts) rowPlaces) kinds refl kind h) place g)
 
-pub bits-most : (sort : ℕ) → sort < 15 → bitsOf sort ≤ 32
+pub bits-most : (sort : ℕ) → sort < sorts → bitsOf sort ≤ 32
 unfolding allBelow bitsOf
-bits-most sort h = leb-true _ _ (all-at (λ s. leb (bitsOf s) 32) 15 refl sort h)
+bits-most sort h = leb-true _ _ (all-at (λ s. leb (bitsOf s) 32) sorts refl sort h)
 
 -- the columns are small
-pub columns-small : (kind : ℕ) → kind < 13 → (getD bodyBits kind 0 ≤ 44) × (getD entryBits kind 0 ≤ 44)
+pub columns-small : (kind : ℕ) → kind < kinds → (getD bodyBits kind 0 ≤ 44) × (getD entryBits kind 0 ≤ 44)
 unfolding allBelow
 columns-small kind h =
-    let e = all-at (λ k. leb (getD bodyBits k 0) 44 && leb (getD entryBits k 0) 44) 13 refl kind h in
+    let e = all-at (λ k. leb (getD bodyBits k 0) 44 && leb (getD entryBits k 0) 44) kinds refl kind h in
     (leb-true _ _ (both-left _ _ e), leb-true _ _ (both-right (leb (getD bodyBits kind 0) 44) _ e))
 
 -- a value that says how many entries there are is at most 255
-pub few-entries : (kind client before : ℕ) → mostOf (sortAt kind 7) client before ≤ 255
+pub few-entries : (kind client before : ℕ) → mostOf (sortAt kind manyPlace) client before ≤ 255
 unfolding mostOf
 few-entries kind client before =
-    by-test (ltb kind 13)
+    by-test (ltb kind kinds)
     (λ e.
     let r = row-right kind (ltb-true _ _ e) in
-    rw (r .plain) (either (λ n. n ≤ 255) (eqb (sortAt kind 7) of && eqb before 0) (omega arith) (r .few)))
-    (λ e. rw (← beyond-kind kind 7 (ltb-false _ _ e)) (omega arith))
+    rw (r .plain) (either (λ n. n ≤ 255) (eqb (sortAt kind manyPlace) of && eqb before 0) (omega arith) (r .few)))
+    (λ e. rw (← beyond-kind kind manyPlace (ltb-false _ _ e)) (omega arith))
 
 -- the cases of the limits, as the code meets them
 module _ (sort client before : ℕ) where
@@ -124,18 +124,18 @@ module _ (sort client before : ℕ) where
 
 -- the cases of the number of entries
 module _ (kind v : ℕ) where
-  pub entries-less : sortAt kind 7 ≡ less → v + 1 ≡ entriesIn kind v
+  pub entries-less : sortAt kind manyPlace ≡ less → v + 1 ≡ entriesIn kind v
   unfolding entriesIn
-  entries-less e = rw (eq-eqb (sortAt kind 7) less e)
+  entries-less e = rw (eq-eqb (sortAt kind manyPlace) less e)
 
-  pub entries-plain : (sortAt kind 7 ≡ less → ⊥) → v ≡ entriesIn kind v
+  pub entries-plain : (sortAt kind manyPlace ≡ less → ⊥) → v ≡ entriesIn kind v
   unfolding entriesIn
-  entries-plain d = rw (ne-eqb (sortAt kind 7) less d)
+  entries-plain d = rw (ne-eqb (sortAt kind manyPlace) less d)
 
 pub entries-most : (kind v : ℕ) → entriesIn kind v ≤ v + 1
 unfolding entriesIn
-entries-most kind v = either (λ n. n ≤ v + 1) (eqb (sortAt kind 7) less) (omega arith) (omega arith)
+entries-most kind v = either (λ n. n ≤ v + 1) (eqb (sortAt kind manyPlace) less) (omega arith) (omega arith)
 
 -- the bits of the most entries that there can be are not too many
-pub entries-fit : (kind n : ℕ) → kind < 13 → n ≤ mostEntries → n * getD entryBits kind 0 ≤ 11264
+pub entries-fit : (kind n : ℕ) → kind < kinds → n ≤ mostEntries → n * getD entryBits kind 0 ≤ 11264
 entries-fit kind n h l = mul-le-mul l (columns-small kind h .1)

@@ -14,7 +14,7 @@ use Rattle.ranges.specs.Tests.{by-equal, by-test, both-left, both-right}
 use Rattle.ranges.specs.Sum.{sumBelow, sum-more}
 use Rattle.formats.specs.declared.state.State.{State}
 use Rattle.formats.specs.Grammar.{Grammar, good, size, frame}
-use Rattle.formats.specs.Table.{mostEntries, sortAt, bitsOf, mostOf, entriesIn, bodyBits, entryBits, frameLength}
+use Rattle.formats.specs.Table.{manyPlace, entryPlace, numberPlace, kinds, headerBits, mostEntries, sortAt, bitsOf, mostOf, entriesIn, bodyBits, entryBits, frameLength}
 use Rattle.formats.specs.TableLaws.{row-right, bitsFrom, few-entries, entries-most}
 use Rattle.formats.specs.Format.{sortOf, widthOf, allowed, nextOf, start, format}
 use Rattle.formats.specs.FormatLaws.{rest, rest-start, rest-one, rest-end, next-place, next-left, next-kind, place-last, place-inner, left-entries, left-one-less, at-most}
@@ -28,15 +28,15 @@ stateAt vs (suc i) = nextOf (stateAt vs i) (getD vs i 0)
 
 -- the place of value i in the table
 unfoldable pub placeAt : ℕ → ℕ
-placeAt i = cond (ltb i 8) i (8 + (i - 8) % 3)
+placeAt i = cond (ltb i entryPlace) i (entryPlace + (i - entryPlace) % 3)
 
-pub place-early : (i : ℕ) → i < 8 → placeAt i ≡ i
+pub place-early : (i : ℕ) → i < entryPlace → placeAt i ≡ i
 unfolding placeAt
-place-early i h = rw (lt-ltb i 8 h)
+place-early i h = rw (lt-ltb i entryPlace h)
 
-pub place-late : (i : ℕ) → 8 ≤ i → placeAt i ≡ 8 + (i - 8) % 3
+pub place-late : (i : ℕ) → entryPlace ≤ i → placeAt i ≡ entryPlace + (i - entryPlace) % 3
 unfolding placeAt
-place-late i h = rw (le-ltb i 8 h)
+place-late i h = rw (le-ltb i entryPlace h)
 
 module _ (vs : List ℕ) where
   pub walk-place : (i : ℕ) → (stateAt vs i) .place ≡ placeAt i
@@ -44,23 +44,23 @@ module _ (vs : List ℕ) where
   walk-place zero = sym (place-early 0 (omega arith))
   walk-place (suc i) =
       let p : (stateAt vs i) .place ≡ placeAt i = walk-place i in
-      by-test (ltb i 8)
+      by-test (ltb i entryPlace)
       (λ b.
       let h = ltb-true _ _ b in
       let q : placeAt i ≡ i = place-early i h in
       next-place _ _ ∙ place-inner _ (λ e. omega arith)
-      ∙ by-equal i 7 (λ e. omega (arith, place-late (suc i) (omega arith))) (λ d. omega (arith, place-early (suc i) (omega arith))))
+      ∙ by-equal i manyPlace (λ e. omega (arith, place-late (suc i) (omega arith))) (λ d. omega (arith, place-early (suc i) (omega arith))))
       (λ b.
       let h = ltb-false _ _ b in
-      let q : placeAt i ≡ 8 + (i - 8) % 3 = place-late i h in
-      let r : placeAt (suc i) ≡ 8 + (suc i - 8) % 3 = place-late (suc i) (omega arith) in
-      by-equal (placeAt i) 10
+      let q : placeAt i ≡ entryPlace + (i - entryPlace) % 3 = place-late i h in
+      let r : placeAt (suc i) ≡ entryPlace + (suc i - entryPlace) % 3 = place-late (suc i) (omega arith) in
+      by-equal (placeAt i) numberPlace
       (λ e. next-place _ _ ∙ place-last _ (p ∙ e) ∙ omega arith)
       (λ d. next-place _ _ ∙ place-inner _ (λ e. d (sym p ∙ e)) ∙ omega arith))
 
   place-some : (i : ℕ) → 0 < i → placeAt i ≡ 0 → ⊥
   place-some i h e =
-      by-test (ltb i 8)
+      by-test (ltb i entryPlace)
       (λ b. omega (arith, place-early i (ltb-true _ _ b)))
       (λ b. omega (arith, place-late i (ltb-false _ _ b)))
 
@@ -77,21 +77,21 @@ module _ (vs : List ℕ) where
 
   -- how many entries the values say there are
   abbrev pub entriesSaid : ℕ
-  entriesSaid = entriesIn (getD vs 0 0) (getD vs 7 0)
+  entriesSaid = entriesIn (getD vs 0 0) (getD vs manyPlace 0)
 
-  left-first : (i : ℕ) → i < 8 → (stateAt vs i) .left ≡ 8 - i
+  left-first : (i : ℕ) → i < entryPlace → (stateAt vs i) .left ≡ entryPlace - i
   unfolding stateAt
   left-first zero h = refl
   left-first (suc i) h =
       next-left _ _ ∙ sym (left-one-less _ _ (λ e. omega (arith, walk-place i ∙ place-early i (omega arith)))) ∙ omega (arith, left-first i (omega arith))
 
-  pub walk-left : (i : ℕ) → 8 ≤ i → (stateAt vs i) .left ≡ 3 * entriesSaid - (i - 8)
+  pub walk-left : (i : ℕ) → entryPlace ≤ i → (stateAt vs i) .left ≡ 3 * entriesSaid - (i - entryPlace)
   unfolding stateAt
   walk-left zero h = let z : ⊥ = omega arith in absurd z
   walk-left (suc i) h =
       let st = stateAt vs i in
       let v = getD vs i 0 in
-      by-equal i 7
+      by-equal i manyPlace
       (λ e.
       let n : entriesIn (st .kind) v ≡ entriesSaid = ap₂ entriesIn (walk-kind i (omega arith)) (ap (λ (k : ℕ). getD vs k 0) e) in
       next-left st v ∙ sym (left-entries st v (walk-place i ∙ place-early i (omega arith) ∙ e) refl) ∙ omega arith)
@@ -131,14 +131,14 @@ module _ (vs : List ℕ) (g : good format vs ≡ true) where
       (λ d. absurd (true≢false (sym (tested-short vs (length vs) (stateAt vs (length vs)) c (omega arith) (omega arith) ∙ g))))
 
   -- eight values, and three for each entry
-  pub values-length : length vs ≡ 8 + 3 * entriesSaid vs
+  pub values-length : length vs ≡ entryPlace + 3 * entriesSaid vs
   values-length =
-      let n = 8 + 3 * entriesSaid vs in
-      by-test (ltb (length vs) 8)
-      (λ b. let h : length vs < 8 = ltb-true _ _ b in let z : ⊥ = omega (arith, none-left, left-first vs (length vs) h) in absurd z)
+      let n = entryPlace + 3 * entriesSaid vs in
+      by-test (ltb (length vs) entryPlace)
+      (λ b. let h : length vs < entryPlace = ltb-true _ _ b in let z : ⊥ = omega (arith, none-left, left-first vs (length vs) h) in absurd z)
       (λ b.
-      let h : 8 ≤ length vs = ltb-false _ _ b in
-      let l : (stateAt vs (length vs)) .left ≡ 3 * entriesSaid vs - (length vs - 8) = walk-left vs (length vs) h in
+      let h : entryPlace ≤ length vs = ltb-false _ _ b in
+      let l : (stateAt vs (length vs)) .left ≡ 3 * entriesSaid vs - (length vs - entryPlace) = walk-left vs (length vs) h in
       by-test (ltb n (length vs))
       (λ t.
       let k : n < length vs = ltb-true _ _ t in
@@ -172,7 +172,7 @@ module _ (vs : List ℕ) (g : good format vs ≡ true) where
       let e : size (rest (stateAt vs n)) (drop n vs) ≡ 0 = ap (λ (r : Grammar). size r (drop n vs)) (rest-end (stateAt vs n) (walk n (omega arith) .goes) none-left) in
       omega (arith, sized n (omega arith))
 
-  pub kind-below : getD vs 0 0 < 13
+  pub kind-below : getD vs 0 0 < kinds
   unfolding stateAt mostOf sortAt
   kind-below = omega (arith, at-most (stateAt vs 0) (getD vs 0 0) (value-allowed 0 (omega (arith, values-length))))
 
@@ -183,12 +183,12 @@ module _ (vs : List ℕ) (g : good format vs ≡ true) where
   width-at : (i p : ℕ) → 0 < i → placeAt i ≡ p → widthOf (stateAt vs i) ≡ bitsOf (sortAt (getD vs 0 0) p)
   width-at i p h e = value-width i h ∙ ap (λ (q : ℕ). bitsOf (sortAt (getD vs 0 0) q)) e
 
-  fixed-bits : sumBelow (λ j. widthOf (stateAt vs j)) 8 ≡ 13 + getD bodyBits (getD vs 0 0) 0
+  fixed-bits : sumBelow (λ j. widthOf (stateAt vs j)) entryPlace ≡ headerBits + getD bodyBits (getD vs 0 0) 0
   unfolding sumBelow bitsFrom stateAt
   fixed-bits =
       let r = row-right (getD vs 0 0) kind-below in
       let w₀ : widthOf start ≡ bitsOf (sortAt (getD vs 0 0) 0) = ap bitsOf (sym (r .begins)) in
-      let w : (i : ℕ) → 0 < i → i < 8 → widthOf (stateAt vs i) ≡ bitsOf (sortAt (getD vs 0 0) i) = λ i h l. width-at i i h (place-early i l) in
+      let w : (i : ℕ) → 0 < i → i < entryPlace → widthOf (stateAt vs i) ≡ bitsOf (sortAt (getD vs 0 0) i) = λ i h l. width-at i i h (place-early i l) in
       omega (
         arith,
         r .header,
@@ -199,31 +199,31 @@ module _ (vs : List ℕ) (g : good format vs ≡ true) where
         w 4 (omega arith) (omega arith),
         w 5 (omega arith) (omega arith),
         w 6 (omega arith) (omega arith),
-        w 7 (omega arith) (omega arith),
+        w manyPlace (omega arith) (omega arith),
       )
 
-  entry-bits : (m : ℕ) → sumBelow (λ j. widthOf (stateAt vs j)) (8 + 3 * m) ≡ sumBelow (λ j. widthOf (stateAt vs j)) 8 + m * bitsFrom (getD vs 0 0) 8 3
+  entry-bits : (m : ℕ) → sumBelow (λ j. widthOf (stateAt vs j)) (entryPlace + 3 * m) ≡ sumBelow (λ j. widthOf (stateAt vs j)) entryPlace + m * bitsFrom (getD vs 0 0) entryPlace 3
   unfolding bitsFrom
   entry-bits zero = omega arith
   entry-bits (suc m) =
       let f : ℕ → ℕ = λ j. widthOf (stateAt vs j) in
-      let k = 8 + 3 * m in
+      let k = entryPlace + 3 * m in
       let kind = getD vs 0 0 in
-      let q : 8 + 3 * suc m ≡ k + 1 + 1 + 1 = omega arith in
+      let q : entryPlace + 3 * suc m ≡ k + 1 + 1 + 1 = omega arith in
       let n₀ : sumBelow f (k + 1) ≡ sumBelow f k + f k = sum-more f k in
       let n₁ : sumBelow f (k + 1 + 1) ≡ sumBelow f (k + 1) + f (k + 1) = sum-more f (k + 1) in
       let n₂ : sumBelow f (k + 1 + 1 + 1) ≡ sumBelow f (k + 1 + 1) + f (k + 1 + 1) = sum-more f (k + 1 + 1) in
-      let w₀ : f k ≡ bitsOf (sortAt kind 8) = width-at k 8 (omega arith) (place-late k (omega arith) ∙ omega arith) in
+      let w₀ : f k ≡ bitsOf (sortAt kind entryPlace) = width-at k entryPlace (omega arith) (place-late k (omega arith) ∙ omega arith) in
       let w₁ : f (k + 1) ≡ bitsOf (sortAt kind 9) = width-at (k + 1) 9 (omega arith) (place-late (k + 1) (omega arith) ∙ omega arith) in
-      let w₂ : f (k + 1 + 1) ≡ bitsOf (sortAt kind 10) = width-at (k + 1 + 1) 10 (omega arith) (place-late (k + 1 + 1) (omega arith) ∙ omega arith) in
-      ap (sumBelow f) q ∙ rw (suc-mul m (bitsFrom kind 8 3)) (omega (arith, entry-bits m))
+      let w₂ : f (k + 1 + 1) ≡ bitsOf (sortAt kind numberPlace) = width-at (k + 1 + 1) numberPlace (omega arith) (place-late (k + 1 + 1) (omega arith) ∙ omega arith) in
+      ap (sumBelow f) q ∙ rw (suc-mul m (bitsFrom kind entryPlace 3)) (omega (arith, entry-bits m))
 
   -- the bits of a frame: 13 of the header, the fixed body's, and each entry's
-  pub frame-bits : size format vs ≡ 13 + getD bodyBits (getD vs 0 0) 0 + entriesSaid vs * getD entryBits (getD vs 0 0) 0
+  pub frame-bits : size format vs ≡ headerBits + getD bodyBits (getD vs 0 0) 0 + entriesSaid vs * getD entryBits (getD vs 0 0) 0
   frame-bits =
       let f : ℕ → ℕ = λ j. widthOf (stateAt vs j) in
-      let e : sumBelow f (8 + 3 * entriesSaid vs) ≡ size format vs = ap (sumBelow f) (sym values-length) ∙ total in
-      let b : entriesSaid vs * bitsFrom (getD vs 0 0) 8 3 ≡ entriesSaid vs * getD entryBits (getD vs 0 0) 0 = ap (λ (n : ℕ). entriesSaid vs * n) (row-right (getD vs 0 0) kind-below .entry) in
+      let e : sumBelow f (entryPlace + 3 * entriesSaid vs) ≡ size format vs = ap (sumBelow f) (sym values-length) ∙ total in
+      let b : entriesSaid vs * bitsFrom (getD vs 0 0) entryPlace 3 ≡ entriesSaid vs * getD entryBits (getD vs 0 0) 0 = ap (λ (n : ℕ). entriesSaid vs * n) (row-right (getD vs 0 0) kind-below .entry) in
       omega (arith, entry-bits (entriesSaid vs), fixed-bits)
 
   -- so that the table tells its length
@@ -234,12 +234,12 @@ module _ (vs : List ℕ) (g : good format vs ≡ true) where
   -- no more entries than there can be
   pub entries-few : entriesSaid vs ≤ mostEntries
   entries-few =
-      let st = stateAt vs 7 in
-      let e : mostOf (sortOf st) (st .client) (st .before) ≡ mostOf (sortAt (getD vs 0 0) 7) (st .client) (st .before) =
-      ap₂ (λ (k p : ℕ). mostOf (sortAt k p) (st .client) (st .before)) (walk-kind vs 7 (omega arith)) (walk-place vs 7 ∙ place-early 7 (omega arith)) in
+      let st = stateAt vs manyPlace in
+      let e : mostOf (sortOf st) (st .client) (st .before) ≡ mostOf (sortAt (getD vs 0 0) manyPlace) (st .client) (st .before) =
+      ap₂ (λ (k p : ℕ). mostOf (sortAt k p) (st .client) (st .before)) (walk-kind vs manyPlace (omega arith)) (walk-place vs manyPlace ∙ place-early manyPlace (omega arith)) in
       omega (
         arith,
-        at-most st (getD vs 7 0) (value-allowed 7 (omega (arith, values-length))),
+        at-most st (getD vs manyPlace 0) (value-allowed manyPlace (omega (arith, values-length))),
         few-entries (getD vs 0 0) (st .client) (st .before),
-        entries-most (getD vs 0 0) (getD vs 7 0),
+        entries-most (getD vs 0 0) (getD vs manyPlace 0),
       )

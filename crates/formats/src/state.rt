@@ -4,6 +4,7 @@ ghost use mathlib.Core.Path.{_≡_};
 ghost use Prim.Native.Nat.{_<_, _≤_};
 ghost use mathlib.Core.Bool.{cond};
 ghost use lib.Dec.{eqb};
+ghost use Rattle.formats.specs.Table.{numberPlace};
 ghost use Rattle.formats.specs.Format.{fieldOf, leftAfter, nextOf, start};
 
 // A field: its bits, and the least and the greatest value that it may have.
@@ -30,7 +31,7 @@ pub fn first() -> State
         kind: 0,
         client: 0,
         before: 0,
-        left: 8,
+        left: table::ENTRY,
         place: 0,
     }
 }
@@ -61,7 +62,7 @@ fn left_after(state: State, value: u32) -> usize
     requires { ⌜ 0 < state .left ⌝ }
     ensures { λ r. ⌜ r ≡ leftAfter state value ⌝ }
 {
-    if state.place == 7 {
+    if state.place == table::MANY {
         return 3 * table::entries_in(state.kind, value);
     }
     state.left - 1
@@ -69,20 +70,20 @@ fn left_after(state: State, value: u32) -> usize
 
 // The state behind a field with this value.
 pub fn next(state: State, value: u32) -> State
-    requires { ⌜ (0 < state .left) × (state .place ≤ 10) ⌝ }
+    requires { ⌜ (0 < state .left) × (state .place ≤ numberPlace) ⌝ }
     ensures { λ r. ⌜ r ≡ nextOf state value ⌝ }
 {
     let place = state.place;
     let kind = taken_at(0, place, value, state.kind);
     let client = taken_at(1, place, value, state.client);
     let left = left_after(state, value);
-    if place == 10 {
+    if place == table::NUMBER {
         return State {
             kind: kind,
             client: client,
             before: value,
             left: left,
-            place: 8,
+            place: table::ENTRY,
         };
     }
     State {

@@ -131,6 +131,6 @@ fn length_of(values: &[u32]) -> usize
     ensures { λ r. ⌜ r ≡ length (frame format (now (values .entry))) ⌝ }
 {
     let kind = values[0];
-    let entries = table::entries_in(kind, values[7]);
+    let entries = table::entries_in(kind, values[table::MANY]);
     table::frame_length(kind, entries)
 }

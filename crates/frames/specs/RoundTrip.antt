@@ -28,21 +28,21 @@ use Rattle.frames.specs.Frames.{hasPlaces, writable, frameOf, readingOf,
 -- ---- the values of an entry
 
 module _ (numbered : Bool) (keys numbers : List ℕ) (i : ℕ) where
-  count-value : entryValue numbered keys numbers (3 * i) ≡ getD keys i 0 / 256
+  pub count-value : entryValue numbered keys numbers (3 * i) ≡ getD keys i 0 / 256
   unfolding entryValue
   count-value =
       let r : 3 * i % 3 ≡ 0 = omega arith in
       let q : 3 * i / 3 ≡ i = omega arith in
       rw (r, q)
 
-  client-value : entryValue numbered keys numbers (3 * i + 1) ≡ getD keys i 0 % 256
+  pub client-value : entryValue numbered keys numbers (3 * i + 1) ≡ getD keys i 0 % 256
   unfolding entryValue
   client-value =
       let r : (3 * i + 1) % 3 ≡ 1 = omega arith in
       let q : (3 * i + 1) / 3 ≡ i = omega arith in
       rw (r, q)
 
-  number-value : entryValue numbered keys numbers (3 * i + 2) ≡ cond numbered (getD numbers i 0) 0
+  pub number-value : entryValue numbered keys numbers (3 * i + 2) ≡ cond numbered (getD numbers i 0) 0
   unfolding entryValue
   number-value =
       let r : (3 * i + 2) % 3 ≡ 2 = omega arith in

@@ -1,0 +1,12 @@
+-- `wire::write_alone` meets its contract: no entries are lent.
+use borrow.Author.Needs.{needs}
+use mathlib.Core.Path.{refl}
+use Rattle.wire.specs.Cases.{wrote}
+use Rattle.wire.proofs.write_alone.Statement.{statement}
+use Rattle.wire.proofs.write_alone.Tie as tie
+
+returns : tie.Need-returns
+returns c = let a = c .before .before .before .before .before .before .before .args in wrote (a .message) (a .bytes .now) refl refl (c .before .before .write-frame .ensures)
+
+pub write-alone-spec : {M : Type 1} → statement M
+write-alone-spec = tie.close (tie.spec (λ c. search needs) (λ c. search needs) (λ c κs. search needs) (λ c. search needs) returns)

@@ -1,0 +1,38 @@
+-- `wire::write_link` meets its contract: each content of the link is a case law.
+use mathlib.Core.List.{[]}
+use native.Mathlib.Omega.{arith}
+use Rattle.tables.specs.Tables.{tablesOf}
+use Rattle.wire.specs.Ready.{reply-ready}
+use Rattle.wire.specs.Cases.{link-empty, link-request, link-reply}
+use borrow.Author.Needs.{needs}
+use Rattle.wire.proofs.write_link.Statement.{statement}
+use Rattle.wire.proofs.write_link.Tie as tie
+
+client-word-requires : tie.Need-client-word-requires
+client-word-requires c κs = (c .before .before .before .before .before .before .before .pre [] [] .row, omega arith)
+
+link-at-requires : tie.Need-link-at-requires
+link-at-requires c κs = c .before .before .before .before .before .before .before .before .pre [] [] .linked
+
+cast-from : tie.Need-cast-from
+cast-from c = record { fits = omega (arith, c .before .before .before .before .before .before .before .before .before .pre [] [] .client) }
+
+cast-to : tie.Need-cast-to
+cast-to c = record { fits = omega (arith, c .before .before .before .before .before .before .before .before .before .pre [] [] .target) }
+
+write-reply-requires : tie.Need-write-reply-requires
+write-reply-requires c κs = let a = c .before .before .before .before .before .before .before .before .before .before .before .before .before .args in reply-ready (a .client) (a .target) (tablesOf (a .counts .now) (a .clients .now) (a .links .now) (a .keys .now) (a .values .now) (a .log .now) [] []) (c .before .before .before .before .before .before .before .before .before .before .before .before .before .pre [] []) _ (c .before .before .before .before .before .client-word .ensures) (c .before .before .before .before .link-at .ensures) (c .before .before .content2 .given .1)
+
+returns : tie.Need-returns
+returns c writes reads = let a = c .before .before .before .before .before .before .before .before .before .before .before .args in link-empty (a .client) (a .target) (tablesOf (a .counts .now) (a .clients .now) (a .links .now) (a .keys .now) (a .values .now) (a .log .now) writes reads) (a .bytes .now) (c .before .before .link-at .ensures) (c .enum-told .given .1)
+
+returns-2 : tie.Need-returns-2
+returns-2 c writes reads = let a = c .before .before .before .before .before .before .before .before .before .before .before .before .before .before .before .before .before .args in link-request (a .client) (a .target) (tablesOf (a .counts .now) (a .clients .now) (a .links .now) (a .keys .now) (a .values .now) (a .log .now) writes reads) (a .bytes .now) (c .before .before .before .before .before .before .before .before .link-at .ensures) _ (c .before .before .before .before .before .before .content .given .1) (c .before .before .before .before .before .before .before .before .before .client-word .ensures) (c .before .before .before .before .request-message .ensures) (c .before .before .write-alone .ensures)
+
+returns-3 : tie.Need-returns-3
+returns-3 c writes reads = let a = c .before .before .before .before .before .before .before .before .before .before .before .before .before .before .before .before .args in link-reply (a .client) (a .target) (tablesOf (a .counts .now) (a .clients .now) (a .links .now) (a .keys .now) (a .values .now) (a .log .now) writes reads) (a .bytes .now) (c .before .before .before .before .before .before .before .link-at .ensures) _ (c .before .before .before .before .before .content2 .given .1) (c .before .before .before .before .before .before .before .before .client-word .ensures) (c .before .before .write-reply .ensures (a .clients .now) (a .links .now) writes reads)
+
+pub write-link-spec : {M : Type 1} → statement M
+write-link-spec =
+    tie.close
+    (tie.spec client-word-requires link-at-requires cast-from cast-to (λ c. search needs) (λ c. search needs) (λ c κs. search needs) (λ c κs. search needs) (λ c. search needs) write-reply-requires returns (λ c. search needs) returns-2 (λ c. search needs) returns-3)

@@ -1,0 +1,39 @@
+-- `wire::write_reply` meets its contract: one case law for each state.
+use native.Mathlib.Omega.{arith}
+use Rattle.tables.specs.Tables.{tablesOf}
+use Rattle.wire.specs.Cases.{reply-done, reply-entered, reply-keys, reply-got, reply-everything}
+use borrow.Author.Needs.{needs}
+use Rattle.wire.proofs.write_reply.Statement.{statement}
+use Rattle.wire.proofs.write_reply.Tie as tie
+
+returns : tie.Need-returns
+returns c clients links writes reads = let a = c .before .before .before .before .before .before .before .before .before .before .args in reply-done (a .state) (a .number) (a .client) (a .target) (tablesOf (a .counts .now) clients links (a .keys .now) (a .values .now) (a .log .now) writes reads) (a .bytes .now) (c .before .before .before .before .if1 .taken) (c .before .before .write-alone .ensures)
+
+cast-t17 : tie.Need-cast-t17
+cast-t17 c = record { fits = omega (arith, c .before .before .before .before .before .before .before .pre .entered (c .if2 .taken)) }
+
+returns-2 : tie.Need-returns-2
+returns-2 c clients links writes reads = let a = c .before .before .before .before .before .before .before .before .before .before .before .args in reply-entered (a .state) (a .number) (a .client) (a .target) (tablesOf (a .counts .now) clients links (a .keys .now) (a .values .now) (a .log .now) writes reads) (a .bytes .now) (c .before .before .before .before .before .if1 .left) (c .before .before .before .before .if2 .taken) (c .before .before .write-alone2 .ensures)
+
+count-at-requires : tie.Need-count-at-requires
+count-at-requires c κs = omega (arith, c .before .before .before .before .before .before .before .before .pre .counted)
+
+write-keys-requires : tie.Need-write-keys-requires
+write-keys-requires c κs = (c .before .before .before .before .before .before .before .before .before .before .pre .keyed (c .before .before .if3 .taken), omega (arith, c .before .count-at .ensures, c .before .before .before .before .before .before .before .before .before .before .pre .servers))
+
+returns-3 : tie.Need-returns-3
+returns-3 c clients links writes reads = let a = c .before .before .before .before .before .before .before .before .before .before .before .before .before .args in reply-keys (a .state) (a .number) (a .client) (a .target) (tablesOf (a .counts .now) clients links (a .keys .now) (a .values .now) (a .log .now) writes reads) (a .bytes .now) (c .before .before .before .before .before .before .before .if1 .left) (c .before .before .before .before .before .before .if2 .left) (c .before .before .before .before .count-at .ensures) (c .before .before .before .before .before .if3 .taken) (c .before .before .write-keys .ensures)
+
+returns-4 : tie.Need-returns-4
+returns-4 c clients links writes reads = let a = c .before .before .before .before .before .before .before .before .before .before .before .before .before .args in reply-got (a .state) (a .number) (a .client) (a .target) (tablesOf (a .counts .now) clients links (a .keys .now) (a .values .now) (a .log .now) writes reads) (a .bytes .now) (c .before .before .before .before .before .before .before .if1 .left) (c .before .before .before .before .before .before .if2 .left) (c .before .before .before .before .before .if3 .left) (c .before .before .before .before .if4 .taken) (c .before .before .write-alone3 .ensures)
+
+write-everything-requires : tie.Need-write-everything-requires
+write-everything-requires c κs = c .before .before .before .before .before .before .before .before .before .before .pre .everything (record { not-writing = c .before .before .before .before .if1 .left; not-entering = c .before .before .before .if2 .left; not-keys = c .before .before .if3 .left; not-setpoints = c .before .if4 .left })
+
+returns-5 : tie.Need-returns-5
+returns-5 c clients links writes reads = let a = c .before .before .before .before .before .before .before .before .before .before .before .before .before .args in reply-everything (a .state) (a .number) (a .client) (a .target) (tablesOf (a .counts .now) clients links (a .keys .now) (a .values .now) (a .log .now) writes reads) (a .bytes .now) (c .before .before .before .before .before .before .before .if1 .left) (c .before .before .before .before .before .before .if2 .left) (c .before .before .before .before .before .if3 .left) (c .before .before .before .before .if4 .left) (c .before .before .write-everything .ensures)
+
+pub write-reply-spec : {M : Type 1} → statement M
+write-reply-spec =
+    tie.close
+    (tie.spec (λ c κs. search needs) (λ c. search needs) returns cast-t17 (λ c κs. search needs) (λ c. search needs) returns-2 count-at-requires write-keys-requires (λ c. search needs) returns-3 (λ c κs. search needs) (λ c. search needs) returns-4 write-everything-requires (λ c. search needs) returns-5)

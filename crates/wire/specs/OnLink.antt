@@ -1,0 +1,66 @@
+-- The message that a link holds, as it crosses the wire: by the state of the client and what stands on the link. "Each link … holds nothing, a request or a reply with its contents."
+use Prim.Native.Nat.{ℕ, _-_}
+use mathlib.Core.Bool.{cond}
+use mathlib.Core.List.{List, []}
+use lib.Dec.{eqb}
+use Rattle.keys.specs.Keys.{keyWord}
+use Rattle.tables.specs.Rows.{wordAt}
+use Rattle.tables.specs.Layout.{entryWidth, entryMask, versionWord}
+use Rattle.tables.specs.Tables.{Tables, serversOf, stateOf, contentAt}
+use Rattle.tables.specs.declared.links.Contents.{Contents}
+use Rattle.tables.specs.declared.links.Content.{Content}
+use Rattle.tables.specs.declared.links.Content.the-variants.{Nothing, Request, Reply}
+use Rattle.coordinator.specs.Latest.{latestKey}
+use Rattle.rules.specs.Common.{writing, entering, askingKeys, askingSetpoints, coordinator}
+use Rattle.frames.specs.declared.Message.{Message}
+use Rattle.frames.specs.declared.Message.the-variants.{Set, SetDone, Enter, Entered, WhichKeys, Keys, Get, Got, GetAll, All, GetLog, Log}
+use Rattle.frames.specs.Lists.{built}
+
+-- what a link holds: nothing, or a message with the keys of its entries, as words, and their setpoints or masks
+pub data OnLink : Type 0 where
+  empty : OnLink
+  carries : Message → List ℕ → List ℕ → OnLink
+
+-- a message with no entries
+abbrev pub alone : Message → OnLink
+alone m = carries m [] []
+
+-- A request, by the state that sent it. State 1: set; 2: enter; 3: which keys; 4: get; 5: "C: ask all masked stations and the head together".
+unfoldable pub requestIn : ℕ → Contents → ℕ → ℕ → Message
+requestIn state w q i =
+    cond (eqb state writing) (Set q i (w .key) (w .number))
+    (cond (eqb state entering) (Enter q (w .key) (w .number))
+    (cond (eqb state askingKeys) (WhichKeys q)
+    (cond (eqb state askingSetpoints) (Get q i (w .key))
+    (cond (eqb i coordinator) (GetLog q) (GetAll q i)))))
+
+-- B: "its reply has the last tag and all k keys". The reply holds the number n of log entries at the moment of answering, so the last tag was n - 1.
+abbrev pub keysReply : ℕ → ℕ → ℕ → List ℕ → OnLink
+keysReply n q k log = carries (Keys q (n - 1) k) (built (λ i. keyWord (latestKey log i (n - 1))) k) []
+
+-- "C's replies hold the first n versions, or the first n log entries, of the moment of answering."
+abbrev pub allReply : ℕ → ℕ → ℕ → List ℕ → List ℕ → OnLink
+allReply n q i keys values = carries (All q i n) (built (versionWord keys i) n) (built (versionWord values i) n)
+
+abbrev pub logReply : ℕ → ℕ → List ℕ → OnLink
+logReply n q log = carries (Log q n) (built (λ tag. wordAt entryWidth log tag 0) n) (built (entryMask log) n)
+
+abbrev pub everythingReply : ℕ → ℕ → ℕ → List ℕ → List ℕ → List ℕ → OnLink
+everythingReply n q i keys values log = cond (eqb i coordinator) (logReply n q log) (allReply n q i keys values)
+
+-- A reply, by the state that gets it back; n is the number on the link. State 1: set done; 2: entered, with the tag; 3: keys; 4: got; 5: all or log.
+unfoldable pub replyIn : ℕ → ℕ → ℕ → ℕ → Tables → OnLink
+replyIn state n q i t =
+    cond (eqb state writing) (alone (SetDone q i))
+    (cond (eqb state entering) (alone (Entered q n))
+    (cond (eqb state askingKeys) (keysReply n q (serversOf t) (t .log))
+    (cond (eqb state askingSetpoints) (alone (Got q i n)) (everythingReply n q i (t .keys) (t .values) (t .log)))))
+
+abbrev pub onLinkBy : Content → ℕ → ℕ → Tables → OnLink
+onLinkBy Nothing q i t = empty
+onLinkBy (Request w) q i t = alone (requestIn (stateOf t q) w q i)
+onLinkBy (Reply w) q i t = replyIn (stateOf t q) (w .number) q i t
+
+-- what the link of client q and target i holds
+unfoldable pub onLink : ℕ → ℕ → Tables → OnLink
+onLink q i t = onLinkBy (contentAt t q i) q i t
