@@ -60,7 +60,8 @@ fn noted(word: Word, mask: u32) -> Shown
     }
 }
 
-fn plain(word: Word) -> Shown
+// The same where no client's mask stands beside it.
+pub fn plain(word: Word) -> Shown
     ensures { λ r. ⌜ r ≡ plainly word ⌝ }
 {
     noted(word, 0)

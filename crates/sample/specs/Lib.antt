@@ -1,3 +1,4 @@
--- The definitions that the contracts cite.
-pub mod Played
-pub mod PlayedLaws
+-- Document 01's sample, line by line, and its answers.
+pub mod Answers
+pub mod AnswerLaws
+pub mod Computed

@@ -1,89 +1,86 @@
-// Plays document 01's sample by the public steps, line by line, and prints the number and the answer of each line.
+// Plays document 01's sample by the public steps, and expects every answer of it: a proof stands behind each.
 ghost use mathlib.Core.Path.{_≡_};
-ghost use Prim.Native.Nat.{_≤_};
-ghost use lib.ListN.{length};
-ghost use Rattle.tables.specs.Tables.{Tables, tablesOf};
-ghost use Rattle.rules.specs.Answers.{left, arrived, answerSaid, arrivalSaid};
+ghost use Prim.Native.Nat.{_<_};
+ghost use Rattle.tables.specs.Tables.{tablesOf};
 ghost use Rattle.refusals.specs.Steps.{deliverReply};
-ghost use Rattle.sample.specs.Played.{wordSaid, shown, plainly, leftPlayed, arrivedPlayed, maskOf, played, lineLeaves};
+ghost use Rattle.playing.specs.Played.{showing, arrivedPlayed, maskOf, played};
+ghost use Rattle.sample.specs.Answers.{stepOf, givenAt, wordNumber, isAnswer};
 use libc::STDOUT_FILENO;
+use playing::Shown;
 use printing::Word;
-use rules::Answer;
-use rules::Arrival;
-use rules::Delivered;
 use schedule::Step;
-use tables::clients::MASK;
-use tables::clients::WIDTH;
 
-// What is printed of a step: its word; for a READ the mask and the setpoints of the servers.
-struct Shown {
-    word: Word,
-    mask: u32,
-    setpoints: [u32; 16],
+// The sample's lines: 0 is `O`, 1 `W`, 2 `R`, 3 `>`, 4 `<`; and the two numbers behind each. The opening's third number is 2 as well.
+const KINDS: [u32; 15] = [0, 1, 3, 2, 3, 3, 4, 4, 3, 4, 3, 4, 3, 4, 4];
+
+const FIRST: [u32; 15] = [2, 0, 0, 1, 1, 0, 0, 0, 0, 1, 1, 1, 1, 1, 0];
+
+const SECOND: [u32; 15] = [2, 3, 0, 3, 16, 1, 0, 1, 16, 16, 0, 0, 1, 1, 16];
+
+// The words that document 01 prints, as numbers, and the setpoints of stations 0 and 1: only line 14, the READ's end, shows some.
+const NUMBERS: [u64; 15] = [0, 0, 0, 0, 0, 0, 1, 2, 0, 2, 0, 1, 0, 2000, 1001];
+
+const SHOWN_FIRST: [u32; 15] = [0, 0, 0, 0, 0, 0, 0, 0, 0, 0, 0, 0, 0, 1200, 0];
+
+const SHOWN_SECOND: [u32; 15] = [0, 0, 0, 0, 0, 0, 0, 0, 0, 0, 0, 0, 0, 30, 0];
+
+// The step of a line.
+fn step_of(kind: u32, first: u32, second: u32) -> Step
+    ensures { λ r. ⌜ r ≡ stepOf kind first second ⌝ }
+{
+    if kind == 0 {
+        return Step::Open(first, second, 2);
+    }
+    if kind == 1 {
+        return Step::BeginWrite(first, second);
+    }
+    if kind == 2 {
+        return Step::BeginRead(first, second);
+    }
+    if kind == 3 {
+        return Step::Request(first, second);
+    }
+    Step::Reply(first, second)
 }
 
-// The word of an opening, a begin and a delivered request.
-fn answer_word(answer: Answer) -> Word
-    ensures { λ r. ⌜ wordSaid r ≡ answerSaid answer ⌝ }
+// The setpoints on line i: the opening's, and the WRITE's.
+fn given_at(i: usize) -> [u32; 2]
+    ensures { λ r. ⌜ r ≡ givenAt i ⌝ }
 {
-    match answer {
-        Answer::Ok => Word::Ok,
-        Answer::Refused(number) => Word::No(number as u32),
+    if i == 0 {
+        return [1200, 30];
+    }
+    [1800, 45]
+}
+
+// A word as a number, so that answers can be compared.
+fn word_number(word: Word) -> u64
+    ensures { λ r. ⌜ r ≡ wordNumber word ⌝ }
+{
+    match word {
+        Word::Ok => 0,
+        Word::Wait => 1,
+        Word::Next => 2,
+        Word::Write(tag) => 1000 + tag as u64,
+        Word::Read(tag) => 2000 + tag as u64,
+        Word::No(number) => 3000 + number as u64,
     }
 }
 
-// The word of a delivered reply.
-fn arrival_word(arrival: Arrival) -> Word
-    ensures { λ r. ⌜ wordSaid r ≡ arrivalSaid arrival ⌝ }
+// Whether a line's answer is document 01's.
+fn is_answer(i: usize, shown: Shown) -> bool
+    requires { ⌜ i < 15 ⌝ }
+    ensures { λ r. ⌜ r ≡ isAnswer i shown ⌝ }
 {
-    match arrival {
-        Arrival::Wait => Word::Wait,
-        Arrival::Next => Word::Next,
-        Arrival::Write(tag) => Word::Write(tag),
-        Arrival::Read(tag) => Word::Read(tag),
-        Arrival::Refused(number) => Word::No(number as u32),
+    let setpoints = shown.setpoints;
+    let word = shown.word;
+    if word_number(word) != NUMBERS[i] {
+        return false;
     }
-}
-
-// What is printed of a step that shows no setpoint.
-fn plain(word: Word) -> Shown
-    ensures { λ r. ⌜ r ≡ plainly word ⌝ }
-{
-    Shown {
-        word: word,
-        mask: 0,
-        setpoints: [0; 16],
+    if setpoints[0] != SHOWN_FIRST[i] {
+        return false;
     }
-}
-
-fn answered(answer: Answer) -> Shown
-    ensures { λ r. ⌜ ((t : Tables) → shown r t ≡ leftPlayed (left answer t)) ⌝ }
-{
-    plain(answer_word(answer))
-}
-
-// What is printed of a delivered reply; the mask is that of the client.
-fn arrived(delivered: Delivered, mask: u32) -> Shown
-    ensures { λ r. ⌜ ((t : Tables) → shown r t ≡ arrivedPlayed mask (arrived delivered t)) ⌝ }
-{
-    let setpoints = delivered.setpoints;
-    let arrival = delivered.arrival;
-    Shown {
-        word: arrival_word(arrival),
-        mask: mask,
-        setpoints: setpoints,
-    }
-}
-
-// The mask of a client; 0 where it has no row, so that any number may be asked.
-fn mask_of(clients: &[u32], client: u32) -> u32
-    ensures { λ r. ⌜ r ≡ maskOf (now (clients .entry)) client ⌝ }
-{
-    let row = client as usize;
-    if clients.len() / WIDTH <= row {
-        return 0;
-    }
-    tables::clients::client_word(clients, row, MASK)
+    setpoints[1] == SHOWN_SECOND[i]
 }
 
 // Delivers a reply, with the mask of its client beside the answer.
@@ -99,10 +96,10 @@ fn deliver_reply(
     client: u32,
     target: u32,
 ) -> Shown
-    ensures { λ r. ⌜ shown r (tablesOf (now (counts .exit)) (now (clients .exit)) (now (links .exit)) (now (keys .entry)) (now (values .entry)) (now (log .entry)) (now (writes .exit)) (now (reads .exit)))
+    ensures { λ r. ⌜ showing r (tablesOf (now (counts .exit)) (now (clients .exit)) (now (links .exit)) (now (keys .entry)) (now (values .entry)) (now (log .entry)) (now (writes .exit)) (now (reads .exit)))
         ≡ arrivedPlayed (maskOf (now (clients .entry)) client) (deliverReply client target (tablesOf (now (counts .entry)) (now (clients .entry)) (now (links .entry)) (now (keys .entry)) (now (values .entry)) (now (log .entry)) (now (writes .entry)) (now (reads .entry)))) ⌝ }
 {
-    let mask = mask_of(&*clients, client);
+    let mask = playing::mask_of(&*clients, client);
     let delivered = store::deliver_reply(
         counts,
         clients,
@@ -115,10 +112,10 @@ fn deliver_reply(
         client,
         target,
     );
-    arrived(delivered, mask)
+    playing::arrived(delivered, mask)
 }
 
-// One step on the tables.
+// One step, by the public function.
 fn play_step(
     counts: &mut [u32],
     clients: &mut [u32],
@@ -131,12 +128,12 @@ fn play_step(
     step: Step,
     setpoints: &[u32],
 ) -> Shown
-    ensures { λ r. ⌜ shown r (tablesOf (now (counts .exit)) (now (clients .exit)) (now (links .exit)) (now (keys .exit)) (now (values .exit)) (now (log .exit)) (now (writes .exit)) (now (reads .exit)))
+    ensures { λ r. ⌜ showing r (tablesOf (now (counts .exit)) (now (clients .exit)) (now (links .exit)) (now (keys .exit)) (now (values .exit)) (now (log .exit)) (now (writes .exit)) (now (reads .exit)))
         ≡ played step (now (setpoints .entry)) (tablesOf (now (counts .entry)) (now (clients .entry)) (now (links .entry)) (now (keys .entry)) (now (values .entry)) (now (log .entry)) (now (writes .entry)) (now (reads .entry))) ⌝ }
 {
     match step {
-        Step::Unreadable => plain(Word::No(13)),
-        Step::Open(method, servers, panels) => answered(store::open(
+        Step::Unreadable => playing::plain(Word::No(13)),
+        Step::Open(method, servers, panels) => playing::answered(store::open(
             counts,
             clients,
             links,
@@ -150,7 +147,7 @@ fn play_step(
             panels,
             setpoints,
         )),
-        Step::BeginWrite(client, mask) => answered(store::begin_write(
+        Step::BeginWrite(client, mask) => playing::answered(store::begin_write(
             counts,
             clients,
             links,
@@ -163,7 +160,7 @@ fn play_step(
             mask,
             setpoints,
         )),
-        Step::BeginRead(client, mask) => answered(store::begin_read(
+        Step::BeginRead(client, mask) => playing::answered(store::begin_read(
             counts,
             clients,
             links,
@@ -175,7 +172,7 @@ fn play_step(
             client,
             mask,
         )),
-        Step::Request(client, target) => answered(store::deliver_request(
+        Step::Request(client, target) => playing::answered(store::deliver_request(
             counts,
             &*clients,
             links,
@@ -202,67 +199,20 @@ fn play_step(
     }
 }
 
-// Prints the answer of a line.
-fn print_line(number: u64, shown: Shown) {
-    let mut out = [0u8; 300];
-    let setpoints = shown.setpoints;
-    let word = shown.word;
-    let end = printing::print_answer(number, word, shown.mask, &setpoints, &mut out, 0);
-    io::write_all(STDOUT_FILENO, &out[..end]);
-}
-
-// Plays a line: the step that it names, and its answer in print.
-fn play_line(
-    counts: &mut [u32],
-    clients: &mut [u32],
-    links: &mut [u32],
-    keys: &mut [u32],
-    values: &mut [u32],
-    log: &mut [u32],
-    writes: &mut [u32],
-    reads: &mut [u32],
-    number: u64,
-    line: &[u8],
-)
-    ensures { λ _. ⌜ tablesOf (now (counts .exit)) (now (clients .exit)) (now (links .exit)) (now (keys .exit)) (now (values .exit)) (now (log .exit)) (now (writes .exit)) (now (reads .exit))
-        ≡ lineLeaves (now (line .entry)) (tablesOf (now (counts .entry)) (now (clients .entry)) (now (links .entry)) (now (keys .entry)) (now (values .entry)) (now (log .entry)) (now (writes .entry)) (now (reads .entry))) ⌝ }
-{
-    let mut setpoints = [0u32; 97];
-    let reading = schedule::read_step(line, &mut setpoints);
-    let step = reading.step;
-    let given = reading.setpoints;
-    let shown = play_step(
-        counts,
-        clients,
-        links,
-        keys,
-        values,
-        log,
-        writes,
-        reads,
-        step,
-        &setpoints[..given],
-    );
-    print_line(number, shown);
-}
-
-// Plays a text line by line on tables that are all 0. A short text, so that places and line numbers stay small.
-fn play_text(text: &[u8])
-    requires { ⌜ length (now text) ≤ 4096 ⌝ }
-{
+// The sample's lines, each answered as document 01 prints it.
+fn main() {
     let mut counts = [0u32; 23];
-    let mut clients = [0u32; 608];
-    let mut links = [0u32; 816];
-    let mut keys = [0u32; 4096];
-    let mut values = [0u32; 4096];
+    let mut clients = [0u32; 76];
+    let mut links = [0u32; 102];
+    let mut keys = [0u32; 512];
+    let mut values = [0u32; 512];
     let mut log = [0u32; 512];
     let mut writes = [0u32; 1275];
     let mut reads = [0u32; 1275];
-    let mut number: u64 = 1;
-    let mut at: usize = 0;
-    while at < text.len() {
-        let line = schedule::line_at(text, at);
-        play_line(
+    let mut i: usize = 0;
+    while i < 15 {
+        let given = given_at(i);
+        let shown = play_step(
             &mut counts,
             &mut clients,
             &mut links,
@@ -271,17 +221,11 @@ fn play_text(text: &[u8])
             &mut log,
             &mut writes,
             &mut reads,
-            number,
-            line,
+            step_of(KINDS[i], FIRST[i], SECOND[i]),
+            &given,
         );
-        at = at + line.len() + 1;
-        number += 1;
+        check::expect(is_answer(i, shown));
+        i += 1;
     }
-}
-
-// The sample.
-fn main() {
-    play_text(
-        b"O 2 2 2 1200 30\nW 0 3 1800 45\n> 0 0\nR 1 3\n> 1 16\n> 0 1\n< 0 0\n< 0 1\n> 0 16\n< 1 16\n> 1 0\n< 1 0\n> 1 1\n< 1 1\n< 0 16\n",
-    );
+    io::write_all(STDOUT_FILENO, b"15 answers, as document 01 has them\n");
 }

@@ -1,5 +1,5 @@
 -- What is shown is the answer of the public step, with the mask as it was.
-use Rattle.sample.specs.PlayedLaws.{arrived-played}
+use Rattle.playing.specs.PlayedLaws.{arrived-played}
 use borrow.Author.Needs.{needs}
 use Rattle.sample.proofs.deliver_reply.Statement.{statement}
 use Rattle.sample.proofs.deliver_reply.Tie as tie
