@@ -1,0 +1,5 @@
+-- The register's order is the row's order.
+pub mod Order
+pub mod Lists
+pub mod Agreement
+pub mod Grown
