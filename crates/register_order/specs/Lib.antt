@@ -3,3 +3,4 @@ pub mod Order
 pub mod Lists
 pub mod Agreement
 pub mod Grown
+pub mod Laws
