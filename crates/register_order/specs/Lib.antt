@@ -4,3 +4,4 @@ pub mod Lists
 pub mod Agreement
 pub mod Grown
 pub mod Laws
+pub mod Begins
