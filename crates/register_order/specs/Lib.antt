@@ -5,3 +5,4 @@ pub mod Agreement
 pub mod Grown
 pub mod Laws
 pub mod Begins
+pub mod Requests
