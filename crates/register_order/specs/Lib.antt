@@ -6,3 +6,5 @@ pub mod Grown
 pub mod Laws
 pub mod Begins
 pub mod Requests
+pub mod Replies
+pub mod Theorem
