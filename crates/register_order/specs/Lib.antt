@@ -1,5 +1,6 @@
 -- The register's order is the row's order.
 pub mod Order
+pub mod Sample
 pub mod Lists
 pub mod Agreement
 pub mod Grown
