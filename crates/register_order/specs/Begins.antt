@@ -1,23 +1,21 @@
 -- Begins keep the tie: the record stands in the next place, and the step's number is the transaction's begin.
-use Prim.Native.Nat.{ℕ, suc, _+_, _≤_, _<_}
+use Prim.Native.Nat.{ℕ, suc, _+_, _<_}
 use mathlib.Core.Path.{_≡_, refl, _∙_, subst}
-use mathlib.Core.Bool.{true, false}
+use mathlib.Core.Bool.{true}
 use mathlib.Core.List.{List, [], _∷_}
 use native.Mathlib.Omega.{arith}
 use native.Mathlib.Numerals.{add-one}
 use lib.ListN.{getD}
 use lib.Dec.{eqb}
 use Rattle.ranges.specs.Tests.{either}
-use Rattle.tables.specs.Rows.{HasRow}
 use Rattle.tables.specs.Layout.{clientWidth, clientWord, stateField, countField, maskField, tagField, recordField, setpointsField, entriesField, writesField, readsField, putBegun}
-use Rattle.tables.specs.Tables.{Tables, methodOf, serversOf, clientsOf, stepOf, entriesOf, writesOf, readsOf, stateOf, recordOf}
+use Rattle.tables.specs.Tables.{Tables, methodOf, serversOf, clientsOf, stepOf, entriesOf, writesOf, readsOf}
 use Rattle.rules.specs.Common.{askingKeys, askingSetpoints, askingAll}
 use Rattle.rules.specs.Common as rules
-use Rattle.rules.specs.Begin.{nextCount, begunWrite, Asking, askingByA, askingByB, askingByC, askingBy, lastTag, begunReadWith, begunRead}
+use Rattle.rules.specs.Begin.{nextCount, begunWrite, Asking, askingBy, lastTag, begunRead}
 use Rattle.soundness.specs.Sound.{isReading}
 use Rattle.refusals.specs.Refusals.{writeRefusal, readRefusal}
 use Rattle.keeping.specs.Accepted.{writable, readable}
-use Rattle.keeping.specs.Frame.{Kept}
 use Rattle.keeping.specs.Begins.{begun-other, begun-more, begun-step}
 use Rattle.keeping.specs.BeginWrite.{begunWrite-kept}
 use Rattle.keeping.specs.BeginRead.{begunRead-kept}

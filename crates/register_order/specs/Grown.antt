@@ -5,26 +5,25 @@ use mathlib.Core.Bool.{Bool, true, false}
 use mathlib.Core.Option.{Option, none, some}
 use mathlib.Core.List.{List, [], _∷_, _++_}
 use native.Mathlib.Omega.{arith}
-use lib.ListN.{length, getD, length-append, List·getD-append}
+use lib.ListN.{length, length-append, List·getD-append}
 use lib.Seq.{getD-append-add}
 use Rattle.ranges.specs.Tests.{by-equal, not-both}
-use Rattle.tables.specs.Rows.{HasRow, word-same, word-other, word-length}
+use Rattle.tables.specs.Rows.{HasRow, word-other}
 use Rattle.tables.specs.Layout.{recordWidth, recordWord, clientOfRecord, numberOfRecord, tagOfRecord, beginOfRecord, endOfRecord, clientWidth, clientWord, stateField, recordField, putBegun}
 use Rattle.tables.specs.Links.{linkWidth}
-use Rattle.tables.specs.Tables.{Tables, clientsOf, writesOf, readsOf, stateOf, recordOf}
+use Rattle.tables.specs.Tables.{Tables, stateOf, recordOf}
 use Rattle.rules.specs.Common.{idle, entering, coordinator, endedRecord, taggedRecord}
 use Rattle.rules.specs.Common as rules
 use Rattle.soundness.specs.Sound.{isWriting, isReading}
-use Rattle.soundness.specs.Facts.{Sound}
 use Rattle.keeping.specs.Links.{linkWord, kindOn, numberOn}
 use Rattle.keeping.specs.Records.{begun-word, tagged-other}
-use Rattle.listing.specs.Register.{isFinished, endIn, byEndBelow}
+use Rattle.listing.specs.Register.{endIn, byEndBelow}
 use Rattle.listing.specs.Places.{each-by-end}
 use Rattle.listing.specs.Records.{read-begun, read-ended}
 use Rattle.serial.specs.History.{Transaction, Doing, nothing, reading, ended}
-use Rattle.register_order.specs.Order.{Entry, entry, ofRecord, numberAt, endNumber, told}
+use Rattle.register_order.specs.Order.{Particulars, ofRecord, numberAt, endNumber}
 use Rattle.register_order.specs.Lists.{both-append, both-map}
-use Rattle.register_order.specs.Agreement.{EndKnown, Tells, OneWrite, readEntry, ReadsTold, Untagged, Tagged, Reading, Activity}
+use Rattle.register_order.specs.Agreement.{EndKnown, Tells, OneWrite, ofRead, ReadsTold, Untagged, Tagged, Reading, Activity}
 
 -- ---- the step numbers, with one more
 
@@ -35,11 +34,11 @@ module _ (numbers : List ℕ) (n : ℕ) where
   pub more-length : length more ≡ suc (length numbers)
   more-length = omega (arith, length-append numbers (n ∷ []))
 
-  pub number-more : (clock : ℕ) → clock < length numbers → numberAt more clock ≡ numberAt numbers clock
-  number-more clock h = List·getD-append numbers (n ∷ []) 0 clock h
-
   pub number-last : numberAt more (length numbers) ≡ n
   number-last = let e : length numbers + 0 ≡ length numbers = omega arith in rw e at (getD-append-add numbers (n ∷ []) 0 0)
+
+  pub number-more : (clock : ℕ) → clock < length numbers → numberAt more clock ≡ numberAt numbers clock
+  number-more clock h = List·getD-append numbers (n ∷ []) 0 clock h
 
   end-more : (end : Option ℕ) → EndKnown (length numbers) end → endNumber more end ≡ endNumber numbers end
   end-more none k = refl
@@ -49,11 +48,11 @@ module _ (numbers : List ℕ) (n : ℕ) where
   known-more none k = tt
   known-more (some clock) k = omega (arith, more-length)
 
-  pub tells-more : (x : Transaction) (e : Entry) → Tells numbers x e → Tells more x e
+  pub tells-more : (x : Transaction) (e : Particulars) → Tells numbers x e → Tells more x e
   tells-more x e r =
       record { is = rw (number-more (x .begin) (r .begun), end-more (x .end) (r .ended)) (r .is); begun = omega (arith, more-length, r .begun); ended = known-more (x .end) (r .ended) }
 
-pub tells-as : (numbers : List ℕ) (x : Transaction) {e e′ : Entry} → e′ ≡ e → Tells numbers x e → Tells numbers x e′
+pub tells-as : (numbers : List ℕ) (x : Transaction) {e e′ : Particulars} → e′ ≡ e → Tells numbers x e → Tells numbers x e′
 tells-as numbers x same r = record { is = r .is ∙ sym same; begun = r .begun; ended = r .ended }
 
 -- ---- records that a step leaves, all but one
@@ -61,13 +60,14 @@ tells-as numbers x same r = record { is = r .is ∙ sym same; begun = r .begun; 
 abbrev pub But : List ℕ → List ℕ → ℕ → Type 0
 But records records′ here = (place f : ℕ) → f < recordWidth → (place ≡ here → ⊥) → recordWord records′ place f ≡ recordWord records place f
 
+-- a record that stays
 abbrev pub Alike : List ℕ → List ℕ → ℕ → Type 0
 Alike records records′ place = (f : ℕ) → f < recordWidth → recordWord records′ place f ≡ recordWord records place f
 
 pub of-alike : (isWrite : Bool) (mask : ℕ) (records records′ : List ℕ) (place : ℕ) → Alike records records′ place → ofRecord isWrite mask records′ place ≡ ofRecord isWrite mask records place
 of-alike isWrite mask records records′ place w = rw (w tagOfRecord (omega arith), w clientOfRecord (omega arith), w beginOfRecord (omega arith), w endOfRecord (omega arith))
 
-pub read-alike : (records records′ : List ℕ) (place : ℕ) → Alike records records′ place → readEntry records′ place ≡ readEntry records place
+pub read-alike : (records records′ : List ℕ) (place : ℕ) → Alike records records′ place → ofRead records′ place ≡ ofRead records place
 read-alike records records′ place w = rw (w numberOfRecord (omega arith)) (of-alike false (recordWord records place numberOfRecord) records records′ place w)
 
 pub begun-but : (records : List ℕ) (begun q number step : ℕ) → But records (putBegun records begun q number step) begun
@@ -98,11 +98,11 @@ one-more writes begun numbers tag x n o = record { place = o .place; within = o 
 
 module _ (reads : List ℕ) (begun : ℕ) (numbers : List ℕ) (xs : List Transaction) (r : ReadsTold reads begun numbers xs) where
   abbrev told-by : ℕ → Transaction → Type 0
-  told-by place x = Tells numbers x (readEntry reads place)
+  told-by place x = Tells numbers x (ofRead reads place)
 
   pub reads-more : (n : ℕ) → ReadsTold reads begun (more numbers n) xs
   reads-more n =
-      both-map told-by (λ place x. Tells (more numbers n) x (readEntry reads place)) (λ place. Unit {0}) (λ place x u y. tells-more numbers n x (readEntry reads place) y)
+      both-map told-by (λ place x. Tells (more numbers n) x (ofRead reads place)) (λ place. Unit {0}) (λ place x u y. tells-more numbers n x (ofRead reads place) y)
       (byEndBelow reads begun) xs (each-by-end (λ place. Unit {0}) reads begun (λ place l f. tt)) r
 
   -- a READ begun is not listed yet
@@ -110,19 +110,19 @@ module _ (reads : List ℕ) (begun : ℕ) (numbers : List ℕ) (xs : List Transa
   reads-begun q number step room =
       let reads′ = putBegun reads begun q number step in
       rw (read-begun reads begun q number step room)
-      (both-map told-by (λ place x. Tells numbers x (readEntry reads′ place)) (λ place. place < begun)
+      (both-map told-by (λ place x. Tells numbers x (ofRead reads′ place)) (λ place. place < begun)
       (λ place x l y. tells-as numbers x (read-alike reads reads′ place (λ f h. begun-but reads begun q number step place f h (λ e. omega arith))) y)
       (byEndBelow reads begun) xs (each-by-end (λ place. place < begun) reads begun (λ place l f. l)) r)
 
   -- a READ that ends is listed behind all others
   pub reads-ended : (place tag step : ℕ) → place < begun → HasRow recordWidth reads place → endIn reads place ≡ 0 → ((i : ℕ) → i < begun → endIn reads i < step) →
-      (x : Transaction) → Tells numbers x (readEntry (endedRecord place step (taggedRecord place tag reads)) place) →
+      (x : Transaction) → Tells numbers x (ofRead (endedRecord place step (taggedRecord place tag reads)) place) →
       ReadsTold (endedRecord place step (taggedRecord place tag reads)) begun numbers (xs ++ (x ∷ []))
   reads-ended place tag step inside room open′ later x new =
       let reads′ = endedRecord place step (taggedRecord place tag reads) in
       rw (read-ended reads place begun inside room tag step open′ later)
-      (both-append (λ p y. Tells numbers y (readEntry reads′ p)) (byEndBelow reads begun) xs place x
-      (both-map told-by (λ p y. Tells numbers y (readEntry reads′ p)) (λ p. p ≡ place → ⊥)
+      (both-append (λ p y. Tells numbers y (ofRead reads′ p)) (byEndBelow reads begun) xs place x
+      (both-map told-by (λ p y. Tells numbers y (ofRead reads′ p)) (λ p. p ≡ place → ⊥)
       (λ p y d u. tells-as numbers y (read-alike reads reads′ p (λ f h. ended-but (taggedRecord place tag reads) place step p f h d ∙ tagged-but reads place tag p f h d)) u)
       (byEndBelow reads begun) xs (each-by-end (λ p. p ≡ place → ⊥) reads begun (λ p l f e. not-both f (rw (e, open′)))) r)
       new)

@@ -1,15 +1,15 @@
 -- The laws of the step: one for each way in which a step changes the records. Whatever else it changes is the step's client's own.
 use Prim.Native.Nat.{ℕ, suc, _+_, _≤_, _<_}
 use mathlib.Core.Path.{_≡_, refl, sym, ap, _∙_}
-use mathlib.Core.Bool.{true, false}
-use mathlib.Core.Option.{none, some}
-use mathlib.Core.List.{List, [], _∷_, _++_}
+use mathlib.Core.Bool.{true}
+use mathlib.Core.Option.{none}
+use mathlib.Core.List.{List, [], _∷_}
 use native.Mathlib.Omega.{arith}
 use lib.ListN.{length, getD}
 use lib.Dec.{eqb}
 use borrow.Author.Tests.{eqb-true}
 use Rattle.ranges.specs.Tests.{by-equal, both-right}
-use Rattle.tables.specs.Rows.{HasRow, word-same, word-other, word-length}
+use Rattle.tables.specs.Rows.{HasRow, word-same, word-length}
 use Rattle.tables.specs.Layout.{recordPlaces, recordWidth, recordWord, clientOfRecord, numberOfRecord, tagOfRecord, beginOfRecord, endOfRecord, putBegun}
 use Rattle.tables.specs.Tables.{Tables, clientsOf, stepOf, entriesOf, writesOf, readsOf, stateOf, recordOf}
 use Rattle.rules.specs.Common.{idle, entering, coordinator, endedRecord, taggedRecord}
@@ -22,9 +22,9 @@ use Rattle.keeping.specs.Frame.{Kept}
 use Rattle.keeping.specs.Links.{kindOn, numberOn}
 use Rattle.listing.specs.Register.{endIn}
 use Rattle.serial.specs.History.{changed, Transaction, Doing, nothing, writing, tagged, reading, History, historyOf, passed, turned, writeOf, readOf, given, wrote, showed, ended}
-use Rattle.serial.proofs.Places.{changed-same, changed-other, changed-all}
-use Rattle.register_order.specs.Order.{Entry, entry, ofRecord, numberAt, told}
-use Rattle.register_order.specs.Agreement.{Tells, OneWrite, Untagged, Tagged, Reading, Activity, Agrees, readEntry}
+use Rattle.serial.proofs.Places.{changed-other, changed-all}
+use Rattle.register_order.specs.Order.{Particulars, particulars, ofRecord, numberAt}
+use Rattle.register_order.specs.Agreement.{Tells, OneWrite, Untagged, Reading, Activity, Agrees, ofRead}
 use Rattle.register_order.specs.Grown.{more, more-length, number-more, number-last, tells-more, tells-as, But, Alike, begun-but, tagged-but, ended-but, one-but, one-more, reads-more, reads-begun, reads-ended, be-idle, be-storing, be-tagged, be-reading, activity-on}
 
 -- what a step of client q leaves of the others' records in progress
@@ -282,8 +282,8 @@ module _ (t t′ : Tables) (h : History) (numbers : List ℕ) (a : Agrees t h nu
   -- a WRITE ends
   module _ (w : isWriting (stateOf t q) ≡ true) (tag : ℕ) (some-tag : 1 ≤ tag) (logged : tag ≤ h .tags) (bears-tag : recordWord (t .writes) (recordOf t q) tagOfRecord ≡ tag)
       (ends : t′ .writes ≡ endedRecord (recordOf t q) step′ (t .writes)) (same-reads : t′ .reads ≡ t .reads) (c : Counts t t′ (entriesOf t) (writesOf t) (readsOf t)) (state : stateOf t′ q ≡ idle) where
-    abbrev ending : Entry → Entry
-    ending e = entry (e .isWrite) (e .tag) (e .client) (e .mask) (e .begin) step′
+    abbrev ending : Particulars → Particulars
+    ending e = particulars (e .isWrite) (e .tag) (e .client) (e .mask) (e .begin) step′
 
     abbrev own-record : ℕ
     own-record = recordOf t q
@@ -303,13 +303,13 @@ module _ (t t′ : Tables) (h : History) (numbers : List ℕ) (a : Agrees t h nu
     was-here : own-record ≡ was .place
     was-here = was .unique own-record (write-open t (a .sound) q client w .within) bears-tag
 
-    end-entry : ofRecord true 0 (t′ .writes) own-record ≡ ending (ofRecord true 0 (t .writes) own-record)
-    end-entry = rw (end-here, end-beside own-record tagOfRecord (omega arith) (λ e. omega arith), end-beside own-record clientOfRecord (omega arith) (λ e. omega arith), end-beside own-record beginOfRecord (omega arith) (λ e. omega arith))
+    end-particulars : ofRecord true 0 (t′ .writes) own-record ≡ ending (ofRecord true 0 (t .writes) own-record)
+    end-particulars = rw (end-here, end-beside own-record tagOfRecord (omega arith) (λ e. omega arith), end-beside own-record clientOfRecord (omega arith) (λ e. omega arith), end-beside own-record beginOfRecord (omega arith) (λ e. omega arith))
 
     end-tells : Tells numbers′ (ended (h .clock) (h .write tag)) (ofRecord true 0 (t′ .writes) own-record)
     end-tells =
         let before = tells-more numbers step′ (h .write tag) _ (tells-as numbers (h .write tag) (ap (ofRecord true 0 (t .writes)) was-here) (was .tells)) in
-        record { is = rw number-now (ap ending (before .is)) ∙ sym end-entry; begun = before .begun; ended = now-known }
+        record { is = rw number-now (ap ending (before .is)) ∙ sym end-particulars; begun = before .begun; ended = now-known }
 
     end-one : OneWrite (t′ .writes) (writesOf t) numbers′ tag (ended (h .clock) (h .write tag))
     end-one = record {
@@ -367,7 +367,7 @@ module _ (t t′ : Tables) (h : History) (numbers : List ℕ) (a : Agrees t h nu
     abbrev finished : Transaction
     finished = readOf q (r .mask) shown tag (r .begin) (h .clock) (suc (r .deliveries))
 
-    over-tells : Tells numbers′ finished (readEntry (t′ .reads) read-place)
+    over-tells : Tells numbers′ finished (ofRead (t′ .reads) read-place)
     over-tells = record {
       is = sym (rw (
         over-tag,

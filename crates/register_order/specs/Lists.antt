@@ -1,7 +1,7 @@
 -- Places of records beside transactions, one for one: what holds of each two of them, and what it says of those of a tag.
 use Prim.Native.Nat.{ℕ}
 use mathlib.Core.Path.{_≡_, refl, ap₂}
-use mathlib.Core.Bool.{Bool, true, false}
+use mathlib.Core.Bool.{Bool}
 use mathlib.Core.List.{List, [], _∷_, _++_, map}
 use lib.Dec.{eqb}
 use Rattle.ranges.specs.Tests.{by-test}
@@ -9,7 +9,7 @@ use Rattle.listing.specs.Register.{passing}
 use Rattle.listing.specs.Places.{Each}
 use Rattle.serial.specs.History.{Transaction}
 use Rattle.serial.specs.Row.{readsOf}
-use Rattle.register_order.specs.Order.{Entry}
+use Rattle.register_order.specs.Order.{Particulars}
 
 abbrev pub Both : (ℕ → Transaction → Type 0) → List ℕ → List Transaction → Type 0
 Both R [] [] = Unit {0}
@@ -33,7 +33,7 @@ module _ (R : ℕ → Transaction → Type 0) where
 
   -- the places that bear a tag beside the READs of that tag
   module _ (tag : ℕ) (test : ℕ → Bool) (same-test : (place : ℕ) (x : Transaction) → R place x → test place ≡ eqb (x .tag) tag)
-      (f : ℕ → Entry) (g : Transaction → Entry) (same : (place : ℕ) (x : Transaction) → R place x → f place ≡ g x) where
+      (f : ℕ → Particulars) (g : Transaction → Particulars) (same : (place : ℕ) (x : Transaction) → R place x → f place ≡ g x) where
     pub both-of-tag : (places : List ℕ) (xs : List Transaction) → Both R places xs → map f (passing test places) ≡ map g (readsOf tag xs)
     unfolding passing readsOf
     both-of-tag [] [] b = refl
@@ -42,5 +42,5 @@ module _ (R : ℕ → Transaction → Type 0) where
     both-of-tag (p ∷ ps) (y ∷ ys) b =
         let rest = both-of-tag ps ys (b .1) in
         by-test (eqb (y .tag) tag)
-        (λ e. rw (same-test p y (b .0), e) (ap₂ {C = List Entry} (λ (x : Entry) (l : List Entry). x ∷ l) (same p y (b .0)) rest))
+        (λ e. rw (same-test p y (b .0), e) (ap₂ {C = List Particulars} (λ (x : Particulars) (l : List Particulars). x ∷ l) (same p y (b .0)) rest))
         (λ e. rw (same-test p y (b .0), e) rest)

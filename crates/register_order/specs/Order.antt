@@ -1,4 +1,4 @@
--- "The register's order is the row's order": what of a line of the register and of a transaction of the row must agree, and the claim over every list of steps.
+-- The register's order is the row's order: what a line of the register and a transaction of the row must agree in, and the claim over every list of steps.
 use Prim.Native.Nat.{ℕ}
 use mathlib.Core.Path.{_≡_}
 use mathlib.Core.Bool.{Bool, true, false, cond}
@@ -16,8 +16,8 @@ use Rattle.serial.specs.Row.{row}
 use Rattle.serial.specs.Consequences.{accepted}
 
 -- "each WRITE's panel, count, tag, begin and end step; each READ's panel, mask, tag, begin, end": what the register and the row both say of a transaction.
--- A WRITE's mask is in no line of the register, and its count in no answer; an end that is not yet is 0.
-pub record Entry : Type 0 where
+-- A WRITE's mask is in no line of the register and its count in no answer, so its mask is left as 0; an end that is not yet is 0.
+pub record Particulars : Type 0 where
   pub isWrite : Bool
   pub tag : ℕ
   pub client : ℕ
@@ -25,20 +25,22 @@ pub record Entry : Type 0 where
   pub begin : ℕ
   pub end : ℕ
 
-abbrev pub entry : Bool → ℕ → ℕ → ℕ → ℕ → ℕ → Entry
-entry isWrite tag client mask begin end = record { isWrite = isWrite; tag = tag; client = client; mask = mask; begin = begin; end = end }
+abbrev pub particulars : Bool → ℕ → ℕ → ℕ → ℕ → ℕ → Particulars
+particulars isWrite tag client mask begin end = record { isWrite = isWrite; tag = tag; client = client; mask = mask; begin = begin; end = end }
 
 -- ---- the register: "The register lists by tag: the WRITE of a tag, finished or not, then finished READs of that tag by end step"
 
-abbrev pub ofRecord : Bool → ℕ → List ℕ → ℕ → Entry
+-- a record's words
+abbrev pub ofRecord : Bool → ℕ → List ℕ → ℕ → Particulars
 ofRecord isWrite mask records place =
-    entry isWrite (recordWord records place tagOfRecord) (recordWord records place clientOfRecord) mask (recordWord records place beginOfRecord) (recordWord records place endOfRecord)
+    particulars isWrite (recordWord records place tagOfRecord) (recordWord records place clientOfRecord) mask (recordWord records place beginOfRecord) (recordWord records place endOfRecord)
 
-abbrev pub described : Tables → Line → Entry
+-- a line's: "each WRITE's panel, …, tag, begin and end step; each READ's panel, mask, tag, begin, end"
+abbrev pub described : Tables → Line → Particulars
 described t (write place) = ofRecord true 0 (t .writes) place
 described t (read place) = ofRecord false (recordWord (t .reads) place numberOfRecord) (t .reads) place
 
--- ---- the row
+-- ---- the row: "Its words go by steps and answers"
 
 -- "The opening is step 1; each accepted step adds 1." The history counts all steps behind the last accepted opening, refused ones too: the step number
 -- as each of them left it, in order. An accepted opening starts anew.
@@ -55,15 +57,19 @@ abbrev pub stepNumbers : List Played → List ℕ → ℕ → List ℕ
 stepNumbers [] numbers n = numbers
 stepNumbers (x ∷ xs) numbers n = stepNumbers xs (numbered (x .event) numbers n) (accepted (x .event) n)
 
+-- the number of the step at which the history's clock stood at a time
 abbrev pub numberAt : List ℕ → ℕ → ℕ
 numberAt numbers clock = getD numbers clock 0
 
+-- an end that is not yet has none
 abbrev pub endNumber : List ℕ → Option ℕ → ℕ
 endNumber numbers none = 0
 endNumber numbers (some clock) = numberAt numbers clock
 
-abbrev pub told : List ℕ → Transaction → Entry
-told numbers x = entry (x .isWrite) (x .tag) (x .client) (cond (x .isWrite) 0 (x .mask)) (numberAt numbers (x .begin)) (endNumber numbers (x .end))
+-- "A transaction begins at an accepted begin and finishes at the next reply delivered to its panel that answers *write* or *read*." "*write* answers this
+-- tag. A READ's tag and the setpoints it shows are those in its *read*."
+abbrev pub told : List ℕ → Transaction → Particulars
+told numbers x = particulars (x .isWrite) (x .tag) (x .client) (cond (x .isWrite) 0 (x .mask)) (numberAt numbers (x .begin)) (endNumber numbers (x .end))
 
 -- ---- the claim
 
@@ -72,9 +78,9 @@ abbrev pub leftBy : List Played → Tables → Tables
 leftBy [] t = t
 leftBy (x ∷ xs) t = leftBy xs (x .tables)
 
--- For every opening that is accepted and every list of steps behind it: the register lists the transactions of the row, in the row's order, with the same
--- kinds, tags, panels, begins and ends, and READs with the same masks. "They stand in one row": "WRITEs by tag, each READ behind the WRITE of its own tag …,
--- equal tags by end". Lists are arbitrary, so this is so after each step.
+-- For every opening that is accepted and every list of steps behind it, "in any order and with any arguments, … refused ones and refused openings too": the
+-- register of the tables then left lists the transactions of the row, all of them and no other, in the row's order, with the same kinds, tags, panels,
+-- begins and ends, and READs with the same masks. Every list is meant, so this is so after each step.
 abbrev pub SameOrder : Machine → Type 0
 SameOrder machine =
     (method k p : ℕ) (setpoints : List ℕ) (t : Tables) → open′ method k p setpoints t .answer ≡ Ok → (steps : List Step) →

@@ -1,45 +1,40 @@
 -- The delivery of a reply keeps the tie: it leaves the records, or ends the client's own, at the step's number.
-use Prim.Native.Nat.{ℕ, suc, _+_, _*_, _-_, _≤_, _<_}
+use Prim.Native.Nat.{ℕ, suc, _+_, _-_, _<_}
 use mathlib.Core.Path.{_≡_, refl, sym, ap, _∙_, subst}
 use mathlib.Core.Bool.{Bool, true, false, cond}
-use mathlib.Core.List.{List, [], _∷_}
+use mathlib.Core.List.{List}
 use native.Mathlib.Omega.{arith}
 use native.Mathlib.Numerals.{add-one}
-use lib.ListN.{length, getD}
-use lib.Dec.{eqb, leb, ltb}
+use lib.Dec.{leb, ltb}
 use borrow.Author.Tests.{eqb-true, leb-true, ltb-true}
 use Rattle.ranges.specs.Tests.{both-left, both-right}
-use Rattle.ranges.specs.Turns.{turns}
-use Rattle.ranges.specs.Picked.{picked}
 use Rattle.keys.specs.Keys.{keyOf}
-use Rattle.keys.specs.Masks.{hasServer}
 use Rattle.tables.specs.Rows.{HasRow, word-same, word-other, word-length}
 use Rattle.tables.specs.Layout.{clientWidth, clientWord, putClientWord, stateField, tagField, recordField, setpointsField, receivedField, entriesField, writesField, readsField}
-use Rattle.tables.specs.Links.{targets, linkWidth, putLink, link-length, contentsOf}
+use Rattle.tables.specs.Links.{putLink, contentsOf}
 use Rattle.tables.specs.Tables.{Tables, serversOf, clientsOf, stepOf, entriesOf, writesOf, readsOf, stateOf, countOf, maskOf, tagOf, recordOf, contentAt}
 use Rattle.tables.specs.declared.links.Contents.{Contents}
 use Rattle.tables.specs.declared.links.Content.{Content}
 use Rattle.tables.specs.declared.links.Content.the-variants.{Nothing, Request, Reply}
-use Rattle.rules.specs.declared.Arrival.the-variants.{Wait, Next, Write, Read, Refused}
+use Rattle.rules.specs.declared.Arrival.the-variants.{Wait, Next, Write, Refused}
 use Rattle.rules.specs.Answers.{Arrived, nothingShown}
 use Rattle.rules.specs.Common.{idle, entering, askingKeys, askingSetpoints, askingAll, coordinator, request, pending}
 use Rattle.rules.specs.Common as rules
 use Rattle.rules.specs.Begin.{sentGets}
-use Rattle.rules.specs.Reply.{said, moved, emptied, readShown, endedRead, onSetDone, onEntered, onKeys, gotSetpoint, onGot, gotNumber, tagChosen, setpointAt, keepSetpoint, forget, concluded, endedByC, onAll, onReplyIn, onReply, replyDelivered}
+use Rattle.rules.specs.Reply.{said, moved, emptied, readShown, endedRead, onSetDone, onEntered, onKeys, gotSetpoint, onGot, gotNumber, tagChosen, concluded, endedByC, onAll, onReplyIn, onReply, replyDelivered}
 use Rattle.soundness.specs.Sound.{isReading, keyOn}
 use Rattle.refusals.specs.Refusals.{deliveryRefusal}
 use Rattle.keeping.specs.Accepted.{Deliverable, deliverable, target-below}
 use Rattle.keeping.specs.Frame.{Kept}
-use Rattle.keeping.specs.Links.{linkWord, kindOn, numberOn, reply-kind, reply-words, put-same}
+use Rattle.keeping.specs.Links.{kindOn, numberOn, reply-kind, reply-words, put-same}
 use Rattle.keeping.specs.States.{by-state, uses-entering, reply-entering}
 use Rattle.keeping.specs.Moves.{counted-other, counted-step}
-use Rattle.keeping.specs.Rows.{loop-other}
 use Rattle.keeping.specs.Requests.{link-row}
 use Rattle.keeping.specs.Came.{Came, asks, used, rest-long}
 use Rattle.keeping.specs.Replies.{replyDelivered-kept}
-use Rattle.serial.specs.Steps.{replied, Played}
-use Rattle.serial.specs.History.{Doing, writing, tagged, reading, History, turned, after}
-use Rattle.register_order.specs.Agreement.{Untagged, Tagged, Reading, Activity, Agrees}
+use Rattle.serial.specs.Steps.{replied}
+use Rattle.serial.specs.History.{Doing, tagged, reading, History, turned, after}
+use Rattle.register_order.specs.Agreement.{Untagged, Reading, Activity, Agrees}
 use Rattle.register_order.specs.Grown.{more, be-storing, be-asking, be-reading, untagged-on, reading-on}
 use Rattle.register_order.specs.Laws.{Counts, passed-agrees, quiet-passed, quiet-turned, write-ends, read-ends}
 use Rattle.register_order.specs.Begins.{as-next}

@@ -1,44 +1,42 @@
 -- The delivery of a request keeps the tie. One at target 16 of a client that waits for its tag gives the WRITE its tag; any other leaves all records.
 use Prim.Native.Nat.{ℕ, suc, _+_, _≤_, _<_}
-use mathlib.Core.Path.{_≡_, refl, sym, ap, _∙_, subst}
+use mathlib.Core.Path.{_≡_, refl, ap, _∙_, subst}
 use mathlib.Core.Bool.{Bool, true, false, cond}
 use mathlib.Core.List.{List, [], _∷_}
 use native.Mathlib.Omega.{arith}
 use native.Mathlib.Numerals.{add-one}
 use lib.ListN.{length, getD, set}
 use lib.Seq.{getD-set-same, getD-set-other}
-use lib.Dec.{eqb, ltb}
+use lib.Dec.{ltb}
 use borrow.Author.Tests.{eqb-true, eq-eqb, ne-eqb}
 use Rattle.ranges.specs.Tests.{by-test, either}
 use Rattle.tables.specs.Layout.{countAt, countWords, stepField, entriesField, writesField, readsField, heldField, logPlaces, putEntry, versionWord}
-use Rattle.tables.specs.Links.{targets, linkWidth, contentsOf}
+use Rattle.tables.specs.Links.{targets, linkWidth}
 use Rattle.tables.specs.Tables.{Tables, serversOf, clientsOf, stepOf, entriesOf, writesOf, readsOf, heldOf, stateOf, maskOf, recordOf, contentAt}
 use Rattle.tables.specs.declared.links.Contents.{Contents}
 use Rattle.tables.specs.declared.links.Content.{Content}
 use Rattle.tables.specs.declared.links.Content.the-variants.{Nothing, Request, Reply}
 use Rattle.server.specs.Held.{appended, append-count, firstBearing}
 use Rattle.coordinator.specs.Log.{entered, enterLeft}
-use Rattle.rules.specs.declared.Answer.{Answer}
-use Rattle.rules.specs.declared.Answer.the-variants.{Ok, Refused}
-use Rattle.rules.specs.Answers.{Left, left}
-use Rattle.rules.specs.Common.{entering, askingKeys, askingSetpoints, askingAll, coordinator, reply, counted}
+use Rattle.rules.specs.declared.Answer.the-variants.{Ok}
+use Rattle.rules.specs.Answers.{Left}
+use Rattle.rules.specs.Common.{entering, askingKeys, askingSetpoints, askingAll, coordinator, reply}
 use Rattle.rules.specs.Common as rules
 use Rattle.rules.specs.Request.{answered, refused, storedBy, enteredBy, onSet, onEnter, onWhichKeys, onGet, onGetAll, onRequestIn, onRequest, requestDelivered}
-use Rattle.soundness.specs.Sound.{uses, isReading, keyOn}
+use Rattle.soundness.specs.Sound.{uses, isReading}
 use Rattle.soundness.specs.Facts.{ClientFacts}
 use Rattle.refusals.specs.Refusals.{deliveryRefusal}
 use Rattle.keeping.specs.Accepted.{Deliverable, deliverable, target-below}
 use Rattle.keeping.specs.Frame.{Kept}
-use Rattle.keeping.specs.Links.{linkWord, kindOn, numberOn, LinkAsks, link-asks, request-kind, put-same}
+use Rattle.keeping.specs.Links.{linkWord, kindOn, link-asks, request-kind, put-same}
 use Rattle.keeping.specs.States.{by-state, masked-below, uses-writing, uses-entering}
 use Rattle.keeping.specs.Moves.{counted-other, counted-step, counted-length}
 use Rattle.keeping.specs.Requests.{link-row, requestDelivered-kept}
 use Rattle.serial.specs.Steps.{requested, Played}
-use Rattle.serial.specs.History.{Doing, writing, reading, History, delivered, atHead, after}
-use Rattle.serial.specs.History as history
+use Rattle.serial.specs.History.{reading, History, atHead, after}
 use Rattle.serial.specs.Consequences.{accepted}
 use Rattle.register_order.specs.Order.{numbered}
-use Rattle.register_order.specs.Agreement.{Untagged, Reading, Activity, Agrees}
+use Rattle.register_order.specs.Agreement.{Activity, Agrees}
 use Rattle.register_order.specs.Grown.{more, be-storing, be-reading, untagged-on, reading-on}
 use Rattle.register_order.specs.Laws.{Counts, passed-agrees, quiet-passed, quiet-turned, write-tags}
 use Rattle.register_order.specs.Begins.{as-next}

@@ -23,7 +23,7 @@ use Rattle.serial.specs.Steps.{Played, play, run}
 use Rattle.serial.specs.History.{changed, openedWith, history}
 use Rattle.serial.specs.Row.{readsOf, rowTo, row}
 use Rattle.serial.specs.Sample.{zeros, start, sample}
-use Rattle.register_order.specs.Order.{Entry, entry, described, told, stepNumbers, leftBy}
+use Rattle.register_order.specs.Order.{Particulars, particulars, described, told, stepNumbers, leftBy}
 
 abbrev played : List Played
 played = run play sample start
@@ -32,8 +32,8 @@ abbrev left : Tables
 left = leftBy played start
 
 -- `R 0 1 4 14` and `W 1 0 1 2 15`, the READ with its mask: tag, panel, begin and end
-abbrev pub lines : List Entry
-lines = entry false 0 1 3 4 14 ∷ entry true 1 0 0 2 15 ∷ []
+abbrev pub lines : List Particulars
+lines = particulars false 0 1 3 4 14 ∷ particulars true 1 0 0 2 15 ∷ []
 
 pub sample-told : map (told (stepNumbers played [] 1)) (row (history played (openedWith 2 (1200 ∷ 30 ∷ [])))) ≡ lines
 unfolding zeros start sample changed readsOf rowTo store.open′ store.beginWrite store.beginRead store.deliverRequest store.deliverReply openRefusal writeRefusal readRefusal deliveryRefusal longEnough pressFits turns sound scalarsSound keyInRange serverSound entrySound logSound stateAllowed uses requestSound replySound contentSound linkSound receivedSound clientSound writeSound readSound openSound recordsSound allBelow anyBelow sumBelow linkAt putLink firstFrom lastBelow appended log.entered begunWrite begunRead onSet onEnter onWhichKeys onGet onGetAll onRequestIn requestDelivered onSetDone onEntered onKeys onGot onAll onReplyIn replyDelivered

@@ -1,11 +1,10 @@
 -- The register's order is the row's order: the one theorem, over every list of steps behind every accepted opening.
-use Prim.Native.Nat.{ℕ, zero, suc, _<_}
+use Prim.Native.Nat.{ℕ, zero, suc}
 use mathlib.Core.Path.{_≡_, refl}
-use mathlib.Core.Bool.{false}
 use mathlib.Core.List.{List, [], _∷_}
 use native.Mathlib.Omega.{arith}
 use Rattle.tables.specs.Layout.{stateField}
-use Rattle.tables.specs.Tables.{Tables, clientsOf, stepOf, readsOf}
+use Rattle.tables.specs.Tables.{Tables, stepOf}
 use Rattle.rules.specs.Answers.{Left, left, Arrived}
 use Rattle.rules.specs.Open.{opened}
 use Rattle.rules.specs.Begin.{begunWrite, begunRead}
@@ -21,8 +20,8 @@ use Rattle.keeping.specs.Opening.{Opened, opened-words, opened-sound}
 use Rattle.listing.specs.Places.{by-end-none}
 use Rattle.serial.specs.Steps.{Step, opening, beginning-write, beginning-read, request, reply, Event, begun-write, begun-read, Played, play, run}
 use Rattle.serial.specs.Steps as event
-use Rattle.serial.specs.History.{History, nothing, writing, reading, begun, openedWith, after, history}
-use Rattle.register_order.specs.Order.{described, told, numbered, stepNumbers, leftBy, SameOrder}
+use Rattle.serial.specs.History.{History, nothing, openedWith, after, history}
+use Rattle.register_order.specs.Order.{numbered, stepNumbers, leftBy, SameOrder}
 use Rattle.register_order.specs.Agreement.{Agrees, same-order}
 use Rattle.register_order.specs.Grown.{be-idle}
 use Rattle.register_order.specs.Laws.{passed-agrees}
