@@ -1,0 +1,119 @@
+-- Begins keep the tie: the record stands in the next place, and the step's number is the transaction's begin.
+use Prim.Native.Nat.{ℕ, suc, _+_, _<_}
+use mathlib.Core.Path.{_≡_, refl, _∙_, subst}
+use mathlib.Core.Bool.{true}
+use mathlib.Core.List.{List, [], _∷_}
+use native.Mathlib.Omega.{arith}
+use native.Mathlib.Numerals.{add-one}
+use lib.ListN.{getD}
+use lib.Dec.{eqb}
+use Rattle.ranges.specs.Tests.{either}
+use Rattle.tables.specs.Layout.{clientWidth, clientWord, stateField, countField, maskField, tagField, recordField, setpointsField, entriesField, writesField, readsField, putBegun}
+use Rattle.tables.specs.Tables.{Tables, methodOf, serversOf, clientsOf, stepOf, entriesOf, writesOf, readsOf}
+use Rattle.rules.specs.Common.{askingKeys, askingSetpoints, askingAll}
+use Rattle.rules.specs.Common as rules
+use Rattle.rules.specs.Begin.{nextCount, begunWrite, Asking, askingBy, lastTag, begunRead}
+use Rattle.soundness.specs.Sound.{isReading}
+use Rattle.refusals.specs.Refusals.{writeRefusal, readRefusal}
+use Rattle.keeping.specs.Accepted.{writable, readable}
+use Rattle.keeping.specs.Begins.{begun-other, begun-more, begun-step}
+use Rattle.keeping.specs.BeginWrite.{begunWrite-kept}
+use Rattle.keeping.specs.BeginRead.{begunRead-kept}
+use Rattle.keeping.specs.Rows.{Put, put, putAll, lastPut, inRow, put-read, loop-other}
+use Rattle.serial.specs.History.{writing, reading, History, begun}
+use Rattle.register_order.specs.Agreement.{Agrees}
+use Rattle.register_order.specs.Grown.{more}
+use Rattle.register_order.specs.Laws.{Counts, write-begins, read-begins}
+
+module _ (t : Tables) (h : History) (numbers : List ℕ) (a : Agrees t h numbers) where
+  -- the rules' step + 1 is the count's next
+  pub as-next : (t′ : Tables) (h′ : History) → Agrees t′ h′ (more numbers (stepOf t + 1)) → Agrees t′ h′ (more numbers (suc (stepOf t)))
+  as-next t′ h′ b = subst (λ (n : ℕ). Agrees t′ h′ (more numbers n)) (add-one (stepOf t)) b
+
+  module _ (q mask : ℕ) (setpoints : List ℕ) (e : writeRefusal q mask setpoints t ≡ 0) where
+    abbrev puts : List Put
+    puts = put stateField rules.writing ∷ put maskField mask ∷ put recordField (writesOf t) ∷ put countField (nextCount t q) ∷ []
+
+    client : q < clientsOf t
+    client = writable q mask setpoints t e .begin .client
+
+    written : (f : ℕ) → f < setpointsField → clientWord (begunWrite q mask setpoints t .clients) q f ≡ lastPut puts (clientWord (t .clients) q f) f
+    unfolding begunWrite
+    written f l =
+        loop-other q setpointsField (serversOf t) (omega (arith, a .sound .scalars .press .servers .most)) (λ i. true) (λ i. getD setpoints i 0) (putAll puts q (t .clients)) q f (omega arith) (λ z. omega (arith, z .1))
+        ∙ put-read q puts (t .clients) f _ (omega (arith, a .sound .long .clients, client)) refl (omega arith) refl
+
+    write-counts : Counts t (begunWrite q mask setpoints t) (entriesOf t) (writesOf t + 1) (readsOf t)
+    unfolding begunWrite
+    write-counts =
+        let long = a .sound .long .counts in
+        record {
+          entries = begun-other writesField (t .counts) long (omega arith) (λ z. omega arith) entriesField (λ z. omega arith) (λ z. omega arith);
+          writes = begun-more writesField (t .counts) long (omega arith) (λ z. omega arith);
+          reads = begun-other writesField (t .counts) long (omega arith) (λ z. omega arith) readsField (λ z. omega arith) (λ z. omega arith);
+          step = begun-step writesField (t .counts) long (omega arith) (λ z. omega arith);
+        }
+
+    begun-records : begunWrite q mask setpoints t .writes ≡ putBegun (t .writes) (writesOf t) q (nextCount t q) (stepOf t + 1)
+    unfolding begunWrite
+    begun-records = refl
+
+    same-reads : begunWrite q mask setpoints t .reads ≡ t .reads
+    unfolding begunWrite
+    same-reads = refl
+
+    pub write-agrees : Agrees (begunWrite q mask setpoints t) (begun (h .doing q) q (writing mask setpoints (h .clock)) h) (more numbers (stepOf t + 1))
+    write-agrees =
+        let b = writable q mask setpoints t e in
+        rw (a .clients q client .resting (b .begin .free))
+        (write-begins t (begunWrite q mask setpoints t) h numbers a q client (begunWrite-kept q mask setpoints t (a .sound) e) (nextCount t q) begun-records same-reads write-counts (b .few)
+        (written stateField (omega arith)) (written recordField (omega arith)) mask setpoints)
+
+    pub write-step : stepOf (begunWrite q mask setpoints t) ≡ suc (stepOf t)
+    write-step = write-counts .step ∙ add-one (stepOf t)
+
+  module _ (q mask : ℕ) (e : readRefusal q mask t ≡ 0) where
+    abbrev readPuts : ℕ → List Put
+    readPuts state = put stateField state ∷ put maskField mask ∷ put recordField (readsOf t) ∷ []
+
+    abbrev readPutsA : List Put
+    readPutsA = put stateField askingSetpoints ∷ put maskField mask ∷ put recordField (readsOf t) ∷ put tagField (lastTag t) ∷ []
+
+    reader : q < clientsOf t
+    reader = readable q mask t e .begin .client
+
+    asked : (puts : List Put) → inRow puts ≡ true → (f : ℕ) → f < clientWidth → clientWord (putAll puts q (t .clients)) q f ≡ lastPut puts (clientWord (t .clients) q f) f
+    asked puts inside f l = put-read q puts (t .clients) f _ (omega (arith, a .sound .long .clients, reader)) inside l refl
+
+    -- whatever the method, the client reads and knows the place of its record
+    abbrev Asks : Asking → Type 0
+    Asks x = (isReading (clientWord (x .clients) q stateField) ≡ true) × (clientWord (x .clients) q recordField ≡ readsOf t)
+
+    asks : Asks (askingBy (methodOf t) q mask t)
+    asks =
+        either Asks (eqb (methodOf t) 1)
+        (rw (asked readPutsA refl stateField (omega arith)) refl, asked readPutsA refl recordField (omega arith))
+        (either Asks (eqb (methodOf t) 2)
+        (rw (asked (readPuts askingKeys) refl stateField (omega arith)) refl, asked (readPuts askingKeys) refl recordField (omega arith))
+        (rw (asked (readPuts askingAll) refl stateField (omega arith)) refl, asked (readPuts askingAll) refl recordField (omega arith)))
+
+    read-counts : Counts t (begunRead q mask t) (entriesOf t) (writesOf t) (readsOf t + 1)
+    unfolding begunRead
+    read-counts =
+        let long = a .sound .long .counts in
+        record {
+          entries = begun-other readsField (t .counts) long (omega arith) (λ z. omega arith) entriesField (λ z. omega arith) (λ z. omega arith);
+          writes = begun-other readsField (t .counts) long (omega arith) (λ z. omega arith) writesField (λ z. omega arith) (λ z. omega arith);
+          reads = begun-more readsField (t .counts) long (omega arith) (λ z. omega arith);
+          step = begun-step readsField (t .counts) long (omega arith) (λ z. omega arith);
+        }
+
+    pub read-agrees : Agrees (begunRead q mask t) (begun (h .doing q) q (reading mask (h .clock) 0) h) (more numbers (stepOf t + 1))
+    unfolding begunRead
+    read-agrees =
+        let b = readable q mask t e in
+        rw (a .clients q reader .resting (b .begin .free))
+        (read-begins t (begunRead q mask t) h numbers a q reader (begunRead-kept q mask t (a .sound) e) mask refl refl read-counts (b .few) (asks .0) (asks .1))
+
+    pub read-step : stepOf (begunRead q mask t) ≡ suc (stepOf t)
+    read-step = read-counts .step ∙ add-one (stepOf t)

@@ -1,0 +1,221 @@
+-- One step more has its number: what was told before is told alike. And records that a step leaves, all but one.
+use Prim.Native.Nat.{ℕ, suc, _+_, _≤_, _<_}
+use mathlib.Core.Path.{_≡_, refl, sym, _∙_}
+use mathlib.Core.Bool.{Bool, true, false}
+use mathlib.Core.Option.{Option, none, some}
+use mathlib.Core.List.{List, [], _∷_, _++_}
+use native.Mathlib.Omega.{arith}
+use lib.ListN.{length, length-append, List·getD-append}
+use lib.Seq.{getD-append-add}
+use Rattle.ranges.specs.Tests.{by-equal, not-both}
+use Rattle.tables.specs.Rows.{HasRow, word-other}
+use Rattle.tables.specs.Layout.{recordWidth, recordWord, clientOfRecord, numberOfRecord, tagOfRecord, beginOfRecord, endOfRecord, clientWidth, clientWord, stateField, recordField, putBegun}
+use Rattle.tables.specs.Links.{linkWidth}
+use Rattle.tables.specs.Tables.{Tables, stateOf, recordOf}
+use Rattle.rules.specs.Common.{idle, entering, coordinator, endedRecord, taggedRecord}
+use Rattle.rules.specs.Common as rules
+use Rattle.soundness.specs.Sound.{isWriting, isReading}
+use Rattle.keeping.specs.Links.{linkWord, kindOn, numberOn}
+use Rattle.keeping.specs.Records.{begun-word, tagged-other}
+use Rattle.listing.specs.Register.{endIn, byEndBelow}
+use Rattle.listing.specs.Places.{each-by-end}
+use Rattle.listing.specs.Records.{read-begun, read-ended}
+use Rattle.serial.specs.History.{Transaction, Doing, nothing, reading, ended}
+use Rattle.register_order.specs.Order.{Particulars, ofRecord, numberAt, endNumber}
+use Rattle.register_order.specs.Lists.{both-append, both-map}
+use Rattle.register_order.specs.Agreement.{EndKnown, Tells, OneWrite, ofRead, ReadsTold, Untagged, Tagged, Reading, Activity}
+
+-- ---- the step numbers, with one more
+
+module _ (numbers : List ℕ) (n : ℕ) where
+  abbrev pub more : List ℕ
+  more = numbers ++ (n ∷ [])
+
+  pub more-length : length more ≡ suc (length numbers)
+  more-length = omega (arith, length-append numbers (n ∷ []))
+
+  pub number-last : numberAt more (length numbers) ≡ n
+  number-last = let e : length numbers + 0 ≡ length numbers = omega arith in rw e at (getD-append-add numbers (n ∷ []) 0 0)
+
+  pub number-more : (clock : ℕ) → clock < length numbers → numberAt more clock ≡ numberAt numbers clock
+  number-more clock h = List·getD-append numbers (n ∷ []) 0 clock h
+
+  end-more : (end : Option ℕ) → EndKnown (length numbers) end → endNumber more end ≡ endNumber numbers end
+  end-more none k = refl
+  end-more (some clock) k = number-more clock k
+
+  known-more : (end : Option ℕ) → EndKnown (length numbers) end → EndKnown (length more) end
+  known-more none k = tt
+  known-more (some clock) k = omega (arith, more-length)
+
+  pub tells-more : (x : Transaction) (e : Particulars) → Tells numbers x e → Tells more x e
+  tells-more x e r =
+      record { is = rw (number-more (x .begin) (r .begun), end-more (x .end) (r .ended)) (r .is); begun = omega (arith, more-length, r .begun); ended = known-more (x .end) (r .ended) }
+
+pub tells-as : (numbers : List ℕ) (x : Transaction) {e e′ : Particulars} → e′ ≡ e → Tells numbers x e → Tells numbers x e′
+tells-as numbers x same r = record { is = r .is ∙ sym same; begun = r .begun; ended = r .ended }
+
+-- ---- records that a step leaves, all but one
+
+abbrev pub But : List ℕ → List ℕ → ℕ → Type 0
+But records records′ here = (place f : ℕ) → f < recordWidth → (place ≡ here → ⊥) → recordWord records′ place f ≡ recordWord records place f
+
+-- a record that stays
+abbrev pub Alike : List ℕ → List ℕ → ℕ → Type 0
+Alike records records′ place = (f : ℕ) → f < recordWidth → recordWord records′ place f ≡ recordWord records place f
+
+pub of-alike : (isWrite : Bool) (mask : ℕ) (records records′ : List ℕ) (place : ℕ) → Alike records records′ place → ofRecord isWrite mask records′ place ≡ ofRecord isWrite mask records place
+of-alike isWrite mask records records′ place w = rw (w tagOfRecord (omega arith), w clientOfRecord (omega arith), w beginOfRecord (omega arith), w endOfRecord (omega arith))
+
+pub read-alike : (records records′ : List ℕ) (place : ℕ) → Alike records records′ place → ofRead records′ place ≡ ofRead records place
+read-alike records records′ place w = rw (w numberOfRecord (omega arith)) (of-alike false (recordWord records place numberOfRecord) records records′ place w)
+
+pub begun-but : (records : List ℕ) (begun q number step : ℕ) → But records (putBegun records begun q number step) begun
+begun-but records begun q number step place f h d = begun-word records begun q number step place f h d
+
+pub tagged-but : (records : List ℕ) (place tag : ℕ) → But records (taggedRecord place tag records) place
+tagged-but records here tag place f h d = tagged-other records here tag place f h d
+
+pub ended-but : (records : List ℕ) (place step : ℕ) → But records (endedRecord place step records) place
+ended-but records here step place f h d = word-other recordWidth records here endOfRecord step place f (omega arith) h (λ e. d (e .0))
+
+-- the one WRITE of a tag is another record's
+pub one-but : (writes writes′ : List ℕ) (begun begun′ : ℕ) (numbers : List ℕ) (tag : ℕ) (x : Transaction) (here : ℕ) (o : OneWrite writes begun numbers tag x) → But writes writes′ here → (o .place ≡ here → ⊥) →
+    (recordWord writes′ here tagOfRecord ≡ tag → ⊥) → begun ≤ begun′ → ((i : ℕ) → i < begun′ → (i ≡ here → ⊥) → i < begun) → OneWrite writes′ begun′ numbers tag x
+one-but writes writes′ begun begun′ numbers tag x here o but apart not-here room before =
+    record {
+      place = o .place;
+      within = omega (arith, o .within);
+      bears = but (o .place) tagOfRecord (omega arith) apart ∙ o .bears;
+      unique = λ i l e. by-equal i here (λ d. absurd (not-here (rw d at e))) (λ d. o .unique i (before i l d) (sym (but i tagOfRecord (omega arith) d) ∙ e));
+      tells = tells-as numbers x (of-alike true 0 writes writes′ (o .place) (λ f h. but (o .place) f h apart)) (o .tells);
+    }
+
+pub one-more : (writes : List ℕ) (begun : ℕ) (numbers : List ℕ) (tag : ℕ) (x : Transaction) (n : ℕ) → OneWrite writes begun numbers tag x → OneWrite writes begun (more numbers n) tag x
+one-more writes begun numbers tag x n o = record { place = o .place; within = o .within; bears = o .bears; unique = o .unique; tells = tells-more numbers n x _ (o .tells) }
+
+-- ---- the READs
+
+module _ (reads : List ℕ) (begun : ℕ) (numbers : List ℕ) (xs : List Transaction) (r : ReadsTold reads begun numbers xs) where
+  abbrev told-by : ℕ → Transaction → Type 0
+  told-by place x = Tells numbers x (ofRead reads place)
+
+  pub reads-more : (n : ℕ) → ReadsTold reads begun (more numbers n) xs
+  reads-more n =
+      both-map told-by (λ place x. Tells (more numbers n) x (ofRead reads place)) (λ place. Unit {0}) (λ place x u y. tells-more numbers n x (ofRead reads place) y)
+      (byEndBelow reads begun) xs (each-by-end (λ place. Unit {0}) reads begun (λ place l f. tt)) r
+
+  -- a READ begun is not listed yet
+  pub reads-begun : (q number step : ℕ) → HasRow recordWidth reads begun → ReadsTold (putBegun reads begun q number step) (begun + 1) numbers xs
+  reads-begun q number step room =
+      let reads′ = putBegun reads begun q number step in
+      rw (read-begun reads begun q number step room)
+      (both-map told-by (λ place x. Tells numbers x (ofRead reads′ place)) (λ place. place < begun)
+      (λ place x l y. tells-as numbers x (read-alike reads reads′ place (λ f h. begun-but reads begun q number step place f h (λ e. omega arith))) y)
+      (byEndBelow reads begun) xs (each-by-end (λ place. place < begun) reads begun (λ place l f. l)) r)
+
+  -- a READ that ends is listed behind all others
+  pub reads-ended : (place tag step : ℕ) → place < begun → HasRow recordWidth reads place → endIn reads place ≡ 0 → ((i : ℕ) → i < begun → endIn reads i < step) →
+      (x : Transaction) → Tells numbers x (ofRead (endedRecord place step (taggedRecord place tag reads)) place) →
+      ReadsTold (endedRecord place step (taggedRecord place tag reads)) begun numbers (xs ++ (x ∷ []))
+  reads-ended place tag step inside room open′ later x new =
+      let reads′ = endedRecord place step (taggedRecord place tag reads) in
+      rw (read-ended reads place begun inside room tag step open′ later)
+      (both-append (λ p y. Tells numbers y (ofRead reads′ p)) (byEndBelow reads begun) xs place x
+      (both-map told-by (λ p y. Tells numbers y (ofRead reads′ p)) (λ p. p ≡ place → ⊥)
+      (λ p y d u. tells-as numbers y (read-alike reads reads′ p (λ f h. ended-but (taggedRecord place tag reads) place step p f h d ∙ tagged-but reads place tag p f h d)) u)
+      (byEndBelow reads begun) xs (each-by-end (λ p. p ≡ place → ⊥) reads begun (λ p l f e. not-both f (rw (e, open′)))) r)
+      new)
+
+-- ---- what a client is at
+
+module _ (t : Tables) (numbers : List ℕ) (q : ℕ) (d : Doing) where
+  pub be-idle : stateOf t q ≡ idle → d ≡ nothing → Activity t numbers q d
+  be-idle s e = record {
+    resting = λ z. e;
+    storing = λ z. let w : ⊥ = omega arith in absurd w;
+    asking = λ z k. let w : ⊥ = omega arith in absurd w;
+    tagged = λ z k. let w : ⊥ = omega arith in absurd w;
+    reading = λ z. absurd (not-both z (rw s));
+  }
+
+  pub be-storing : stateOf t q ≡ rules.writing → Untagged t numbers q d → Activity t numbers q d
+  be-storing s u = record {
+    resting = λ z. let w : ⊥ = omega arith in absurd w;
+    storing = λ z. u;
+    asking = λ z k. u;
+    tagged = λ z k. let w : ⊥ = omega arith in absurd w;
+    reading = λ z. absurd (not-both z (rw s));
+  }
+
+  pub be-asking : stateOf t q ≡ entering → kindOn t q coordinator ≡ 1 → Untagged t numbers q d → Activity t numbers q d
+  be-asking s k u = record {
+    resting = λ z. let w : ⊥ = omega arith in absurd w;
+    storing = λ z. u;
+    asking = λ z y. u;
+    tagged = λ z y. let w : ⊥ = omega arith in absurd w;
+    reading = λ z. absurd (not-both z (rw s));
+  }
+
+  pub be-tagged : stateOf t q ≡ entering → kindOn t q coordinator ≡ 2 → Tagged t numbers q d → Activity t numbers q d
+  be-tagged s k u = record {
+    resting = λ z. let w : ⊥ = omega arith in absurd w;
+    storing = λ z. let w : ⊥ = omega arith in absurd w;
+    asking = λ z y. let w : ⊥ = omega arith in absurd w;
+    tagged = λ z y. u;
+    reading = λ z. absurd (not-both z (rw s));
+  }
+
+  pub be-reading : isReading (stateOf t q) ≡ true → Reading t numbers q d → Activity t numbers q d
+  be-reading s u = record {
+    resting = λ z. absurd (not-both s (rw z));
+    storing = λ z. absurd (not-both s (rw z));
+    asking = λ z y. absurd (not-both s (rw z));
+    tagged = λ z y. absurd (not-both s (rw z));
+    reading = λ z. u;
+  }
+
+module _ (t t′ : Tables) (numbers : List ℕ) (n q : ℕ) (here : recordOf t′ q ≡ recordOf t q) where
+  pub untagged-on : (d : Doing) → Alike (t .writes) (t′ .writes) (recordOf t q) → Untagged t numbers q d → Untagged t′ (more numbers n) q d
+  untagged-on d w u = record {
+    mask = u .mask;
+    setpoints = u .setpoints;
+    begin = u .begin;
+    is = u .is;
+    tag = rw here (w tagOfRecord (omega arith) ∙ u .tag);
+    start = rw here (w beginOfRecord (omega arith) ∙ u .start ∙ sym (number-more numbers n (u .begin) (u .known)));
+    known = omega (arith, more-length numbers n, u .known);
+  }
+
+  -- with as many deliveries as there are now
+  pub reading-on : (d : Doing) → Alike (t .reads) (t′ .reads) (recordOf t q) → (r : Reading t numbers q d) (deliveries : ℕ) → Reading t′ (more numbers n) q (reading (r .mask) (r .begin) deliveries)
+  reading-on d w r deliveries = record {
+    mask = r .mask;
+    begin = r .begin;
+    deliveries = deliveries;
+    is = refl;
+    masked = rw here (w numberOfRecord (omega arith) ∙ r .masked);
+    start = rw here (w beginOfRecord (omega arith) ∙ r .start ∙ sym (number-more numbers n (r .begin) (r .known)));
+    known = omega (arith, more-length numbers n, r .known);
+  }
+
+  pub same-reading : (d : Doing) → Alike (t .reads) (t′ .reads) (recordOf t q) → Reading t numbers q d → Reading t′ (more numbers n) q d
+  same-reading d w r = rw (r .is) (reading-on d w r (r .deliveries))
+
+-- another client, whose row and head's link and record in progress stay
+pub activity-on : (t t′ : Tables) (numbers : List ℕ) (n q : ℕ) (d : Doing) → ((f : ℕ) → f < clientWidth → clientWord (t′ .clients) q f ≡ clientWord (t .clients) q f) →
+    ((f : ℕ) → f < linkWidth → linkWord (t′ .links) q coordinator f ≡ linkWord (t .links) q coordinator f) →
+    (isWriting (stateOf t q) ≡ true → Alike (t .writes) (t′ .writes) (recordOf t q)) → (isReading (stateOf t q) ≡ true → Alike (t .reads) (t′ .reads) (recordOf t q)) →
+    Activity t numbers q d → Activity t′ (more numbers n) q d
+activity-on t t′ numbers n q d row link writes reads a =
+    let state : stateOf t′ q ≡ stateOf t q = row stateField (omega arith) in
+    let here : recordOf t′ q ≡ recordOf t q = row recordField (omega arith) in
+    let kind : kindOn t′ q coordinator ≡ kindOn t q coordinator = link 0 (omega arith) in
+    let number : numberOn t′ q coordinator ≡ numberOn t q coordinator = link 2 (omega arith) in
+    record {
+      resting = λ s. a .resting (sym state ∙ s);
+      storing = λ s. let was = sym state ∙ s in untagged-on t t′ numbers n q here d (writes (rw was)) (a .storing was);
+      asking = λ s k. let was = sym state ∙ s in untagged-on t t′ numbers n q here d (writes (rw was)) (a .asking was (sym kind ∙ k));
+      tagged = λ s k. let was = sym state ∙ s in let g = a .tagged was (sym kind ∙ k) in record { is = rw number (g .is); tag = rw (number, here) (writes (rw was) tagOfRecord (omega arith) ∙ g .tag) };
+      reading = λ s. let was : isReading (stateOf t q) ≡ true = rw state at s in same-reading t t′ numbers n q here d (reads was) (a .reading was);
+    }

@@ -1,0 +1,397 @@
+-- The laws of the step: one for each way in which a step changes the records. Whatever else it changes is the step's client's own.
+use Prim.Native.Nat.{ℕ, suc, _+_, _≤_, _<_}
+use mathlib.Core.Path.{_≡_, refl, sym, ap, _∙_}
+use mathlib.Core.Bool.{true}
+use mathlib.Core.Option.{none}
+use mathlib.Core.List.{List, [], _∷_}
+use native.Mathlib.Omega.{arith}
+use lib.ListN.{length, getD}
+use lib.Dec.{eqb}
+use borrow.Author.Tests.{eqb-true}
+use Rattle.ranges.specs.Tests.{by-equal, both-right}
+use Rattle.tables.specs.Rows.{HasRow, word-same, word-length}
+use Rattle.tables.specs.Layout.{recordPlaces, recordWidth, recordWord, clientOfRecord, numberOfRecord, tagOfRecord, beginOfRecord, endOfRecord, putBegun}
+use Rattle.tables.specs.Tables.{Tables, clientsOf, stepOf, entriesOf, writesOf, readsOf, stateOf, recordOf}
+use Rattle.rules.specs.Common.{idle, entering, coordinator, endedRecord, taggedRecord}
+use Rattle.rules.specs.Common as rules
+use Rattle.soundness.specs.Sound.{isWriting, isReading, isOpen}
+use Rattle.soundness.specs.Facts.{Sound}
+use Rattle.keeping.specs.Records.{doing-facts, open-client, begun-here, tagged-here, tagged-word, ended-word}
+use Rattle.keeping.specs.Records as keeping
+use Rattle.keeping.specs.Frame.{Kept}
+use Rattle.keeping.specs.Links.{kindOn, numberOn}
+use Rattle.listing.specs.Register.{endIn}
+use Rattle.serial.specs.History.{changed, Transaction, Doing, nothing, writing, tagged, reading, History, historyOf, passed, turned, writeOf, readOf, given, wrote, showed, ended}
+use Rattle.serial.proofs.Places.{changed-other, changed-all}
+use Rattle.register_order.specs.Order.{Particulars, particulars, ofRecord, numberAt}
+use Rattle.register_order.specs.Agreement.{Tells, OneWrite, Untagged, Reading, Activity, Agrees, ofRead}
+use Rattle.register_order.specs.Grown.{more, more-length, number-more, number-last, tells-more, tells-as, But, Alike, begun-but, tagged-but, ended-but, one-but, one-more, reads-more, reads-begun, reads-ended, be-idle, be-storing, be-tagged, be-reading, activity-on}
+
+-- what a step of client q leaves of the others' records in progress
+pub record Leaves (q : ℕ) (t t′ : Tables) : Type 0 where
+  pub writes : (p : ℕ) → p < clientsOf t → (p ≡ q → ⊥) → isWriting (stateOf t p) ≡ true → Alike (t .writes) (t′ .writes) (recordOf t p)
+  pub reads : (p : ℕ) → p < clientsOf t → (p ≡ q → ⊥) → isReading (stateOf t p) ≡ true → Alike (t .reads) (t′ .reads) (recordOf t p)
+
+-- the counts afterwards
+pub record Counts (t t′ : Tables) (logged begunWrites begunReads : ℕ) : Type 0 where
+  pub entries : entriesOf t′ ≡ logged
+  pub writes : writesOf t′ ≡ begunWrites
+  pub reads : readsOf t′ ≡ begunReads
+  pub step : stepOf t′ ≡ stepOf t + 1
+
+-- a record in progress has no end
+open-end : (records : List ℕ) (q place : ℕ) → isOpen records q place ≡ true → recordWord records place endOfRecord ≡ 0
+open-end records q place e = eqb-true _ _ (both-right (eqb (recordWord records place clientOfRecord) q) (eqb (recordWord records place endOfRecord) 0) e)
+
+-- a client's record in progress
+module _ (t : Tables) (s : Sound t) (q : ℕ) (client : q < clientsOf t) where
+  pub write-open : isWriting (stateOf t q) ≡ true → keeping.Doing (t .writes) (writesOf t) q (recordOf t q)
+  write-open w = doing-facts (t .writes) (writesOf t) q (recordOf t q) (rw w at (s .records q client .write))
+
+  pub read-open : isReading (stateOf t q) ≡ true → keeping.Doing (t .reads) (readsOf t) q (recordOf t q)
+  read-open w = doing-facts (t .reads) (readsOf t) q (recordOf t q) (rw w at (s .records q client .read))
+
+  pub write-room : isWriting (stateOf t q) ≡ true → HasRow recordWidth (t .writes) (recordOf t q)
+  write-room w = omega (arith, write-open w .within, s .scalars .writes, s .long .writes)
+
+  pub read-room : isReading (stateOf t q) ≡ true → HasRow recordWidth (t .reads) (recordOf t q)
+  read-room w = omega (arith, read-open w .within, s .scalars .reads, s .long .reads)
+
+  -- what changes in its own record is no other client's
+  pub own-write : isWriting (stateOf t q) ≡ true → (writes′ : List ℕ) → But (t .writes) writes′ (recordOf t q) →
+      (p : ℕ) → p < clientsOf t → (p ≡ q → ⊥) → isWriting (stateOf t p) ≡ true → Alike (t .writes) writes′ (recordOf t p)
+  own-write w writes′ but p l d v f h =
+      let other = doing-facts (t .writes) (writesOf t) p (recordOf t p) (rw v at (s .records p l .write)) in
+      but (recordOf t p) f h (λ e. d (sym (open-client (t .writes) p (recordOf t p) (other .here)) ∙ ap (λ (n : ℕ). recordWord (t .writes) n clientOfRecord) e ∙ open-client (t .writes) q (recordOf t q) (write-open w .here)))
+
+  pub own-read : isReading (stateOf t q) ≡ true → (reads′ : List ℕ) → But (t .reads) reads′ (recordOf t q) →
+      (p : ℕ) → p < clientsOf t → (p ≡ q → ⊥) → isReading (stateOf t p) ≡ true → Alike (t .reads) reads′ (recordOf t p)
+  own-read w reads′ but p l d v f h =
+      let other = doing-facts (t .reads) (readsOf t) p (recordOf t p) (rw v at (s .records p l .read)) in
+      but (recordOf t p) f h (λ e. d (sym (open-client (t .reads) p (recordOf t p) (other .here)) ∙ ap (λ (n : ℕ). recordWord (t .reads) n clientOfRecord) e ∙ open-client (t .reads) q (recordOf t q) (read-open w .here)))
+
+-- a history in which only what the clients are at has changed
+abbrev pub movedOn : History → (ℕ → Doing) → History
+movedOn h doing = historyOf (h .initial) (h .extra) (suc (h .clock)) (h .tags) (h .write) (h .said) (h .reads) doing (h .astray)
+
+-- a step refused leaves all as before
+module _ (t : Tables) (h : History) (numbers : List ℕ) (a : Agrees t h numbers) where
+  pub passed-agrees : Agrees t (passed h) (more numbers (stepOf t))
+  passed-agrees = record {
+    sound = a .sound;
+    clock = more-length numbers (stepOf t) ∙ ap suc (a .clock);
+    entries = a .entries;
+    late = a .late;
+    writes = λ tag l u. one-more (t .writes) (writesOf t) numbers tag (h .write tag) (stepOf t) (a .writes tag l u);
+    reads = reads-more (t .reads) (readsOf t) numbers (h .reads) (a .reads) (stepOf t);
+    clients = λ q l. activity-on t t numbers (stepOf t) q (h .doing q) (λ f g. refl) (λ f g. refl) (λ w f g. refl) (λ w f g. refl) (a .clients q l);
+  }
+
+module _ (t t′ : Tables) (h : History) (numbers : List ℕ) (a : Agrees t h numbers) (q : ℕ) (client : q < clientsOf t) (k : Kept q t t′) where
+  abbrev step′ : ℕ
+  step′ = stepOf t + 1
+
+  abbrev numbers′ : List ℕ
+  numbers′ = more numbers step′
+
+  clock-on : length numbers′ ≡ suc (h .clock)
+  clock-on = more-length numbers step′ ∙ ap suc (a .clock)
+
+  -- the step now taken has its number
+  pub number-now : numberAt numbers′ (h .clock) ≡ step′
+  number-now = rw (a .clock) at (number-last numbers step′)
+
+  pub now-known : h .clock < length numbers′
+  now-known = omega (arith, clock-on)
+
+  clients-on : Leaves q t t′ → (d : Doing) → Activity t′ numbers′ q d → (p : ℕ) → p < clientsOf t′ → Activity t′ numbers′ p (changed (h .doing) q d p)
+  clients-on leaves d own p l =
+      changed-all (h .doing) q d (λ r x. r < clientsOf t → Activity t′ numbers′ r x) (λ z. own)
+      (λ r apart z. activity-on t t′ numbers step′ r (h .doing r) (λ f g. k .grows .row r f apart g) (λ f g. k .grows .link r coordinator f apart (omega arith) g) (leaves .writes r z apart) (leaves .reads r z apart) (a .clients r z))
+      p (rw (k .grows .numbers .clients) at l)
+
+  -- no record changes
+  module _ (same-writes : t′ .writes ≡ t .writes) (same-reads : t′ .reads ≡ t .reads) (c : Counts t t′ (entriesOf t) (writesOf t) (readsOf t)) where
+    pub all-stay : Leaves q t t′
+    all-stay = record { writes = λ p l d w f g. rw same-writes; reads = λ p l d w f g. rw same-reads }
+
+    quiet : (doing : ℕ → Doing) → ((p : ℕ) → p < clientsOf t′ → Activity t′ numbers′ p (doing p)) → Agrees t′ (movedOn h doing) numbers′
+    quiet doing clients = record {
+      sound = k .sound;
+      clock = clock-on;
+      entries = c .entries ∙ a .entries;
+      late = λ place l. let was : place < readsOf t = omega (arith, c .reads) in rw same-reads (omega (arith, c .step, a .late place was));
+      writes = λ tag l u. rw (same-writes, c .writes) (one-more (t .writes) (writesOf t) numbers tag (h .write tag) step′ (a .writes tag l u));
+      reads = rw (same-reads, c .reads) (reads-more (t .reads) (readsOf t) numbers (h .reads) (a .reads) step′);
+      clients = clients;
+    }
+
+    -- the client is at something else, or has one delivery more
+    pub quiet-turned : (d : Doing) → Activity t′ numbers′ q d → Agrees t′ (turned q d h) numbers′
+    quiet-turned d own = quiet (changed (h .doing) q d) (clients-on all-stay d own)
+
+    -- the client is at what it was at
+    pub quiet-passed : Activity t′ numbers′ q (h .doing q) → Agrees t′ (passed h) numbers′
+    quiet-passed own =
+        quiet (h .doing)
+        (λ p l. by-equal p q
+        (λ e. rw e own)
+        (λ d. rw (changed-other (h .doing) q (h .doing q) p d) at (clients-on all-stay (h .doing q) own p l)))
+
+  late-on : t′ .reads ≡ t .reads → readsOf t′ ≡ readsOf t → stepOf t′ ≡ step′ → (place : ℕ) → place < readsOf t′ → endIn (t′ .reads) place ≤ stepOf t′
+  late-on same begun step place l = let was : place < readsOf t = omega arith in rw same (omega (arith, a .late place was))
+
+  -- a WRITE begins
+  module _ (number : ℕ) (begins : t′ .writes ≡ putBegun (t .writes) (writesOf t) q number step′) (same-reads : t′ .reads ≡ t .reads) (c : Counts t t′ (entriesOf t) (writesOf t + 1) (readsOf t))
+      (few : writesOf t < recordPlaces) (state : stateOf t′ q ≡ rules.writing) (here : recordOf t′ q ≡ writesOf t) (mask : ℕ) (setpoints : List ℕ) where
+    write-row : HasRow recordWidth (t .writes) (writesOf t)
+    write-row = omega (arith, a .sound .long .writes)
+
+    write-word : (f : ℕ) → f < recordWidth → recordWord (t′ .writes) (writesOf t) f ≡ getD (q ∷ number ∷ 0 ∷ step′ ∷ 0 ∷ []) f 0
+    write-word f g = rw begins (begun-here (t .writes) (writesOf t) q number step′ f g write-row)
+
+    write-but : But (t .writes) (t′ .writes) (writesOf t)
+    write-but place f g d = rw begins (begun-but (t .writes) (writesOf t) q number step′ place f g d)
+
+    pub write-begins : Agrees t′ (turned q (writing mask setpoints (h .clock)) h) numbers′
+    write-begins = record {
+      sound = k .sound;
+      clock = clock-on;
+      entries = c .entries ∙ a .entries;
+      late = late-on same-reads (c .reads) (c .step);
+      writes = λ tag l u.
+          let o = one-more (t .writes) (writesOf t) numbers tag (h .write tag) step′ (a .writes tag l u) in
+          one-but (t .writes) (t′ .writes) (writesOf t) (writesOf t′) numbers′ tag (h .write tag) (writesOf t) o write-but
+          (λ e. omega (arith, o .within)) (λ e. omega (arith, write-word tagOfRecord (omega arith))) (omega (arith, c .writes)) (λ i m d. omega (arith, c .writes));
+      reads = rw (same-reads, c .reads) (reads-more (t .reads) (readsOf t) numbers (h .reads) (a .reads) step′);
+      clients = clients-on (record {
+        writes = λ p l d w f g. write-but (recordOf t p) f g (λ e. omega (arith, write-open t (a .sound) p l w .within));
+        reads = λ p l d w f g. rw same-reads;
+      })
+          (writing mask setpoints (h .clock))
+          (be-storing t′ numbers′ q (writing mask setpoints (h .clock)) state (record {
+            mask = mask;
+            setpoints = setpoints;
+            begin = h .clock;
+            is = refl;
+            tag = rw here (write-word tagOfRecord (omega arith));
+            start = rw here (write-word beginOfRecord (omega arith) ∙ sym number-now);
+            known = now-known;
+          }));
+    }
+
+  -- a READ begins
+  module _ (mask : ℕ) (begins : t′ .reads ≡ putBegun (t .reads) (readsOf t) q mask step′) (same-writes : t′ .writes ≡ t .writes) (c : Counts t t′ (entriesOf t) (writesOf t) (readsOf t + 1))
+      (few : readsOf t < recordPlaces) (state : isReading (stateOf t′ q) ≡ true) (here : recordOf t′ q ≡ readsOf t) where
+    read-row : HasRow recordWidth (t .reads) (readsOf t)
+    read-row = omega (arith, a .sound .long .reads)
+
+    read-word : (f : ℕ) → f < recordWidth → recordWord (t′ .reads) (readsOf t) f ≡ getD (q ∷ mask ∷ 0 ∷ step′ ∷ 0 ∷ []) f 0
+    read-word f g = rw begins (begun-here (t .reads) (readsOf t) q mask step′ f g read-row)
+
+    read-but : But (t .reads) (t′ .reads) (readsOf t)
+    read-but place f g d = rw begins (begun-but (t .reads) (readsOf t) q mask step′ place f g d)
+
+    pub read-begins : Agrees t′ (turned q (reading mask (h .clock) 0) h) numbers′
+    read-begins = record {
+      sound = k .sound;
+      clock = clock-on;
+      entries = c .entries ∙ a .entries;
+      late = λ place l.
+          by-equal place (readsOf t)
+          (λ e. rw e (omega (arith, read-word endOfRecord (omega arith))))
+          (λ d. let was : place < readsOf t = omega (arith, c .reads) in omega (arith, read-but place endOfRecord (omega arith) d, a .late place was, c .step));
+      writes = λ tag l u. rw (same-writes, c .writes) (one-more (t .writes) (writesOf t) numbers tag (h .write tag) step′ (a .writes tag l u));
+      reads = rw (begins, c .reads) (reads-begun (t .reads) (readsOf t) numbers′ (h .reads) (reads-more (t .reads) (readsOf t) numbers (h .reads) (a .reads) step′) q mask step′ read-row);
+      clients = clients-on (record {
+        writes = λ p l d w f g. rw same-writes;
+        reads = λ p l d w f g. read-but (recordOf t p) f g (λ e. omega (arith, read-open t (a .sound) p l w .within));
+      })
+          (reading mask (h .clock) 0)
+          (be-reading t′ numbers′ q (reading mask (h .clock) 0) state (record {
+            mask = mask;
+            begin = h .clock;
+            deliveries = 0;
+            is = refl;
+            masked = rw here (read-word numberOfRecord (omega arith));
+            start = rw here (read-word beginOfRecord (omega arith) ∙ sym number-now);
+            known = now-known;
+          }));
+    }
+
+  -- a WRITE gets its tag
+  module _ (w : isWriting (stateOf t q) ≡ true) (u : Untagged t numbers q (h .doing q)) (tags : t′ .writes ≡ taggedRecord (recordOf t q) (entriesOf t) (t .writes)) (same-reads : t′ .reads ≡ t .reads)
+      (c : Counts t t′ (entriesOf t + 1) (writesOf t) (readsOf t)) (state : stateOf t′ q ≡ entering) (here : recordOf t′ q ≡ recordOf t q) (kind : kindOn t′ q coordinator ≡ 2) (number : numberOn t′ q coordinator ≡ entriesOf t) where
+    abbrev own-place : ℕ
+    own-place = recordOf t q
+
+    open-here : keeping.Doing (t .writes) (writesOf t) q own-place
+    open-here = write-open t (a .sound) q client w
+
+    tag-but : But (t .writes) (t′ .writes) own-place
+    tag-but place f g d = rw tags (tagged-but (t .writes) own-place (entriesOf t) place f g d)
+
+    tag-here : recordWord (t′ .writes) own-place tagOfRecord ≡ suc (h .tags)
+    tag-here = rw tags (tagged-here (t .writes) own-place (entriesOf t) (write-room t (a .sound) q client w)) ∙ a .entries
+
+    tag-beside : (f : ℕ) → f < recordWidth → (f ≡ tagOfRecord → ⊥) → recordWord (t′ .writes) own-place f ≡ recordWord (t .writes) own-place f
+    tag-beside f g d = rw tags (tagged-word (t .writes) own-place (entriesOf t) own-place f g d)
+
+    abbrev new : Transaction
+    new = writeOf q (u .mask) (u .setpoints) (suc (h .tags)) (u .begin) none
+
+    new-tells : Tells numbers′ new (ofRecord true 0 (t′ .writes) own-place)
+    new-tells = record {
+      is = sym (rw (
+        tag-here,
+        tag-beside clientOfRecord (omega arith) (λ e. omega arith) ∙ open-client (t .writes) q own-place (open-here .here),
+        tag-beside beginOfRecord (omega arith) (λ e. omega arith) ∙ u .start ∙ sym (number-more numbers step′ (u .begin) (u .known)),
+        tag-beside endOfRecord (omega arith) (λ e. omega arith) ∙ open-end (t .writes) q own-place (open-here .here),
+      ));
+      begun = omega (arith, u .known, clock-on, a .clock);
+      ended = tt;
+    }
+
+    new-one : OneWrite (t′ .writes) (writesOf t) numbers′ (suc (h .tags)) new
+    new-one = record {
+      place = own-place;
+      within = open-here .within;
+      bears = tag-here;
+      unique = λ i l e. by-equal i own-place (λ z. z) (λ d. let z : ⊥ = omega (arith, sym (tag-but i tagOfRecord (omega arith) d) ∙ e, a .sound .write i l .tag, a .entries) in absurd z);
+      tells = new-tells;
+    }
+
+    pub write-tags : Agrees t′ (given q (u .mask) (u .setpoints) (u .begin) h) numbers′
+    write-tags = record {
+      sound = k .sound;
+      clock = clock-on;
+      entries = omega (arith, c .entries, a .entries);
+      late = late-on same-reads (c .reads) (c .step);
+      writes = rw (c .writes) (changed-all (h .write) (suc (h .tags)) new (λ tag x. 1 ≤ tag → tag ≤ suc (h .tags) → OneWrite (t′ .writes) (writesOf t) numbers′ tag x)
+          (λ l m. new-one)
+          (λ tag d l m.
+          let o = one-more (t .writes) (writesOf t) numbers tag (h .write tag) step′ (a .writes tag l (omega arith)) in
+          one-but (t .writes) (t′ .writes) (writesOf t) (writesOf t) numbers′ tag (h .write tag) own-place o tag-but
+          (λ e. omega (arith, ap (λ (n : ℕ). recordWord (t .writes) n tagOfRecord) e, o .bears, u .tag)) (λ e. d (sym e ∙ tag-here)) (omega arith) (λ i y z. y)));
+      reads = rw (same-reads, c .reads) (reads-more (t .reads) (readsOf t) numbers (h .reads) (a .reads) step′);
+      clients = clients-on (record { writes = own-write t (a .sound) q client w (t′ .writes) tag-but; reads = λ p l d v f g. rw same-reads })
+          (tagged (suc (h .tags)))
+          (be-tagged t′ numbers′ q (tagged (suc (h .tags))) state kind (record { is = ap tagged (sym (number ∙ a .entries)); tag = rw here (tag-here ∙ sym (number ∙ a .entries)) }));
+    }
+
+  -- a WRITE ends
+  module _ (w : isWriting (stateOf t q) ≡ true) (tag : ℕ) (some-tag : 1 ≤ tag) (logged : tag ≤ h .tags) (bears-tag : recordWord (t .writes) (recordOf t q) tagOfRecord ≡ tag)
+      (ends : t′ .writes ≡ endedRecord (recordOf t q) step′ (t .writes)) (same-reads : t′ .reads ≡ t .reads) (c : Counts t t′ (entriesOf t) (writesOf t) (readsOf t)) (state : stateOf t′ q ≡ idle) where
+    abbrev ending : Particulars → Particulars
+    ending e = particulars (e .isWrite) (e .tag) (e .client) (e .mask) (e .begin) step′
+
+    abbrev own-record : ℕ
+    own-record = recordOf t q
+
+    end-but : But (t .writes) (t′ .writes) own-record
+    end-but place f g d = rw ends (ended-but (t .writes) own-record step′ place f g d)
+
+    end-beside : (place f : ℕ) → f < recordWidth → (f ≡ endOfRecord → ⊥) → recordWord (t′ .writes) place f ≡ recordWord (t .writes) place f
+    end-beside place f g d = rw ends (ended-word (t .writes) own-record step′ place f g d)
+
+    end-here : recordWord (t′ .writes) own-record endOfRecord ≡ step′
+    end-here = rw ends (word-same recordWidth (t .writes) own-record endOfRecord step′ (write-room t (a .sound) q client w) (omega arith))
+
+    abbrev was : OneWrite (t .writes) (writesOf t) numbers tag (h .write tag)
+    was = a .writes tag some-tag logged
+
+    was-here : own-record ≡ was .place
+    was-here = was .unique own-record (write-open t (a .sound) q client w .within) bears-tag
+
+    end-particulars : ofRecord true 0 (t′ .writes) own-record ≡ ending (ofRecord true 0 (t .writes) own-record)
+    end-particulars = rw (end-here, end-beside own-record tagOfRecord (omega arith) (λ e. omega arith), end-beside own-record clientOfRecord (omega arith) (λ e. omega arith), end-beside own-record beginOfRecord (omega arith) (λ e. omega arith))
+
+    end-tells : Tells numbers′ (ended (h .clock) (h .write tag)) (ofRecord true 0 (t′ .writes) own-record)
+    end-tells =
+        let before = tells-more numbers step′ (h .write tag) _ (tells-as numbers (h .write tag) (ap (ofRecord true 0 (t .writes)) was-here) (was .tells)) in
+        record { is = rw number-now (ap ending (before .is)) ∙ sym end-particulars; begun = before .begun; ended = now-known }
+
+    end-one : OneWrite (t′ .writes) (writesOf t) numbers′ tag (ended (h .clock) (h .write tag))
+    end-one = record {
+      place = own-record;
+      within = write-open t (a .sound) q client w .within;
+      bears = end-beside own-record tagOfRecord (omega arith) (λ e. omega arith) ∙ bears-tag;
+      unique = λ i l e. was .unique i l (sym (end-beside i tagOfRecord (omega arith) (λ z. omega arith)) ∙ e) ∙ sym was-here;
+      tells = end-tells;
+    }
+
+    pub write-ends : Agrees t′ (wrote tag (tagged tag) q h) numbers′
+    write-ends = record {
+      sound = k .sound;
+      clock = clock-on;
+      entries = c .entries ∙ a .entries;
+      late = late-on same-reads (c .reads) (c .step);
+      writes = rw (c .writes) (changed-all (h .write) tag (ended (h .clock) (h .write tag)) (λ n x. 1 ≤ n → n ≤ h .tags → OneWrite (t′ .writes) (writesOf t) numbers′ n x)
+          (λ l m. end-one)
+          (λ n d l m.
+          let o = one-more (t .writes) (writesOf t) numbers n (h .write n) step′ (a .writes n l m) in
+          one-but (t .writes) (t′ .writes) (writesOf t) (writesOf t) numbers′ n (h .write n) own-record o end-but
+          (λ e. d (sym (o .bears) ∙ ap (λ (i : ℕ). recordWord (t .writes) i tagOfRecord) e ∙ bears-tag))
+          (λ e. d (sym e ∙ end-beside own-record tagOfRecord (omega arith) (λ z. omega arith) ∙ bears-tag)) (omega arith) (λ i y z. y)));
+      reads = rw (same-reads, c .reads) (reads-more (t .reads) (readsOf t) numbers (h .reads) (a .reads) step′);
+      clients = clients-on (record { writes = own-write t (a .sound) q client w (t′ .writes) end-but; reads = λ p l d v f g. rw same-reads }) nothing (be-idle t′ numbers′ q nothing state refl);
+    }
+
+  -- a READ ends
+  module _ (w : isReading (stateOf t q) ≡ true) (r : Reading t numbers q (h .doing q)) (tag : ℕ) (shown : List ℕ)
+      (ends : t′ .reads ≡ endedRecord (recordOf t q) step′ (taggedRecord (recordOf t q) tag (t .reads))) (same-writes : t′ .writes ≡ t .writes) (c : Counts t t′ (entriesOf t) (writesOf t) (readsOf t)) (state : stateOf t′ q ≡ idle) where
+    abbrev read-place : ℕ
+    read-place = recordOf t q
+
+    abbrev with-tag : List ℕ
+    with-tag = taggedRecord read-place tag (t .reads)
+
+    open-read : keeping.Doing (t .reads) (readsOf t) q read-place
+    open-read = read-open t (a .sound) q client w
+
+    room : HasRow recordWidth (t .reads) read-place
+    room = read-room t (a .sound) q client w
+
+    over-but : But (t .reads) (t′ .reads) read-place
+    over-but place f g d = rw ends (ended-but with-tag read-place step′ place f g d ∙ tagged-but (t .reads) read-place tag place f g d)
+
+    over-end : recordWord (t′ .reads) read-place endOfRecord ≡ step′
+    over-end = rw ends (word-same recordWidth with-tag read-place endOfRecord step′ (rw (word-length recordWidth (t .reads) read-place tagOfRecord tag) room) (omega arith))
+
+    over-tag : recordWord (t′ .reads) read-place tagOfRecord ≡ tag
+    over-tag = rw ends (ended-word with-tag read-place step′ read-place tagOfRecord (omega arith) (λ e. omega arith) ∙ tagged-here (t .reads) read-place tag room)
+
+    over-beside : (f : ℕ) → f < recordWidth → (f ≡ endOfRecord → ⊥) → (f ≡ tagOfRecord → ⊥) → recordWord (t′ .reads) read-place f ≡ recordWord (t .reads) read-place f
+    over-beside f g d e = rw ends (ended-word with-tag read-place step′ read-place f g d ∙ tagged-word (t .reads) read-place tag read-place f g e)
+
+    abbrev finished : Transaction
+    finished = readOf q (r .mask) shown tag (r .begin) (h .clock) (suc (r .deliveries))
+
+    over-tells : Tells numbers′ finished (ofRead (t′ .reads) read-place)
+    over-tells = record {
+      is = sym (rw (
+        over-tag,
+        over-end,
+        over-beside clientOfRecord (omega arith) (λ e. omega arith) (λ e. omega arith) ∙ open-client (t .reads) q read-place (open-read .here),
+        over-beside numberOfRecord (omega arith) (λ e. omega arith) (λ e. omega arith) ∙ r .masked,
+        over-beside beginOfRecord (omega arith) (λ e. omega arith) (λ e. omega arith) ∙ r .start ∙ sym (number-more numbers step′ (r .begin) (r .known)),
+        number-now,
+      ));
+      begun = omega (arith, r .known, clock-on, a .clock);
+      ended = now-known;
+    }
+
+    pub read-ends : Agrees t′ (showed tag shown (reading (r .mask) (r .begin) (r .deliveries)) q h) numbers′
+    read-ends = record {
+      sound = k .sound;
+      clock = clock-on;
+      entries = c .entries ∙ a .entries;
+      late = λ place l.
+          by-equal place read-place
+          (λ e. rw e (omega (arith, over-end, c .step)))
+          (λ d. let before : place < readsOf t = omega (arith, c .reads) in omega (arith, over-but place endOfRecord (omega arith) d, a .late place before, c .step));
+      writes = λ n l u. rw (same-writes, c .writes) (one-more (t .writes) (writesOf t) numbers n (h .write n) step′ (a .writes n l u));
+      reads = rw (c .reads, ends) (reads-ended (t .reads) (readsOf t) numbers′ (h .reads) (reads-more (t .reads) (readsOf t) numbers (h .reads) (a .reads) step′)
+          read-place tag step′ (open-read .within) room (open-end (t .reads) q read-place (open-read .here)) (λ i l. omega (arith, a .late i l)) finished (rw ends at over-tells));
+      clients = clients-on (record { writes = λ p l d v f g. rw same-writes; reads = own-read t (a .sound) q client w (t′ .reads) over-but }) nothing (be-idle t′ numbers′ q nothing state refl);
+    }
