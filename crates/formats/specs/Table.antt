@@ -31,7 +31,7 @@ tag1 = 6
 abbrev pub count : ℕ
 count = 7
 
--- "In kinds 1 and 3 .. its count at least 1"
+-- "In kinds 1 and 3 the key's panel is the header's and its count at least 1."
 abbrev pub count1 : ℕ
 count1 = 8
 

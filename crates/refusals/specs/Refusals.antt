@@ -33,7 +33,7 @@ abbrev pub readFault : ℕ → ℕ → Tables → ℕ
 readFault q mask t =
     beginFault (leb (clientsOf t) q) (eqb (methodOf t) 1 && not (eqb q 0)) (eqb (stateOf t q) idle) (maskWithin mask (serversOf t)) (leb recordPlaces (readsOf t) || atLastStep t)
 
--- "Targets 0..k−1 and 16": a station's number, or the head's
+-- "Stations 0 to k−1", "Target 16 means the head": a station's number, or the head's
 abbrev pub isTargetOf : ℕ → ℕ → Bool
 isTargetOf k i = ltb i k || eqb i coordinator
 

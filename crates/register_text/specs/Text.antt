@@ -24,6 +24,6 @@ rowsText list (suc n) = rowText (take lineWidth list) ++ rowsText (drop lineWidt
 abbrev pub registerText : Tables → List ℕ
 registerText t = flatMap (λ line. rowText (lineWords t line)) (register t)
 
--- "The register is of the last opening": before any there is none
+-- "Kept per opening": before any there is none
 unfoldable pub registerPrinted : Tables → List ℕ
 registerPrinted t = cond (eqb (methodOf t) 0) [] (registerText t)

@@ -133,7 +133,7 @@ arrived (arrival.Write tag) shown q h = wrote tag (h .doing q) q h
 arrived (arrival.Read tag) shown q h = showed tag shown (h .doing q) q h
 arrived (arrival.Refused n) shown q h = passed h
 
--- Behind an accepted opening there is nothing yet. "a READ of m stations ends at exactly the 2m-th accepted delivery … under A, the (2m + 2)-th under B and C"
+-- Behind an accepted opening there is nothing yet. Demand 3: a READ of m stations ends at exactly the 2m-th delivery on its links under A, at the (2m + 2)-th under B and C.
 abbrev pub noWrite : Transaction
 noWrite = writeOf 0 0 [] 0 0 none
 

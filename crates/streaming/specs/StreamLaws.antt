@@ -78,7 +78,7 @@ module _ (part unread : List ℕ) where
         ∙ (ap (λ (l : List ℕ). l ∷ linesOf (behindLine (part ++ unread))) (line-open part unread open′)
         ∙ ap (λ (l : List ℕ). (part ++ lineOf unread) ∷ linesOf l) behind-open)
 
--- "a longer one too, is no step": all such lines are played alike
+-- "A line of any other shape, an empty or longer one too, is no step": all longer ones are played alike
 long-unreadable : (line : List ℕ) → 200 < length line → stepOf line ≡ unreadable
 unfolding stepOf
 long-unreadable [] h = let z : ⊥ = omega (arith, h) in absurd z

@@ -264,7 +264,8 @@ fn print_end(
     )
 }
 
-// Plays standard input to its end, and prints the answers and the register.
+// Plays standard input to its end, and prints the answers and the register. It is lent nothing and answers nothing, so that no contract is left to state:
+// what the system reads and writes is in none. What it does is in those of `turn` and `print_end`, and that it ends is part of its proof.
 pub fn replay() {
     let mut counts = [0u32; 23];
     let mut clients = [0u32; 608];

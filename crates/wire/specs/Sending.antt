@@ -35,7 +35,7 @@ sentFrom (carries m keys numbers) bytes =
 abbrev pub isAbsent : ℕ → ℕ → Tables → Bool
 isAbsent q i t = leb (clientsOf t) q || not (isTarget t i)
 
--- the frame of link (q, i) into lent bytes: "2 all as before: tables not sound", then 3, 9 and 12
+-- the frame of link (q, i) into lent bytes: 2 "tables not sound", then 3, 9 and 12, and all as before
 unfoldable pub linkFrame : ℕ → ℕ → Tables → List ℕ → Sent
 linkFrame q i t bytes =
     cond (not (sound t)) (refused 2 bytes)

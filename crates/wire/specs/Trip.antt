@@ -134,7 +134,7 @@ module _ (q i : ℕ) (t : Tables) (s : Sound t) (words : Words (t .links) (t .va
           absurd (let z : _≡_ {A = ℕ} 0 1 = cc in omega arith))
 
       module _ (keys′ numbers′ : List ℕ) (room : hasPlaces m keys′ numbers′ ≡ true) where
-        -- "what was written is read back as the message and entries it was written from"
+        -- what was written is read back as the message and entries it was written from
         pub link-round-trip : ReadAs (take n (linkFrame q i t bytes .bytes)) m keys numbers keys′ numbers′
         link-round-trip =
             record {
