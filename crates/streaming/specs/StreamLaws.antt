@@ -4,7 +4,7 @@ use mathlib.Core.Path.{_≡_, refl, sym, ap, subst, _∙_}
 use mathlib.Core.Bool.{Bool, true, false, cond, true≢false}
 use mathlib.Core.List.{List, [], _∷_, _++_}
 use native.Mathlib.Omega.{arith}
-use lib.ListN.{length, take, drop, length-append, length-drop, drop-of-length-le, take-append-drop}
+use lib.ListN.{length, take, drop, length-append, length-drop, drop-of-length-le}
 use lib.Seq.{drop-append-le, drop-append-add, drop-drop, take-length, length-take-le}
 use lib.Dec.{eqb, ltb, leb}
 use borrow.Author.Tests.{lt-ltb, le-ltb, le-leb, lt-leb, ltb-true, ltb-false, leb-true, leb-false}
@@ -13,7 +13,7 @@ use Rattle.tables.specs.Tables.{Tables}
 use Rattle.schedule.specs.Lines.{lineOf, linesOf, endOf}
 use Rattle.schedule.specs.LineLaws.{lines-next, line-found, take-line, line-short}
 use Rattle.schedule.specs.Steps.{Named, stepOf, unreadable}
-use Rattle.printing.specs.Printed.{written}
+use Rattle.printing.specs.PrintedLaws.{printed-none}
 use Rattle.playing.specs.Played.{Played, played, playedLine, shownText, LinePlayed, answersFrom}
 use Rattle.streaming.specs.declared.Run.{Run}
 use Rattle.streaming.specs.Stream.{heldBy, behindLine, lacksEnd, linesLeft, restOf, passed, lineText, lineTables, linesThen, Answered}
@@ -104,17 +104,13 @@ module _ (run : Run) (size lines used : ℕ) where
   unfolding passed
   passed-used = by-test (ltb (run .from + size) (run .held)) (λ e. rw e) (λ e. rw e)
 
--- the print with nothing printed
-pub nothing-written : (out : List ℕ) (at : ℕ) → out ≡ written out at []
-nothing-written out at = let n : at + 0 ≡ at = omega arith in rw n (sym (take-append-drop at out))
-
 module _ (run r : Run) (line : List ℕ) (t : Tables) (out : List ℕ) where
   -- a line that is answered already is only passed
-  pub skipped : run .skipping ≡ true → r ≡ passed run (length line) (run .lines) (run .used) → Answered run line t out r out t
-  skipped e h =
+  pub skipped : run .used ≤ length out → run .skipping ≡ true → r ≡ passed run (length line) (run .lines) (run .used) → Answered run line t out r out t
+  skipped within e h =
       let u : r .used ≡ run .used = ap (λ (x : Run). x .used) h ∙ passed-used run (length line) (run .lines) (run .used) in
       record {
-        printed = record { end = rw e (omega (arith, u)); space = rw e (nothing-written out (run .used)) };
+        printed = rw (e, u) (printed-none out (run .used) within);
         short = omega (arith, u);
         tables = rw e;
         next = h ∙ (ap (λ (n : ℕ). passed run (length line) n (run .used)) (sym (ap (λ (b : Bool). cond b (run .lines) (run .lines + 1)) e)) ∙ ap (passed run (length line) (linesThen run)) (sym u));

@@ -13,11 +13,12 @@ use Rattle.tables.specs.Tables.{Tables}
 use Rattle.schedule.specs.Lines.{lineOf}
 use Rattle.schedule.specs.LineLaws.{line-short}
 use Rattle.schedule.specs.Steps.{stepOf}
+use Rattle.printing.specs.PrintedLaws.{printed-none}
 use Rattle.playing.specs.Played.{playedLine, answersFrom}
 use Rattle.playing.specs.Playable.{Playable, step-playable}
 use Rattle.streaming.specs.declared.Run.{Run}
 use Rattle.streaming.specs.Stream.{heldBy, linesLeft, restOf, passed, lineText, lineTables, linesThen, Answered, Going, Turned}
-use Rattle.streaming.specs.StreamLaws.{nothing-written, passed-found, passed-open, answered-later}
+use Rattle.streaming.specs.StreamLaws.{passed-found, passed-open, answered-later}
 use Rattle.streaming.specs.Windows.{ReadOn, roomy}
 
 -- what a run that is passed has
@@ -53,7 +54,7 @@ module _ (run : Run) (window out : List ℕ) (t : Tables) (going : Going run win
         came = k .came;
         text = [];
         at = r .used;
-        printed = record { end = omega arith; space = nothing-written out (r .used) };
+        printed = printed-none out (r .used) (omega (arith, k .used, going .used, going .outSize));
         later = λ unread.
             ap (λ (x : List ℕ). restOf run x t) (sym (append-assoc (heldBy run window) (k .came) unread) ∙ ap (λ (x : List ℕ). x ++ unread) (sym (k .held)))
             ∙ (ap (λ (n : ℕ). answersFrom (n + 1) (linesLeft (run .skipping) (heldBy r window′ ++ unread)) t) (sym (k .lines))

@@ -1,12 +1,13 @@
 -- A line that is answered already is only passed.
 use Rattle.tables.specs.Tables.{tablesOf}
 use Rattle.streaming.specs.StreamLaws.{skipped, newly-answered}
+use native.Mathlib.Omega.{arith}
 use borrow.Author.Needs.{needs}
 use Rattle.streaming.proofs.answer_line.Statement.{statement}
 use Rattle.streaming.proofs.answer_line.Tie as tie
 
 returns : tie.Need-returns
-returns c = let a = c .before .before .before .before .before .before .before .before .before .before .before .before .args in skipped (a .run) (c .pass .result) (a .line .now) (tablesOf (a .counts .now) (a .clients .now) (a .links .now) (a .keys .now) (a .values .now) (a .log .now) (a .writes .now) (a .reads .now)) (a .out .now) (c .before .if1 .taken) (c .pass .ensures)
+returns c = let a = c .before .before .before .before .before .before .before .before .before .before .before .before .args in skipped (a .run) (c .pass .result) (a .line .now) (tablesOf (a .counts .now) (a .clients .now) (a .links .now) (a .keys .now) (a .values .now) (a .log .now) (a .writes .now) (a .reads .now)) (a .out .now) (omega (arith, c .before .before .before .before .before .before .before .before .before .before .before .before .pre .1 .1 .0)) (c .before .if1 .taken) (c .pass .ensures)
 
 pass-requires-2 : tie.Need-pass-requires-2
 pass-requires-2 c κs = c .before .before .before .before .before .before .before .before .before .before .before .before .before .before .before .before .before .before .before .before .before .before .before .before .before .before .before .before .before .before .before .before .before .before .before .before .before .before .before .pre .1 .0
