@@ -19,7 +19,11 @@ pub fn report(library: StoreLibrary) {
             rows.push([&sizes[..], &[time(proved), time(rust), ratio(proved, rust, GOAL)]].concat());
         }
     }
-    print("The check of sound tables", &["servers", "clients", "versions of each server", "proved ns", "Rust ns", "ratio"], &rows);
+    print(
+        "The check of sound tables",
+        &["servers", "clients", "versions of each server", "proved ns", "Rust ns", "ratio"],
+        &rows,
+    );
 }
 
 /// Tables after WRITEs of all servers, so that each server and the log hold this many.

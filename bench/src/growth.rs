@@ -7,14 +7,14 @@ use crate::table::{print, ratio, time};
 use ffi::StoreLibrary;
 use model::COORDINATOR;
 
-const LENGTHS: [usize; 5] = [1, 32, 64, 128, 256];
 const ROUNDS: usize = 10;
 const GOAL: f64 = 1.5;
 
-/// Plans of which so many last steps are measured, made for a log of any length.
+/// Plans of which so many last steps are measured, made for any size.
 type Case = (&'static str, usize, fn(usize) -> Plan);
 
-const CASES: [Case; 7] = [
+const LOGS: [usize; 5] = [1, 32, 64, 128, 256];
+const BY_LOG: [Case; 7] = [
     ("begin a READ, A, one server that no WRITE wrote: one search of the whole log", 1, untouched_server),
     ("begin a READ, A, 16 servers of which 15 were never written: 15 such searches", 1, untouched_servers),
     ("which keys, B, request and reply together, the same servers: 15 such searches", 2, keys_of_untouched),
@@ -24,22 +24,56 @@ const CASES: [Case; 7] = [
     ("C's last reply, 16 servers, no tag but 0 qualifies: the worst case", 1, no_tag_but_0),
 ];
 
+const SERVERS: [usize; 5] = [1, 2, 4, 8, 16];
+const BY_SERVERS: [Case; 6] = [
+    ("begin a WRITE", 1, |servers| after_64(2, servers, |plan| plan.begin_write(1, plan.all()))),
+    ("a WRITE's last reply set done, and its entry: 3 steps", 3, |servers| {
+        after_64(2, servers, |plan| plan.write(1, plan.all()))
+    }),
+    ("begin a READ, A", 1, |servers| after_64(1, servers, |plan| plan.begin_read(0, plan.all()))),
+    ("begin a READ, C", 1, |servers| after_64(3, servers, |plan| plan.begin_read(0, plan.all()))),
+    ("A's last reply", 1, |servers| after_64(1, servers, read_to_end)),
+    ("C's last reply", 1, |servers| after_64(3, servers, read_to_end)),
+];
+
 pub fn report(clock: &Clock, library: StoreLibrary) {
+    let logs = LOGS.map(|entries| format!("log of {entries}"));
+    print("Growth with the log and the versions, ns", &heads(&logs), &rows(clock, library, &BY_LOG, &LOGS));
+    let servers = SERVERS.map(|servers| format!("k = {servers}"));
+    print("Growth with the servers, a log of 64, ns", &heads(&servers), &rows(clock, library, &BY_SERVERS, &SERVERS));
+}
+
+fn heads(sizes: &[String]) -> Vec<&str> {
+    ["step", "side"].into_iter().chain(sizes.iter().map(String::as_str)).collect()
+}
+
+/// Three rows a case: proved, Rust and their ratio.
+fn rows(clock: &Clock, library: StoreLibrary, cases: &[Case], sizes: &[usize]) -> Vec<Vec<String>> {
     let mut rows = Vec::new();
-    for (name, steps, plan_of) in CASES {
+    for &(name, steps, plan_of) in cases {
         let (mut proved_row, mut rust_row) = (vec![name.to_string(), "inner".into()], vec!["".to_string(), "Rust".into()]);
         let mut ratios = vec!["".to_string(), "ratio".into()];
-        for entries in LENGTHS {
-            let (proved, rust) = last_steps(clock, library, &plan_of(entries), steps, ROUNDS);
+        for &size in sizes {
+            let (proved, rust) = last_steps(clock, library, &plan_of(size), steps, ROUNDS);
             proved_row.push(time(proved));
             rust_row.push(time(rust));
             ratios.push(ratio(proved, rust, GOAL));
         }
         rows.extend([proved_row, rust_row, ratios]);
     }
-    let lengths = LENGTHS.map(|entries| format!("log of {entries}"));
-    let heads: Vec<&str> = ["step", "side"].into_iter().chain(lengths.iter().map(String::as_str)).collect();
-    print("Growth with the log and the versions, ns", &heads, &rows);
+    rows
+}
+
+/// A press whose log has 64 entries, each of all servers, and further steps.
+fn after_64(method: u32, servers: usize, further: impl FnOnce(&mut Plan)) -> Plan {
+    let mut plan = written(method, servers as u32, (1 << servers) - 1, 64);
+    further(&mut plan);
+    plan
+}
+
+fn read_to_end(plan: &mut Plan) {
+    plan.begin_read(0, plan.all());
+    plan.finish(0);
 }
 
 /// An opening with WRITEs of one mask until the log has this many entries.

@@ -11,7 +11,8 @@ use std::time::Instant;
 const LINES: usize = 100_000;
 const RUNS: usize = 9;
 const GOAL: f64 = 1.5;
-const HEADS: [&str; 5] = ["schedule of 100,000 lines", "bytes", "proved, lines a second", "Rust, lines a second", "times as long"];
+const HEADS: [&str; 5] =
+    ["schedule of 100,000 lines", "bytes", "proved, lines a second", "Rust, lines a second", "times as long"];
 
 pub fn report(proved: &str, model: &str) {
     let schedules = [

@@ -35,7 +35,8 @@ fn one_press(clock: &Clock, library: StoreLibrary, servers: u32, clients: u32, t
             ratio(checked, rust_checked, GOAL),
         ]);
     }
-    let title = format!("Steps, {servers} servers and {clients} clients, {times} WRITEs and {times} READs of all servers in turn");
+    let title =
+        format!("Steps, {servers} servers and {clients} clients, {times} WRITEs and {times} READs of all servers in turn");
     print(&title, &HEADS, &rows);
 }
 

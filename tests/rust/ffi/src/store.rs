@@ -221,7 +221,14 @@ mod linked {
     /// Any step by the functions that check no tables, which must be sound.
     #[inline]
     pub unsafe fn unchecked(t: &mut Tables, step: &Step) -> Crossing {
-        taken_by!(t, step, store_begin_write_sound, store_begin_read_sound, store_deliver_request_sound, store_deliver_reply_sound)
+        taken_by!(
+            t,
+            step,
+            store_begin_write_sound,
+            store_begin_read_sound,
+            store_deliver_request_sound,
+            store_deliver_reply_sound
+        )
     }
 
     #[inline]
