@@ -1,6 +1,6 @@
 //! The check of sound tables alone, by servers, clients and how much they hold.
 
-use crate::clock::beside;
+use crate::clock::{beside, least_of_passes};
 use crate::plans::Plan;
 use crate::sides::opened_tables;
 use crate::table::{print, ratio, time};
@@ -9,25 +9,24 @@ use words::Tables;
 
 const GOAL: f64 = 1.5;
 
+const HEADS: [&str; 6] = ["servers", "clients", "versions of each server", "proved ns", "Rust ns", "ratio"];
+
 pub fn report(library: StoreLibrary) {
-    let mut rows = Vec::new();
-    for (servers, clients) in [(1, 2), (4, 4), (16, 2), (16, 16)] {
-        for entries in [1, 64, 256] {
-            let tables = filled(library, servers, clients, entries);
-            let (proved, rust) = beside(|| library.sound(&tables), || words::sound(&tables));
-            let sizes = [servers, clients, entries].map(|number| number.to_string());
-            rows.push([&sizes[..], &[time(proved), time(rust), ratio(proved, rust, GOAL)]].concat());
-        }
-    }
-    print(
-        "The check of sound tables",
-        &["servers", "clients", "versions of each server", "proved ns", "Rust ns", "ratio"],
-        &rows,
-    );
+    let presses = [(1, 2), (4, 4), (16, 2), (16, 16)];
+    let sizes: Vec<[u32; 3]> =
+        presses.iter().flat_map(|&(servers, clients)| [1, 64, 256].map(|versions| [servers, clients, versions])).collect();
+    let all_tables: Vec<Tables> = sizes.iter().map(|&size| filled(library, size)).collect();
+    let times = least_of_passes(&all_tables, |tables| beside(|| library.sound(tables), || words::sound(tables)).into());
+    let row = |(size, [proved, rust]): (&[u32; 3], [f64; 2])| {
+        let numbers = size.map(|number| number.to_string());
+        [&numbers[..], &[time(proved), time(rust), ratio(proved, rust, GOAL)]].concat()
+    };
+    let rows: Vec<Vec<String>> = sizes.iter().zip(times).map(row).collect();
+    print("The check of sound tables", &HEADS, &rows);
 }
 
 /// Tables after WRITEs of all servers, so that each server and the log hold this many.
-fn filled(library: StoreLibrary, servers: u32, clients: u32, entries: u32) -> Tables {
+fn filled(library: StoreLibrary, [servers, clients, entries]: [u32; 3]) -> Tables {
     let mut plan = Plan::opened(2, servers, clients);
     for _ in 1..entries {
         plan.write(1, plan.all());

@@ -58,7 +58,7 @@ pub fn beside<P, R>(mut proved: impl FnMut() -> P, mut rust: impl FnMut() -> R) 
 }
 
 /// How often two loops take turns.
-const LOOPS: usize = 40;
+const LOOPS: usize = 30;
 
 /// Calls enough for about a millisecond.
 fn loop_length<R>(call: &mut impl FnMut() -> R) -> u32 {
@@ -72,4 +72,19 @@ fn mean<R>(call: &mut impl FnMut() -> R, times: u32) -> f64 {
         black_box(call());
     }
     started.elapsed().as_nanos() as f64 / f64::from(times)
+}
+
+/// How often all of a table's figures are measured, since a machine's speed changes over seconds.
+const PASSES: usize = 4;
+
+/// The least of each figure of each row, over several passes through the rows.
+pub fn least_of_passes<T, const N: usize>(rows: &[T], measure: impl Fn(&T) -> [f64; N]) -> Vec<[f64; N]> {
+    let mut least = vec![[f64::INFINITY; N]; rows.len()];
+    for _ in 0..PASSES {
+        for (row, best) in rows.iter().zip(&mut least) {
+            let times = measure(row);
+            *best = std::array::from_fn(|place| best[place].min(times[place]));
+        }
+    }
+    least
 }

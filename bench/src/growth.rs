@@ -7,7 +7,7 @@ use crate::table::{print, ratio, time};
 use ffi::StoreLibrary;
 use model::COORDINATOR;
 
-const ROUNDS: usize = 10;
+const ROUNDS: usize = 40;
 const GOAL: f64 = 1.5;
 
 /// Plans of which so many last steps are measured, made for any size.

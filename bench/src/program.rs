@@ -9,7 +9,7 @@ use std::process::{Command, Stdio};
 use std::time::Instant;
 
 const LINES: usize = 100_000;
-const RUNS: usize = 9;
+const RUNS: usize = 15;
 const GOAL: f64 = 1.5;
 const HEADS: [&str; 5] =
     ["schedule of 100,000 lines", "bytes", "proved, lines a second", "Rust, lines a second", "times as long"];
