@@ -1,6 +1,6 @@
 //! How the cost of a step grows with the log and the versions held, and the worst cases.
 
-use crate::clock::Clock;
+use crate::clock::{least_of_passes, Clock};
 use crate::plans::Plan;
 use crate::sides::last_steps;
 use crate::table::{print, ratio, time};
@@ -49,17 +49,17 @@ fn heads(sizes: &[String]) -> Vec<&str> {
 
 /// Three rows a case: proved, Rust and their ratio.
 fn rows(clock: &Clock, library: StoreLibrary, cases: &[Case], sizes: &[usize]) -> Vec<Vec<String>> {
+    let plan_of = |&(_, steps, plan_of): &Case, &size: &usize| (plan_of(size), steps);
+    let plans: Vec<(Plan, usize)> = cases.iter().flat_map(|case| sizes.iter().map(move |size| plan_of(case, size))).collect();
+    let times = least_of_passes(&plans, |(plan, steps)| last_steps(clock, library, plan, *steps, ROUNDS));
     let mut rows = Vec::new();
-    for &(name, steps, plan_of) in cases {
-        let (mut proved_row, mut rust_row) = (vec![name.to_string(), "inner".into()], vec!["".to_string(), "Rust".into()]);
-        let mut ratios = vec!["".to_string(), "ratio".into()];
-        for &size in sizes {
-            let (proved, rust) = last_steps(clock, library, &plan_of(size), steps, ROUNDS);
-            proved_row.push(time(proved));
-            rust_row.push(time(rust));
-            ratios.push(ratio(proved, rust, GOAL));
-        }
-        rows.extend([proved_row, rust_row, ratios]);
+    for ((name, ..), times) in cases.iter().zip(times.chunks(sizes.len())) {
+        let row = |name: &str, side: &str, cell: fn(&[f64; 2]) -> String| {
+            [name.to_string(), side.to_string()].into_iter().chain(times.iter().map(cell)).collect()
+        };
+        rows.push(row(name, "inner", |&[proved, _]| time(proved)));
+        rows.push(row("", "Rust", |&[_, rust]| time(rust)));
+        rows.push(row("", "ratio", |&[proved, rust]| ratio(proved, rust, GOAL)));
     }
     rows
 }

@@ -14,22 +14,19 @@ pub struct Measured {
     pub rust_checked: Vec<f64>,
 }
 
-/// How often the sides take turns, so that what else the machine does disturbs them alike.
-const TURNS: usize = 4;
-
-/// All four sides, each for several rounds a turn.
+/// All four sides, each for several rounds.
 pub fn measured(clock: &Clock, library: StoreLibrary, plan: &Plan, rounds: usize) -> Measured {
-    let one_turn = || Measured {
+    Measured {
         inner: inner(clock, library, plan, rounds),
         rust: rust(clock, plan, rounds),
         checked: checked(clock, library, plan, rounds),
         rust_checked: rust_checked(clock, library, plan, rounds),
-    };
-    (1..TURNS).fold(one_turn(), |best, _| best.or_less(one_turn()))
+    }
 }
 
 impl Measured {
-    fn or_less(self, other: Measured) -> Measured {
+    /// Step by step the lesser times of two measurements.
+    pub fn or_less(self, other: Measured) -> Measured {
         Measured {
             inner: lesser(self.inner, other.inner),
             rust: lesser(self.rust, other.rust),
@@ -39,20 +36,14 @@ impl Measured {
     }
 }
 
-/// Step by step the lesser time.
 fn lesser(one: Vec<f64>, other: Vec<f64>) -> Vec<f64> {
     one.into_iter().zip(other).map(|(one, other)| one.min(other)).collect()
 }
 
 /// The proved and the Rust step alone, the sum of a plan's last steps.
-pub fn last_steps(clock: &Clock, library: StoreLibrary, plan: &Plan, steps: usize, rounds: usize) -> (f64, f64) {
-    let (mut proved, mut model) = (inner(clock, library, plan, rounds), rust(clock, plan, rounds));
-    for _ in 1..TURNS {
-        proved = lesser(proved, inner(clock, library, plan, rounds));
-        model = lesser(model, rust(clock, plan, rounds));
-    }
+pub fn last_steps(clock: &Clock, library: StoreLibrary, plan: &Plan, steps: usize, rounds: usize) -> [f64; 2] {
     let sum = |times: Vec<f64>| times[times.len() - steps..].iter().sum();
-    (sum(proved), sum(model))
+    [sum(inner(clock, library, plan, rounds)), sum(rust(clock, plan, rounds))]
 }
 
 /// The proved step on tables known to be sound.

@@ -1,6 +1,6 @@
 //! Each kind of step: on tables known to be sound, and through the public step that checks them.
 
-use crate::clock::{beside, Clock};
+use crate::clock::{beside, Clock, PASSES};
 use crate::plans::{in_turn, Plan};
 use crate::sides::{measured, opened_tables, Measured};
 use crate::table::{print, ratio, time};
@@ -11,33 +11,46 @@ const HEADS: [&str; 7] = ["step", "inner ns", "Rust ns", "ratio", "checked ns", 
 /// The goal of both ratios.
 const GOAL: f64 = 1.5;
 
+/// Servers, clients, how many WRITEs and READs, and the rounds of a pass.
+const PRESSES: [(u32, u32, usize, usize); 2] = [(4, 4, 60, 50), (16, 16, 255, 4)];
+
 pub fn report(clock: &Clock, library: StoreLibrary) {
-    one_press(clock, library, 4, 4, 60, 50);
-    one_press(clock, library, 16, 16, 255, 4);
+    let presses = PRESSES.map(|(servers, clients, times, rounds)| {
+        let plans: Vec<Plan> = (1..=3).map(|method| in_turn(method, servers, clients, times)).collect();
+        (plans, rounds)
+    });
+    let one_pass = || presses.iter().map(|(plans, rounds)| one_press(clock, library, plans, *rounds)).collect::<Vec<_>>();
+    let mut least = one_pass();
+    for _ in 1..PASSES {
+        let lesser =
+            |(old, new): (Vec<Measured>, Vec<Measured>)| old.into_iter().zip(new).map(|(old, new)| old.or_less(new)).collect();
+        least = least.into_iter().zip(one_pass()).map(lesser).collect();
+    }
+    for ((press, (plans, _)), results) in PRESSES.iter().zip(&presses).zip(&least) {
+        let (servers, clients, times, _) = press;
+        let title =
+            format!("Steps, {servers} servers and {clients} clients, {times} WRITEs and {times} READs of all servers in turn");
+        print(&title, &HEADS, &rows(library, plans, results));
+    }
+}
+
+fn one_press(clock: &Clock, library: StoreLibrary, plans: &[Plan], rounds: usize) -> Vec<Measured> {
+    plans.iter().map(|plan| measured(clock, library, plan, rounds)).collect()
 }
 
 /// The means of all steps of a kind, over plans of the three methods.
-fn one_press(clock: &Clock, library: StoreLibrary, servers: u32, clients: u32, times: usize, rounds: usize) {
-    let plans: Vec<Plan> = (1..=3).map(|method| in_turn(method, servers, clients, times)).collect();
-    let results: Vec<Measured> = plans.iter().map(|plan| measured(clock, library, plan, rounds)).collect();
+fn rows(library: StoreLibrary, plans: &[Plan], results: &[Measured]) -> Vec<Vec<String>> {
     let mut rows = vec![opening_row(library, &plans[2])];
-    for kind in kinds(&plans) {
-        let mean = |side: fn(&Measured) -> &Vec<f64>| mean_of(kind, &plans, results.iter().map(side));
+    for kind in kinds(plans) {
+        let mean = |side: fn(&Measured) -> &Vec<f64>| mean_of(kind, plans, results.iter().map(side));
         let (inner, rust) = (mean(|result| &result.inner), mean(|result| &result.rust));
         let (checked, rust_checked) = (mean(|result| &result.checked), mean(|result| &result.rust_checked));
-        rows.push(vec![
-            kind.to_string(),
-            time(inner),
-            time(rust),
-            ratio(inner, rust, GOAL),
-            time(checked),
-            time(rust_checked),
-            ratio(checked, rust_checked, GOAL),
-        ]);
+        let (ratio_inner, ratio_checked) = (ratio(inner, rust, GOAL), ratio(checked, rust_checked, GOAL));
+        let times = [inner, rust, checked, rust_checked].map(time);
+        let [inner, rust, checked, rust_checked] = times;
+        rows.push(vec![kind.to_string(), inner, rust, ratio_inner, checked, rust_checked, ratio_checked]);
     }
-    let title =
-        format!("Steps, {servers} servers and {clients} clients, {times} WRITEs and {times} READs of all servers in turn");
-    print(&title, &HEADS, &rows);
+    rows
 }
 
 /// An opening has no inner step.
