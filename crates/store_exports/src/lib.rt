@@ -1,8 +1,9 @@
-// What other languages call: the check of tables and the five public steps, on numbers and slices.
+// What other languages call, on numbers and slices: the check of tables, the five public steps, and four of them on tables known to be sound.
 // An answer crosses as a number: 0 for ok, and below 256 the number of a refusal.
 ghost use mathlib.Core.Path.{_≡_};
 ghost use Rattle.tables.specs.Tables.{tablesOf};
 ghost use Rattle.soundness.specs.Sound.{sound};
+ghost use Rattle.soundness.specs.Facts.{Sound};
 ghost use Rattle.refusals.specs.Steps.{open′, beginWrite, beginRead, deliverRequest, deliverReply};
 ghost use Rattle.store_exports.specs.Numbers.{answerNumber, arrivalNumber, crossingOf, numbered, inNumbers, crossed, inCrossing};
 use rules::Answer;
@@ -219,6 +220,140 @@ pub extern "C" fn store_deliver_reply(
         ≡ inCrossing (deliverReply client target (tablesOf (now (counts .entry)) (now (clients .entry)) (now (links .entry)) (now (keys .entry)) (now (values .entry)) (now (log .entry)) (now (writes .entry)) (now (reads .entry)))) ⌝ }
 {
     let delivered = store::deliver_reply(
+        counts,
+        clients,
+        links,
+        keys,
+        values,
+        log,
+        writes,
+        reads,
+        client,
+        target,
+    );
+    to_cross(delivered)
+}
+
+// Begins a WRITE on tables known to be sound; nothing checks them.
+#[no_mangle]
+pub extern "C" fn store_begin_write_sound(
+    counts: &mut [u32],
+    clients: &mut [u32],
+    links: &mut [u32],
+    keys: &[u32],
+    values: &[u32],
+    log: &[u32],
+    writes: &mut [u32],
+    reads: &[u32],
+    client: u32,
+    mask: u32,
+    setpoints: &[u32],
+) -> u32
+    requires { ⌜ Sound (tablesOf (now counts) (now clients) (now links) (now keys) (now values) (now log) (now writes) (now reads)) ⌝ }
+    ensures { λ r. ⌜ numbered r (tablesOf (now (counts .exit)) (now (clients .exit)) (now (links .exit)) (now (keys .entry)) (now (values .entry)) (now (log .entry)) (now (writes .exit)) (now (reads .entry)))
+        ≡ inNumbers (beginWrite client mask (now (setpoints .entry)) (tablesOf (now (counts .entry)) (now (clients .entry)) (now (links .entry)) (now (keys .entry)) (now (values .entry)) (now (log .entry)) (now (writes .entry)) (now (reads .entry)))) ⌝ }
+{
+    let answer = store::begin_write_sound(
+        counts,
+        clients,
+        links,
+        keys,
+        values,
+        log,
+        writes,
+        reads,
+        client,
+        mask,
+        setpoints,
+    );
+    answer_number(answer)
+}
+
+// Begins a READ on tables known to be sound.
+#[no_mangle]
+pub extern "C" fn store_begin_read_sound(
+    counts: &mut [u32],
+    clients: &mut [u32],
+    links: &mut [u32],
+    keys: &[u32],
+    values: &[u32],
+    log: &[u32],
+    writes: &[u32],
+    reads: &mut [u32],
+    client: u32,
+    mask: u32,
+) -> u32
+    requires { ⌜ Sound (tablesOf (now counts) (now clients) (now links) (now keys) (now values) (now log) (now writes) (now reads)) ⌝ }
+    ensures { λ r. ⌜ numbered r (tablesOf (now (counts .exit)) (now (clients .exit)) (now (links .exit)) (now (keys .entry)) (now (values .entry)) (now (log .entry)) (now (writes .entry)) (now (reads .exit)))
+        ≡ inNumbers (beginRead client mask (tablesOf (now (counts .entry)) (now (clients .entry)) (now (links .entry)) (now (keys .entry)) (now (values .entry)) (now (log .entry)) (now (writes .entry)) (now (reads .entry)))) ⌝ }
+{
+    let answer = store::begin_read_sound(
+        counts,
+        clients,
+        links,
+        keys,
+        values,
+        log,
+        writes,
+        reads,
+        client,
+        mask,
+    );
+    answer_number(answer)
+}
+
+// Delivers a request on tables known to be sound.
+#[no_mangle]
+pub extern "C" fn store_deliver_request_sound(
+    counts: &mut [u32],
+    clients: &[u32],
+    links: &mut [u32],
+    keys: &mut [u32],
+    values: &mut [u32],
+    log: &mut [u32],
+    writes: &mut [u32],
+    reads: &[u32],
+    client: u32,
+    target: u32,
+) -> u32
+    requires { ⌜ Sound (tablesOf (now counts) (now clients) (now links) (now keys) (now values) (now log) (now writes) (now reads)) ⌝ }
+    ensures { λ r. ⌜ numbered r (tablesOf (now (counts .exit)) (now (clients .entry)) (now (links .exit)) (now (keys .exit)) (now (values .exit)) (now (log .exit)) (now (writes .exit)) (now (reads .entry)))
+        ≡ inNumbers (deliverRequest client target (tablesOf (now (counts .entry)) (now (clients .entry)) (now (links .entry)) (now (keys .entry)) (now (values .entry)) (now (log .entry)) (now (writes .entry)) (now (reads .entry)))) ⌝ }
+{
+    let answer = store::deliver_request_sound(
+        counts,
+        clients,
+        links,
+        keys,
+        values,
+        log,
+        writes,
+        reads,
+        client,
+        target,
+    );
+    answer_number(answer)
+}
+
+// Delivers a reply on tables known to be sound.
+#[no_mangle]
+pub extern "C" fn store_deliver_reply_sound(
+    counts: &mut [u32],
+    clients: &mut [u32],
+    links: &mut [u32],
+    keys: &[u32],
+    values: &[u32],
+    log: &[u32],
+    writes: &mut [u32],
+    reads: &mut [u32],
+    client: u32,
+    target: u32,
+) -> Crossing
+    requires { ⌜ Sound (tablesOf (now counts) (now clients) (now links) (now keys) (now values) (now log) (now writes) (now reads)) ⌝ }
+    ensures { λ r. ⌜ crossed r (tablesOf (now (counts .exit)) (now (clients .exit)) (now (links .exit)) (now (keys .entry)) (now (values .entry)) (now (log .entry)) (now (writes .exit)) (now (reads .exit)))
+        ≡ inCrossing (deliverReply client target (tablesOf (now (counts .entry)) (now (clients .entry)) (now (links .entry)) (now (keys .entry)) (now (values .entry)) (now (log .entry)) (now (writes .entry)) (now (reads .entry)))) ⌝ }
+{
+    let delivered = store::deliver_reply_sound(
         counts,
         clients,
         links,

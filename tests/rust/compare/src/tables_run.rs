@@ -80,17 +80,28 @@ fn compare_step(library: StoreLibrary, tables: &mut Tables, step: &Step, counts:
     let mut proved = tables.clone();
     let expected = words::take(tables, step);
     let found = library.take(&mut proved, step);
+    same(&before, step, (&expected, tables), (&found, &mut proved))?;
+    let mut proved = before.clone();
+    let found = library.take_sound(&mut proved, step);
+    same(&before, step, (&expected, tables), (&found, &mut proved))?;
+    count(counts, sound, &expected);
+    Ok(())
+}
+
+/// The model's answer and words are the library's.
+fn same(before: &Tables, step: &Step, model: (&Outcome, &mut Tables), library: (&Outcome, &mut Tables)) -> Result<(), String> {
+    let (expected, tables) = model;
+    let (found, proved) = library;
     if found != expected {
-        return Err(format!("{step:?} answers {found:?}, the model {expected:?}; {}", shown(&before)));
+        return Err(format!("{step:?} answers {found:?}, the model {expected:?}; {}", shown(before)));
     }
-    if proved != *tables {
+    if proved != tables {
         return Err(format!(
             "{step:?} ({expected:?}) leaves other words: {}; before: {}",
-            differing(&mut proved, tables),
-            shown(&before)
+            differing(proved, tables),
+            shown(before)
         ));
     }
-    count(counts, sound, &expected);
     Ok(())
 }
 

@@ -17,6 +17,10 @@ impl FrameLibrary {
         unreachable!("no handle without the library")
     }
 
+    pub fn head(self, _bytes: &[u8], _keys: &mut [u32], _numbers: &mut [u32]) -> Result<u64, Refusal> {
+        unreachable!("no handle without the library")
+    }
+
     pub fn write(self, _fixed: &Fixed, _keys: &[u32], _numbers: &[u32], _bytes: &mut [u8]) -> Result<usize, Refusal> {
         unreachable!("no handle without the library")
     }
@@ -31,6 +35,11 @@ impl FrameLibrary {
     /// Reads a frame; its entries go to the front of the slices.
     pub fn read(self, bytes: &[u8], keys: &mut [u32], numbers: &mut [u32]) -> Result<Fixed, Refusal> {
         linked::read(bytes, keys, numbers)
+    }
+
+    /// Reads a frame by one of the two calls, for measurements.
+    pub fn head(self, bytes: &[u8], keys: &mut [u32], numbers: &mut [u32]) -> Result<u64, Refusal> {
+        linked::head(bytes, keys, numbers)
     }
 
     /// Writes a message to the front of the bytes: its length.
@@ -75,6 +84,10 @@ mod linked {
         let number =
             unsafe { reader(bytes.as_ptr(), bytes.len(), keys.as_mut_ptr(), keys.len(), numbers.as_mut_ptr(), numbers.len()) };
         answer(number)
+    }
+
+    pub fn head(bytes: &[u8], keys: &mut [u32], numbers: &mut [u32]) -> Result<u64, Refusal> {
+        call(frame_head, bytes, keys, numbers)
     }
 
     /// The head and the tail come by two calls, which leave the slices alike.

@@ -1,4 +1,4 @@
-//! The check of tables and the five public steps of crate `store`.
+//! The check of tables, the five public steps of crate `store`, and the steps on tables known to be sound.
 
 use model::{Outcome, Step};
 use words::Tables;
@@ -20,6 +20,20 @@ impl StoreLibrary {
     pub fn take(self, _tables: &mut Tables, _step: &Step) -> Outcome {
         unreachable!("no handle without the library")
     }
+
+    pub fn take_sound(self, _tables: &mut Tables, _step: &Step) -> Outcome {
+        unreachable!("no handle without the library")
+    }
+
+    pub fn number(self, _tables: &mut Tables, _step: &Step) -> u64 {
+        unreachable!("no handle without the library")
+    }
+
+    /// # Safety
+    /// As where the library is linked.
+    pub unsafe fn number_sound(self, _tables: &mut Tables, _step: &Step) -> u64 {
+        unreachable!("no handle without the library")
+    }
 }
 
 #[cfg(store_exports)]
@@ -34,7 +48,30 @@ impl StoreLibrary {
 
     /// Takes any step on any tables.
     pub fn take(self, tables: &mut Tables, step: &Step) -> Outcome {
-        linked::take(tables, step)
+        let crossing = linked::checked(tables, step);
+        linked::outcome(crossing, tables, step)
+    }
+
+    /// Takes any step by the function that checks no tables; those that are not sound are refused here.
+    pub fn take_sound(self, tables: &mut Tables, step: &Step) -> Outcome {
+        if !matches!(step, Step::Open { .. }) && !self.sound(tables) {
+            return Err(model::Refusal::Unsound);
+        }
+        let crossing = unsafe { linked::unchecked(tables, step) };
+        linked::outcome(crossing, tables, step)
+    }
+
+    /// The answer's number alone, for measurements.
+    pub fn number(self, tables: &mut Tables, step: &Step) -> u64 {
+        linked::checked(tables, step).number
+    }
+
+    /// The same by the function that checks no tables.
+    ///
+    /// # Safety
+    /// The tables must be sound.
+    pub unsafe fn number_sound(self, tables: &mut Tables, step: &Step) -> u64 {
+        linked::unchecked(tables, step).number
     }
 }
 
@@ -90,13 +127,42 @@ mod linked {
             writes: *mut u32, writes_length: usize, reads: *mut u32, reads_length: usize,
             client: u32, target: u32,
         ) -> Crossing;
+        // The same on tables known to be sound: on others anything may happen.
+        fn store_begin_write_sound(
+            counts: *mut u32, counts_length: usize, clients: *mut u32, clients_length: usize,
+            links: *mut u32, links_length: usize, keys: *const u32, keys_length: usize,
+            values: *const u32, values_length: usize, log: *const u32, log_length: usize,
+            writes: *mut u32, writes_length: usize, reads: *const u32, reads_length: usize,
+            client: u32, mask: u32, setpoints: *const u32, setpoints_length: usize,
+        ) -> u32;
+        fn store_begin_read_sound(
+            counts: *mut u32, counts_length: usize, clients: *mut u32, clients_length: usize,
+            links: *mut u32, links_length: usize, keys: *const u32, keys_length: usize,
+            values: *const u32, values_length: usize, log: *const u32, log_length: usize,
+            writes: *const u32, writes_length: usize, reads: *mut u32, reads_length: usize,
+            client: u32, mask: u32,
+        ) -> u32;
+        fn store_deliver_request_sound(
+            counts: *mut u32, counts_length: usize, clients: *const u32, clients_length: usize,
+            links: *mut u32, links_length: usize, keys: *mut u32, keys_length: usize,
+            values: *mut u32, values_length: usize, log: *mut u32, log_length: usize,
+            writes: *mut u32, writes_length: usize, reads: *const u32, reads_length: usize,
+            client: u32, target: u32,
+        ) -> u32;
+        fn store_deliver_reply_sound(
+            counts: *mut u32, counts_length: usize, clients: *mut u32, clients_length: usize,
+            links: *mut u32, links_length: usize, keys: *const u32, keys_length: usize,
+            values: *const u32, values_length: usize, log: *const u32, log_length: usize,
+            writes: *mut u32, writes_length: usize, reads: *mut u32, reads_length: usize,
+            client: u32, target: u32,
+        ) -> Crossing;
     }
 
     /// A delivered reply's answer, and the setpoints that a READ shows; 0 where it shows none.
     #[repr(C)]
-    struct Crossing {
-        number: u64,
-        setpoints: [u32; 16],
+    pub struct Crossing {
+        pub number: u64,
+        pub setpoints: [u32; 16],
     }
 
     /// Calls a function with the eight tables, each as `ptr` or `mut`, and further arguments.
@@ -113,44 +179,75 @@ mod linked {
         with_tables!(store_sound, t, [counts ptr, clients ptr, links ptr, keys ptr, setpoints ptr, log ptr, writes ptr, reads ptr],)
     }
 
-    pub fn take(t: &mut Tables, step: &Step) -> Outcome {
-        match step {
-            Step::Open { method, servers, clients, setpoints } => answer(with_tables!(
-                store_open, t,
-                [counts mut, clients mut, links mut, keys mut, setpoints mut, log mut, writes ptr, reads ptr],
-                *method, *servers, *clients, setpoints.as_ptr(), setpoints.len()
-            )),
-            Step::BeginWrite { client, mask, setpoints } => answer(with_tables!(
-                store_begin_write, t,
-                [counts mut, clients mut, links mut, keys ptr, setpoints ptr, log ptr, writes mut, reads ptr],
-                *client, *mask, setpoints.as_ptr(), setpoints.len()
-            )),
-            Step::BeginRead { client, mask } => answer(with_tables!(
-                store_begin_read, t,
-                [counts mut, clients mut, links mut, keys ptr, setpoints ptr, log ptr, writes ptr, reads mut],
-                *client, *mask
-            )),
-            Step::DeliverRequest { client, target } => answer(with_tables!(
-                store_deliver_request, t,
-                [counts mut, clients ptr, links mut, keys mut, setpoints mut, log mut, writes mut, reads ptr],
-                *client, *target
-            )),
-            Step::DeliverReply { client, target } => {
-                let crossing = with_tables!(
-                    store_deliver_reply, t,
+    /// Takes a step by four functions. An opening has one function only: it asks of no old contents.
+    macro_rules! taken_by {
+        ($t:ident, $step:ident, $begin_write:ident, $begin_read:ident, $deliver_request:ident, $deliver_reply:ident) => {
+            match $step {
+                Step::Open { method, servers, clients, setpoints } => plain(with_tables!(
+                    store_open, $t,
+                    [counts mut, clients mut, links mut, keys mut, setpoints mut, log mut, writes ptr, reads ptr],
+                    *method, *servers, *clients, setpoints.as_ptr(), setpoints.len()
+                )),
+                Step::BeginWrite { client, mask, setpoints } => plain(with_tables!(
+                    $begin_write, $t,
+                    [counts mut, clients mut, links mut, keys ptr, setpoints ptr, log ptr, writes mut, reads ptr],
+                    *client, *mask, setpoints.as_ptr(), setpoints.len()
+                )),
+                Step::BeginRead { client, mask } => plain(with_tables!(
+                    $begin_read, $t,
+                    [counts mut, clients mut, links mut, keys ptr, setpoints ptr, log ptr, writes ptr, reads mut],
+                    *client, *mask
+                )),
+                Step::DeliverRequest { client, target } => plain(with_tables!(
+                    $deliver_request, $t,
+                    [counts mut, clients ptr, links mut, keys mut, setpoints mut, log mut, writes mut, reads ptr],
+                    *client, *target
+                )),
+                Step::DeliverReply { client, target } => with_tables!(
+                    $deliver_reply, $t,
                     [counts mut, clients mut, links mut, keys ptr, setpoints ptr, log ptr, writes mut, reads mut],
                     *client, *target
-                );
-                arrival(crossing, t, *client as usize)
+                ),
             }
+        };
+    }
+
+    /// Any step on any tables.
+    #[inline]
+    pub fn checked(t: &mut Tables, step: &Step) -> Crossing {
+        taken_by!(t, step, store_begin_write, store_begin_read, store_deliver_request, store_deliver_reply)
+    }
+
+    /// Any step by the functions that check no tables, which must be sound.
+    #[inline]
+    pub unsafe fn unchecked(t: &mut Tables, step: &Step) -> Crossing {
+        taken_by!(
+            t,
+            step,
+            store_begin_write_sound,
+            store_begin_read_sound,
+            store_deliver_request_sound,
+            store_deliver_reply_sound
+        )
+    }
+
+    #[inline]
+    fn plain(number: u32) -> Crossing {
+        Crossing { number: u64::from(number), setpoints: [0; 16] }
+    }
+
+    pub fn outcome(crossing: Crossing, tables: &Tables, step: &Step) -> Outcome {
+        match step {
+            Step::DeliverReply { client, .. } => arrival(crossing, tables, *client as usize),
+            _ => answer(crossing.number),
         }
     }
 
     /// 0 is ok; any other number refuses.
-    fn answer(number: u32) -> Outcome {
+    fn answer(number: u64) -> Outcome {
         match number {
             0 => Ok(Answer::Ok),
-            refusal => Err(refused(refusal)),
+            refusal => Err(refused(refusal as u32)),
         }
     }
 

@@ -7,4 +7,5 @@ mod random;
 mod wrong;
 
 pub use generator::{schedule, Generator};
+pub use lines::line_of;
 pub use random::Random;

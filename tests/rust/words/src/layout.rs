@@ -50,19 +50,28 @@ pub const NOTHING: u32 = 0;
 pub const REQUEST: u32 = 1;
 pub const REPLY: u32 = 2;
 
+/// The words that each table needs for k servers and p clients.
+pub fn needed(servers: usize, clients: usize) -> [usize; 8] {
+    [
+        COUNTS_WORDS,
+        CLIENT_WORDS * clients,
+        LINK_WORDS * LINKS_OF_CLIENT * clients,
+        VERSIONS_OF_SERVER * servers,
+        VERSIONS_OF_SERVER * servers,
+        LOG_WORDS * LOG_ENTRIES,
+        RECORD_WORDS * RECORDS,
+        RECORD_WORDS * RECORDS,
+    ]
+}
+
 impl Tables {
     /// Tables of exactly the length that k servers and p clients need, every word the same.
     pub fn filled(servers: usize, clients: usize, word: u32) -> Tables {
-        Tables {
-            counts: vec![word; COUNTS_WORDS],
-            clients: vec![word; CLIENT_WORDS * clients],
-            links: vec![word; LINK_WORDS * LINKS_OF_CLIENT * clients],
-            keys: vec![word; VERSIONS_OF_SERVER * servers],
-            setpoints: vec![word; VERSIONS_OF_SERVER * servers],
-            log: vec![word; LOG_WORDS * LOG_ENTRIES],
-            writes: vec![word; RECORD_WORDS * RECORDS],
-            reads: vec![word; RECORD_WORDS * RECORDS],
+        let mut tables = Tables::default();
+        for (table, length) in tables.all_mut().into_iter().zip(needed(servers, clients)) {
+            table.resize(length, word);
         }
+        tables
     }
 
     /// All tables in a fixed order, for what goes over each of them.

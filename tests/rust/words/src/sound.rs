@@ -51,8 +51,7 @@ impl Press {
 
 /// "Long enough", for this k and p.
 pub fn long_enough(tables: &Tables, servers: usize, clients: usize) -> bool {
-    let least = Tables::filled(servers, clients, 0).lengths();
-    tables.lengths().iter().zip(least).all(|(&length, needed)| length >= needed)
+    tables.lengths().iter().zip(needed(servers, clients)).all(|(&length, needed)| length >= needed)
 }
 
 /// Whether the tables are sound.

@@ -1,0 +1,40 @@
+//! The check of sound tables alone, by servers, clients and how much they hold.
+
+use crate::clock::{beside, least_of_passes};
+use crate::plans::Plan;
+use crate::sides::opened_tables;
+use crate::table::{print, ratio, time};
+use ffi::StoreLibrary;
+use words::Tables;
+
+const GOAL: f64 = 1.5;
+
+const HEADS: [&str; 6] = ["servers", "clients", "versions of each server", "proved ns", "Rust ns", "ratio"];
+
+pub fn report(library: StoreLibrary) {
+    let presses = [(1, 2), (4, 4), (16, 2), (16, 16)];
+    let sizes: Vec<[u32; 3]> =
+        presses.iter().flat_map(|&(servers, clients)| [1, 64, 256].map(|versions| [servers, clients, versions])).collect();
+    let all_tables: Vec<Tables> = sizes.iter().map(|&size| filled(library, size)).collect();
+    let times = least_of_passes(&all_tables, |tables| beside(|| library.sound(tables), || words::sound(tables)).into());
+    let row = |(size, [proved, rust]): (&[u32; 3], [f64; 2])| {
+        let numbers = size.map(|number| number.to_string());
+        [&numbers[..], &[time(proved), time(rust), ratio(proved, rust, GOAL)]].concat()
+    };
+    let rows: Vec<Vec<String>> = sizes.iter().zip(times).map(row).collect();
+    print("The check of sound tables", &HEADS, &rows);
+}
+
+/// Tables after WRITEs of all servers, so that each server and the log hold this many.
+fn filled(library: StoreLibrary, [servers, clients, entries]: [u32; 3]) -> Tables {
+    let mut plan = Plan::opened(2, servers, clients);
+    for _ in 1..entries {
+        plan.write(1, plan.all());
+    }
+    let mut tables = opened_tables(library, &plan);
+    for step in &plan.steps {
+        library.number(&mut tables, step);
+    }
+    assert!(library.sound(&tables) && words::sound(&tables));
+    tables
+}

@@ -1,0 +1,148 @@
+//! How the cost of a step grows with the log and the versions held, and the worst cases.
+
+use crate::clock::{least_of_passes, Clock};
+use crate::plans::Plan;
+use crate::sides::last_steps;
+use crate::table::{print, ratio, time};
+use ffi::StoreLibrary;
+use model::COORDINATOR;
+
+const ROUNDS: usize = 40;
+const GOAL: f64 = 1.5;
+
+/// Plans of which so many last steps are measured, made for any size.
+type Case = (&'static str, usize, fn(usize) -> Plan);
+
+const LOGS: [usize; 5] = [1, 32, 64, 128, 256];
+const BY_LOG: [Case; 7] = [
+    ("begin a READ, A, one server that no WRITE wrote: one search of the whole log", 1, untouched_server),
+    ("begin a READ, A, 16 servers of which 15 were never written: 15 such searches", 1, untouched_servers),
+    ("which keys, B, request and reply together, the same servers: 15 such searches", 2, keys_of_untouched),
+    ("request get of the newest of as many versions", 1, newest_version),
+    ("C's last reply, 1 server, the newest tag qualifies", 1, newest_tag_of_one),
+    ("C's last reply, 16 servers, the newest tag qualifies", 1, newest_tag),
+    ("C's last reply, 16 servers, no tag but 0 qualifies: the worst case", 1, no_tag_but_0),
+];
+
+const SERVERS: [usize; 5] = [1, 2, 4, 8, 16];
+const BY_SERVERS: [Case; 6] = [
+    ("begin a WRITE", 1, |servers| after_64(2, servers, |plan| plan.begin_write(1, plan.all()))),
+    ("a WRITE's last reply set done, and its entry: 3 steps", 3, |servers| {
+        after_64(2, servers, |plan| plan.write(1, plan.all()))
+    }),
+    ("begin a READ, A", 1, |servers| after_64(1, servers, |plan| plan.begin_read(0, plan.all()))),
+    ("begin a READ, C", 1, |servers| after_64(3, servers, |plan| plan.begin_read(0, plan.all()))),
+    ("A's last reply", 1, |servers| after_64(1, servers, read_to_end)),
+    ("C's last reply", 1, |servers| after_64(3, servers, read_to_end)),
+];
+
+pub fn report(clock: &Clock, library: StoreLibrary) {
+    let logs = LOGS.map(|entries| format!("log of {entries}"));
+    print("Growth with the log and the versions, ns", &heads(&logs), &rows(clock, library, &BY_LOG, &LOGS));
+    let servers = SERVERS.map(|servers| format!("k = {servers}"));
+    print("Growth with the servers, a log of 64, ns", &heads(&servers), &rows(clock, library, &BY_SERVERS, &SERVERS));
+}
+
+fn heads(sizes: &[String]) -> Vec<&str> {
+    ["step", "side"].into_iter().chain(sizes.iter().map(String::as_str)).collect()
+}
+
+/// Three rows a case: proved, Rust and their ratio.
+fn rows(clock: &Clock, library: StoreLibrary, cases: &[Case], sizes: &[usize]) -> Vec<Vec<String>> {
+    let plan_of = |&(_, steps, plan_of): &Case, &size: &usize| (plan_of(size), steps);
+    let plans: Vec<(Plan, usize)> = cases.iter().flat_map(|case| sizes.iter().map(move |size| plan_of(case, size))).collect();
+    let times = least_of_passes(&plans, |(plan, steps)| last_steps(clock, library, plan, *steps, ROUNDS));
+    let mut rows = Vec::new();
+    for ((name, ..), times) in cases.iter().zip(times.chunks(sizes.len())) {
+        let row = |name: &str, side: &str, cell: fn(&[f64; 2]) -> String| {
+            [name.to_string(), side.to_string()].into_iter().chain(times.iter().map(cell)).collect()
+        };
+        rows.push(row(name, "inner", |&[proved, _]| time(proved)));
+        rows.push(row("", "Rust", |&[_, rust]| time(rust)));
+        rows.push(row("", "ratio", |&[proved, rust]| ratio(proved, rust, GOAL)));
+    }
+    rows
+}
+
+/// A press whose log has 64 entries, each of all servers, and further steps.
+fn after_64(method: u32, servers: usize, further: impl FnOnce(&mut Plan)) -> Plan {
+    let mut plan = written(method, servers as u32, (1 << servers) - 1, 64);
+    further(&mut plan);
+    plan
+}
+
+fn read_to_end(plan: &mut Plan) {
+    plan.begin_read(0, plan.all());
+    plan.finish(0);
+}
+
+/// An opening with WRITEs of one mask until the log has this many entries.
+fn written(method: u32, servers: u32, mask: u32, entries: usize) -> Plan {
+    let mut plan = Plan::opened(method, servers, 2);
+    for _ in 1..entries {
+        plan.write(1, mask);
+    }
+    plan
+}
+
+fn untouched_server(entries: usize) -> Plan {
+    let mut plan = written(1, 2, 1, entries);
+    plan.begin_read(0, 2);
+    plan
+}
+
+fn untouched_servers(entries: usize) -> Plan {
+    let mut plan = written(1, 16, 1, entries);
+    plan.begin_read(0, plan.all());
+    plan
+}
+
+fn keys_of_untouched(entries: usize) -> Plan {
+    let mut plan = written(2, 16, 1, entries);
+    plan.begin_read(0, plan.all());
+    plan.request(0, COORDINATOR);
+    plan.reply(0, COORDINATOR);
+    plan
+}
+
+fn newest_version(entries: usize) -> Plan {
+    let mut plan = written(1, 1, 1, entries);
+    plan.begin_read(0, 1);
+    plan.request(0, 0);
+    plan
+}
+
+fn newest_tag_of_one(entries: usize) -> Plan {
+    read_last(written(3, 1, 1, entries), 1)
+}
+
+fn newest_tag(entries: usize) -> Plan {
+    read_last(written(3, 16, 0xFFFF, entries), 16)
+}
+
+/// A READ of all servers up to its last reply.
+fn read_last(mut plan: Plan, servers: usize) -> Plan {
+    plan.begin_read(0, plan.all());
+    plan.deliver_requests(0);
+    for target in (0..servers).chain([COORDINATOR]) {
+        plan.reply(0, target);
+    }
+    plan
+}
+
+/// The servers answer before any WRITE, the head after all of them. Each WRITE is of the last server alone, so that
+/// at each tag 15 servers are searched for back to the opening before the last one is found missing.
+fn no_tag_but_0(entries: usize) -> Plan {
+    let mut plan = Plan::opened(3, 16, 2);
+    plan.begin_read(0, plan.all());
+    for server in 0..16 {
+        plan.request(0, server);
+        plan.reply(0, server);
+    }
+    for _ in 1..entries {
+        plan.write(1, 1 << 15);
+    }
+    plan.request(0, COORDINATOR);
+    plan.reply(0, COORDINATOR);
+    plan
+}

@@ -1,0 +1,40 @@
+//! Measures the proved crates beside the independent Rust implementation, and prints the tables of docs/BENCHMARKS.md.
+
+mod check;
+mod clock;
+mod frame_speed;
+mod growth;
+mod plans;
+mod program;
+mod sides;
+mod steps;
+mod table;
+
+use clock::Clock;
+use ffi::{FrameLibrary, StoreLibrary};
+
+fn main() {
+    let given: Vec<String> = std::env::args().skip(1).collect();
+    let [proved, model, parts @ ..] = &given[..] else {
+        panic!("bench PROVED-PROGRAM MODEL-PROGRAM [PART...]");
+    };
+    let store = StoreLibrary::linked().expect("libstore_exports.a is linked: run bench/run");
+    let frame = FrameLibrary::linked().expect("libframe_exports.a is linked: run bench/run");
+    let clock = Clock::calibrated();
+    let wanted = |part: &str| parts.is_empty() || parts.iter().any(|word| word == part);
+    if wanted("steps") {
+        steps::report(&clock, store);
+    }
+    if wanted("growth") {
+        growth::report(&clock, store);
+    }
+    if wanted("check") {
+        check::report(store);
+    }
+    if wanted("frames") {
+        frame_speed::report(frame);
+    }
+    if wanted("program") {
+        program::report(proved, model);
+    }
+}

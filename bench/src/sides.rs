@@ -1,0 +1,115 @@
+//! The sides that are measured on a plan: the least ticks of each of its steps over several rounds, each from a new opening.
+
+use crate::clock::{elapsed_ticks, Clock};
+use crate::plans::Plan;
+use ffi::StoreLibrary;
+use model::{Step, Store};
+use words::Tables;
+
+/// The nanoseconds of each step, in the order of the plan.
+pub struct Measured {
+    pub inner: Vec<f64>,
+    pub rust: Vec<f64>,
+    pub checked: Vec<f64>,
+    pub rust_checked: Vec<f64>,
+}
+
+/// All four sides, each for several rounds.
+pub fn measured(clock: &Clock, library: StoreLibrary, plan: &Plan, rounds: usize) -> Measured {
+    Measured {
+        inner: inner(clock, library, plan, rounds),
+        rust: rust(clock, plan, rounds),
+        checked: checked(clock, library, plan, rounds),
+        rust_checked: rust_checked(clock, library, plan, rounds),
+    }
+}
+
+impl Measured {
+    /// Step by step the lesser times of two measurements.
+    pub fn or_less(self, other: Measured) -> Measured {
+        Measured {
+            inner: lesser(self.inner, other.inner),
+            rust: lesser(self.rust, other.rust),
+            checked: lesser(self.checked, other.checked),
+            rust_checked: lesser(self.rust_checked, other.rust_checked),
+        }
+    }
+}
+
+fn lesser(one: Vec<f64>, other: Vec<f64>) -> Vec<f64> {
+    one.into_iter().zip(other).map(|(one, other)| one.min(other)).collect()
+}
+
+/// The proved and the Rust step alone, the sum of a plan's last steps.
+pub fn last_steps(clock: &Clock, library: StoreLibrary, plan: &Plan, steps: usize, rounds: usize) -> [f64; 2] {
+    let sum = |times: Vec<f64>| times[times.len() - steps..].iter().sum();
+    [sum(inner(clock, library, plan, rounds)), sum(rust(clock, plan, rounds))]
+}
+
+/// The proved step on tables known to be sound.
+fn inner(clock: &Clock, library: StoreLibrary, plan: &Plan, rounds: usize) -> Vec<f64> {
+    // The plan's steps start at an opening, and steps keep tables sound.
+    let take = |tables: &mut Tables, step: &Step| unsafe { library.number_sound(tables, step) };
+    least(clock, plan, rounds, || opened_tables(library, plan), take, |_, _| ())
+}
+
+/// The model's step on its own structs, which checks no tables.
+fn rust(clock: &Clock, plan: &Plan, rounds: usize) -> Vec<f64> {
+    least(clock, plan, rounds, || opened_store(plan), |store, step| store.take(step), |_, _| ())
+}
+
+/// The proved public step.
+fn checked(clock: &Clock, library: StoreLibrary, plan: &Plan, rounds: usize) -> Vec<f64> {
+    let take = |tables: &mut Tables, step: &Step| library.number(tables, step);
+    least(clock, plan, rounds, || opened_tables(library, plan), take, |_, _| ())
+}
+
+/// The Rust check of the same tables, then the model's step on its structs. What keeps the tables in step is not measured.
+fn rust_checked(clock: &Clock, library: StoreLibrary, plan: &Plan, rounds: usize) -> Vec<f64> {
+    let fresh = || (opened_tables(library, plan), opened_store(plan));
+    let take = |(tables, store): &mut (Tables, Store), step: &Step| {
+        assert!(words::sound(tables));
+        store.take(step)
+    };
+    let follow = |(tables, _): &mut (Tables, Store), step: &Step| {
+        library.number(tables, step);
+    };
+    least(clock, plan, rounds, fresh, take, follow)
+}
+
+fn least<S, R>(
+    clock: &Clock,
+    plan: &Plan,
+    rounds: usize,
+    fresh: impl Fn() -> S,
+    take: impl Fn(&mut S, &Step) -> R,
+    follow: impl Fn(&mut S, &Step),
+) -> Vec<f64> {
+    let mut least = vec![u64::MAX; plan.steps.len()];
+    for _ in 0..rounds {
+        let mut state = fresh();
+        for (step, best) in plan.steps.iter().zip(&mut least) {
+            let (ticks, answer) = elapsed_ticks(|| take(&mut state, step));
+            *best = ticks.min(*best);
+            drop(answer);
+            follow(&mut state, step);
+        }
+    }
+    least.into_iter().map(|ticks| clock.nanoseconds(ticks)).collect()
+}
+
+pub fn opened_tables(library: StoreLibrary, plan: &Plan) -> Tables {
+    let Step::Open { servers, clients, .. } = plan.opening else {
+        unreachable!("openings open");
+    };
+    let mut tables = Tables::filled(servers as usize, clients as usize, 0);
+    assert_eq!(library.number(&mut tables, &plan.opening), 0);
+    tables
+}
+
+fn opened_store(plan: &Plan) -> Store {
+    let Step::Open { method, servers, clients, setpoints } = &plan.opening else {
+        unreachable!("openings open");
+    };
+    Store::open(*method, *servers, *clients, setpoints).expect("a good opening")
+}

@@ -1,0 +1,13 @@
+-- The number is the answer's, and the step on sound tables leaves the tables.
+use Rattle.store_exports.specs.NumberLaws.{answered}
+use borrow.Author.Needs.{needs}
+use Rattle.store_exports.proofs.store_begin_write_sound.Statement.{statement}
+use Rattle.store_exports.proofs.store_begin_write_sound.Tie as tie
+
+returns : tie.Need-returns
+returns c = answered (c .answer-number .ensures) (c .before .before .before .before .before .before .before .before .before .begin-write-sound .ensures)
+
+pub store-begin-write-sound-spec : {M : Type 1} → statement M
+store-begin-write-sound-spec =
+    tie.close
+    (tie.spec (λ c κs. search needs) (λ c κs. search needs) (λ c. search needs) (λ c. search needs) (λ c. search needs) (λ c. search needs) returns)
