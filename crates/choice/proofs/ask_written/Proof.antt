@@ -1,0 +1,40 @@
+-- The servers passed have their flags at the tag; those ahead still have them at the tag behind it.
+use Prim.Native.Nat.{_≤_, _-_, _+_}
+use mathlib.Core.Path.{_≡_, _∙_, subst}
+use native.Mathlib.Omega.{arith}
+use lib.ListN.{length, length-set}
+use Rattle.rules.specs.Reply.{receivedIn}
+use Rattle.choice.specs.Cases.{serves}
+use Rattle.choice.specs.Flags.{Flagged, FlaggedFrom, flag-set, flags-behind, asked-flag}
+use borrow.Author.Needs.{needs}
+use Rattle.choice.proofs.ask_written.Statement.{statement}
+use Rattle.choice.proofs.ask_written.Tie as tie
+
+abbrev Inv-loop : tie.InvT-loop
+Inv-loop clients keys log client mask servers tag flags₀ written server₀ flags server = ((server ≤ servers) × (length flags ≡ length flags₀)) × (Flagged (serves keys log mask (receivedIn clients client) tag) server flags × FlaggedFrom (serves keys log mask (receivedIn clients client) (tag + 1)) server servers flags)
+
+abbrev μ-loop : tie.MeasureT-loop
+μ-loop clients keys log client mask servers tag flags₀ written server₀ flags server = servers - server
+
+loop-holds : tie.Need-loop-holds Inv-loop μ-loop
+loop-holds c = ((search needs, search needs), ((λ i l. let z : ⊥ = omega (arith, l) in absurd z), (λ i h l. c .before .before .before .before .before .pre .1 .1 i l)))
+
+slice-read-asked-again : tie.Need-slice-read-asked-again Inv-loop μ-loop
+slice-read-asked-again c = let p = c .before .before .before .before .before .before .before .before .pre in omega (arith, c .before .loop-test .taken, p .0 .0, p .1 .0 .1, c .before .before .loop .inv .0 .1)
+
+asked-again-requires : tie.Need-asked-again-requires Inv-loop μ-loop
+asked-again-requires c κs = let p = c .before .before .before .before .before .before .before .before .pre in (p .0 .1 (c .before .before .loop .server) (c .before .loop-test .taken), omega (arith, p .1 .0 .0))
+
+slice-write-flags : tie.Need-slice-write-flags Inv-loop μ-loop
+slice-write-flags c = let p = c .before .before .before .before .before .before .before .before .before .pre in omega (arith, c .before .before .loop-test .taken, p .0 .0, p .1 .0 .1, c .before .before .before .loop .inv .0 .1)
+
+loop-again : tie.Need-loop-again Inv-loop μ-loop
+loop-again c = let a = c .before .before .before .before .before .before .before .before .before .args in let p = c .before .before .before .before .before .before .before .before .before .pre in let l = c .before .before .before .loop in ((omega (arith, c .before .before .loop-test .taken), simp length-set (l .inv .0 .1)), (flag-set (serves (a .keys .now) (a .log .now) (a .mask) (receivedIn (a .clients .now) (a .client)) (a .tag)) (l .server) (l .flags) _ (l .inv .1 .0) (omega (arith, c .before .before .loop-test .taken, p .0 .0, p .1 .0 .1, l .inv .0 .1)) (asked-flag (a .keys .now) (a .log .now) (a .mask) (receivedIn (a .clients .now) (a .client)) (a .tag) (l .server) (c .before .before .before .before .entry-mask .ensures) (l .inv .1 .1 (l .server) (omega arith) (c .before .before .loop-test .taken)) (c .asked-again .ensures)), flags-behind (serves (a .keys .now) (a .log .now) (a .mask) (receivedIn (a .clients .now) (a .client)) (a .tag + 1)) (l .server) (l .flags) _ (a .servers) (l .inv .1 .1)))
+
+returns : tie.Need-returns Inv-loop μ-loop
+returns c = let a = c .before .before .before .before .before .before .before .args in let l = c .before .loop in let e : l .server ≡ a .servers = omega (arith, l .inv .0 .0, c .loop-test .left) in λ i h. l .inv .1 .0 i (omega (arith, h, e))
+
+pub ask-written-spec : {M : Type 1} → statement M
+ask-written-spec =
+    tie.close
+    (tie.spec Inv-loop μ-loop (λ c. search needs) (λ c κs. search needs) loop-holds slice-read-asked-again asked-again-requires slice-write-flags (λ c. search needs) (λ c. search needs) loop-again (λ c. search needs) returns)
