@@ -45,10 +45,10 @@ returns-2 : tie.Need-returns-2 Inv-loop μ-loop
 returns-2 c = let a = c .before .before .before .before .before .before .before .before .before .before .before .before .args in let l = c .before .before .before .before .loop in walk-found (a .keys .now) (a .log .now) (a .mask) (receivedIn (a .clients .now) (a .client)) (a .servers) (a .entries) (l .tag) (l .inv .1 .1) (sym (all-flags (a .keys .now) (a .log .now) (a .mask) (receivedIn (a .clients .now) (a .client)) (a .servers) (l .tag) (l .flags) (l .inv .1 .0) (c .before .all-serve .ensures)) ∙ c .if2 .taken)
 
 ask-written-requires : tie.Need-ask-written-requires Inv-loop μ-loop
-ask-written-requires c κs = let a = c .before .before .before .before .before .before .before .before .before .before .before .before .before .args in let p = c .before .before .before .before .before .before .before .before .before .before .before .before .before .pre in let l = c .before .before .before .before .before .loop in (p .0, ((omega (arith, p .1, l .inv .0 .0, c .before .before .before .before .loop-test .taken), at-most (slice-aggregate-ask-written c)), flags-at (a .keys .now) (a .log .now) (a .mask) (receivedIn (a .clients .now) (a .client)) (a .servers) (l .tag) (l .flags) (c .before .before .before .before .loop-test .taken) (l .inv .1 .0)))
+ask-written-requires c κs = let a = c .before .before .before .before .before .before .before .before .before .before .before .before .before .args in let p = c .before .before .before .before .before .before .before .before .before .before .before .before .before .pre in let l = c .before .before .before .before .before .loop in (p .0, ((omega (arith, p .1, l .inv .0 .0, c .before .before .before .before .loop-test .taken), at-most (slice-aggregate-ask-written c)), flags-at (a .keys .now) (a .log .now) (a .mask) (receivedIn (a .clients .now) (a .client)) (a .servers) (l .tag) (l .flags) (omega (arith, c .before .before .before .before .loop-test .taken)) (l .inv .1 .0)))
 
 loop-again : tie.Need-loop-again Inv-loop μ-loop
-loop-again c = let a = c .before .before .before .before .before .before .before .before .before .before .before .before .before .before .before .args in let l = c .before .before .before .before .before .before .before .loop in ((omega (arith, l .inv .0 .0), search needs), (c .before .ask-written .ensures, walk-next (a .keys .now) (a .log .now) (a .mask) (receivedIn (a .clients .now) (a .client)) (a .servers) (a .entries) (l .tag) (l .inv .1 .1) (c .before .before .before .before .before .before .loop-test .taken) (sym (all-flags (a .keys .now) (a .log .now) (a .mask) (receivedIn (a .clients .now) (a .client)) (a .servers) (l .tag) (l .flags) (l .inv .1 .0) (c .before .before .before .before .all-serve .ensures)) ∙ c .before .before .before .if2 .left)))
+loop-again c = let a = c .before .before .before .before .before .before .before .before .before .before .before .before .before .before .before .args in let l = c .before .before .before .before .before .before .before .loop in ((omega (arith, l .inv .0 .0), search needs), (c .before .ask-written .ensures, walk-next (a .keys .now) (a .log .now) (a .mask) (receivedIn (a .clients .now) (a .client)) (a .servers) (a .entries) (l .tag) (l .inv .1 .1) (omega (arith, c .before .before .before .before .before .before .loop-test .taken)) (sym (all-flags (a .keys .now) (a .log .now) (a .mask) (receivedIn (a .clients .now) (a .client)) (a .servers) (l .tag) (l .flags) (l .inv .1 .0) (c .before .before .before .before .all-serve .ensures)) ∙ c .before .before .before .if2 .left)))
 
 returns-3 : tie.Need-returns-3 Inv-loop μ-loop
 returns-3 c = let a = c .before .before .before .before .before .before .before .before .before .args in let l = c .before .loop in walk-end (a .keys .now) (a .log .now) (a .mask) (receivedIn (a .clients .now) (a .client)) (a .servers) (a .entries) (l .tag) (l .inv .1 .1) (omega (arith, c .loop-test .left))
