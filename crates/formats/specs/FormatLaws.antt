@@ -1,16 +1,18 @@
 -- Laws of the format: the cases of what comes next, as the code meets them; and the grammar as one that gives, field by field, what comes next.
-use mathlib.Core.Path.{_≡_, refl, sym, ap, _∙_}
+use mathlib.Core.Path.{_≡_, refl, sym, ap, ap₂, _∙_}
 use Prim.Native.Nat.{ℕ, zero, suc, _+_, _-_, _*_, _≤_, _<_}
 use native.Mathlib.Omega.{arith}
 use mathlib.Core.Bool.{true, cond}
 use lib.Dec.{eqb, ltb, leb}
+use mathlib.Core.List.{List}
+use lib.ListN.{getD}
 use borrow.Author.Tests.{eq-eqb, ne-eqb, lt-ltb, le-ltb, ltb-true, ltb-false, leb-true}
 use Rattle.ranges.specs.Tests.{by-equal, by-test, both-left, both-right}
 use Rattle.formats.specs.declared.state.Field.{Field}
 use Rattle.formats.specs.declared.state.State.{State}
 use Rattle.formats.specs.Grammar.{Grammar, end}
-use Rattle.formats.specs.Table.{manyPlace, entryPlace, numberPlace, sortAt, bitsOf, leastOf, mostOf, mostEntries, entriesIn}
-use Rattle.formats.specs.TableLaws.{entries-most, few-entries}
+use Rattle.formats.specs.Table.{manyPlace, entryPlace, numberPlace, kinds, sorts, leasts, mosts, sortAt, bitsOf, leastOf, mostOf, mostEntries, entriesIn}
+use Rattle.formats.specs.TableLaws.{rowOf, row-first, row-at, sort-small, entries-most, few-entries}
 use Rattle.formats.specs.Format.{entryFields, mostValues, sortOf, widthOf, fieldOf, within, allowed, leftAfter, placeAfter, nextOf, one, entries, fixed, start, format}
 
 module _ (place : ℕ) where
@@ -21,6 +23,23 @@ module _ (place : ℕ) where
   pub place-inner : (place ≡ numberPlace → ⊥) → placeAfter place ≡ place + 1
   unfolding placeAfter
   place-inner d = rw (ne-eqb place numberPlace d)
+
+-- by what a field holds: its bits, and its limits as they stand in the table of sorts
+unfoldable pub limitsOf : ℕ → Field
+limitsOf sort = record { width = bitsOf sort; least = getD leasts sort 0; most = getD mosts sort 0 }
+
+module _ (sort : ℕ) {f : Field} (e : f ≡ limitsOf sort) where
+  pub limits-width : f .width ≡ bitsOf sort
+  unfolding limitsOf
+  limits-width = ap (λ (g : Field). g .width) e
+
+  pub limits-least : f .least ≡ getD leasts sort 0
+  unfolding limitsOf
+  limits-least = ap (λ (g : Field). g .least) e
+
+  pub limits-most : f .most ≡ getD mosts sort 0
+  unfolding limitsOf
+  limits-most = ap (λ (g : Field). g .most) e
 
 module _ (st : State) where
   -- the field, by what was found for its parts
@@ -59,6 +78,11 @@ module _ (st : State) (v : ℕ) where
   pub next-left : (nextOf st v) .left ≡ leftAfter st v
   unfolding nextOf
   next-left = refl
+
+  -- the kind's field tells the kind
+  pub next-told : st .place ≡ 0 → (nextOf st v) .kind ≡ v
+  unfolding nextOf
+  next-told e = rw (eq-eqb (st .place) 0 e)
 
   -- behind the kind's field the kind stays
   pub next-kind : (st .place ≡ 0 → ⊥) → (nextOf st v) .kind ≡ st .kind
@@ -132,6 +156,52 @@ module _ (st : State) (v : ℕ) (g : Goes st) (some : 0 < st .left) where
       let h : entryPlace ≤ st .place = ltb-false _ _ late in
       omega (arith, room-late st h, room-late (nextOf st v) (later st v h))))
 
+-- ---- the row of the frame's kind
+
+-- What holds of a walk that takes the row of `kind` ahead of the kind's field: at that field nothing is counted yet, and behind it the kind is that one.
+pub record Rowed (kind n : ℕ) (st : State) : Type 0 where
+  pub first : st .place ≡ 0 → (st .kind ≡ 0) × (n ≡ 0)
+  pub later : (st .place ≡ 0 → ⊥) → (st .kind ≡ kind) × (kind < kinds)
+
+pub rowed-start : (kind : ℕ) → Rowed kind 0 start
+rowed-start kind = record { first = λ e. (refl, refl); later = λ d. absurd (d refl) }
+
+module _ (kind n : ℕ) (st : State) (r : Rowed kind n st) where
+  -- so that the row tells what the next field holds
+  rowed-sort : getD (rowOf kind) (st .place) 0 ≡ sortOf st
+  rowed-sort =
+      by-equal (st .place) 0
+      (λ e. ap (λ (p : ℕ). getD (rowOf kind) p 0) e ∙ row-first kind ∙ sym (ap₂ sortAt (r .first e .0) e))
+      (λ d. row-at kind (st .place) (r .later d .1) ∙ ap (λ (k : ℕ). sortAt k (st .place)) (sym (r .later d .0)))
+
+  -- a kind that is allowed is one
+  told-below : (v : ℕ) → st .place ≡ 0 → allowed st v ≡ true → v < kinds
+  unfolding mostOf sortAt
+  told-below v e a = omega (arith, at-most st v a, ap (λ (s : ℕ). mostOf s (st .client) (st .before)) (ap₂ sortAt (r .first e .0) e))
+
+  pub rowed-tells : {row : List ℕ} → row ≡ rowOf kind → (getD row (st .place) 0 ≡ sortOf st) × (getD row (st .place) 0 < sorts)
+  rowed-tells {row} e =
+      let s : getD row (st .place) 0 ≡ sortOf st = ap (λ (l : List ℕ). getD l (st .place) 0) e ∙ rowed-sort in
+      (s, omega (arith, s, sort-small (st .kind) (st .place)))
+
+  -- it stays so where the kind's field has that kind
+  pub rowed-next : (m v : ℕ) → allowed st v ≡ true → (st .place ≡ 0 → v ≡ kind) → Rowed kind m (nextOf st v)
+  rowed-next m v a told =
+      record {
+        first = λ z. absurd (moved z);
+        later =
+            λ d.
+            by-equal (st .place) 0
+            (λ e. (next-told st v e ∙ told e, omega (arith, told e, told-below v e a)))
+            (λ f. (next-kind st v f ∙ r .later f .0, r .later f .1));
+      }
+    where
+      moved : (nextOf st v) .place ≡ 0 → ⊥
+      moved z =
+          by-equal (st .place) numberPlace
+          (λ e. omega (arith, next-place st v ∙ place-last (st .place) e))
+          (λ d. omega (arith, next-place st v ∙ place-inner (st .place) d))
+
 -- ---- the grammar
 
 -- what is left of the format in a state
@@ -194,10 +264,6 @@ room-left st =
     by-test (ltb (st .place) entryPlace)
     (λ b. omega (arith, room-early st (ltb-true _ _ b)))
     (λ b. omega (arith, room-late st (ltb-false _ _ b)))
-
-pub width-is : (st : State) {f : Field} → f ≡ fieldOf st → f .width ≡ widthOf st
-unfolding fieldOf
-width-is st e = ap (λ (f : Field). f .width) e
 
 -- and no less than the least
 pub at-least : (st : State) (v : ℕ) → allowed st v ≡ true → leastOf (sortOf st) (st .client) ≤ v

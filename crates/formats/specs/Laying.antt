@@ -11,15 +11,16 @@ use borrow.Author.Tests.{le-leb, lt-leb}
 use Rattle.ranges.specs.Sum.{sumBelow, sum-none, sum-more}
 use Rattle.fields.specs.Bits.{putField}
 use Rattle.fields.specs.FieldLaws.{length-putField}
+use Rattle.formats.specs.declared.state.Field.{Field}
 use Rattle.formats.specs.declared.state.State.{State}
 use Rattle.formats.specs.Grammar.{Grammar, end, field, good, size, lay, zeros, frame}
 use Rattle.formats.specs.RoundTrip.{length-frame}
-use Rattle.formats.specs.Table.{numberPlace}
-use Rattle.formats.specs.TableLaws.{columns-small, entries-fit}
-use Rattle.formats.specs.Format.{widthOf, nextOf, start, format}
-use Rattle.formats.specs.FormatLaws.{rest, rest-start, rest-one}
+use Rattle.formats.specs.Table.{numberPlace, sorts, bitsOf}
+use Rattle.formats.specs.TableLaws.{rowOf, bits-most, columns-small, entries-fit}
+use Rattle.formats.specs.Format.{sortOf, widthOf, nextOf, start, format}
+use Rattle.formats.specs.FormatLaws.{limitsOf, limits-width, rowed-tells, rest, rest-start, rest-one}
 use Rattle.formats.specs.Writing.{wroteOf, bytesAfter}
-use Rattle.formats.specs.Walk.{stateAt, walk, some-left, sized, frame-bits, entriesSaid, kind-below, entries-few}
+use Rattle.formats.specs.Walk.{stateAt, walk, walk-rowed, some-left, sized, frame-bits, entriesSaid, kind-below, entries-few}
 
 -- the bit where value i begins
 abbrev pub bitOf : List ℕ → ℕ → ℕ
@@ -57,6 +58,17 @@ module _ (vs : List ℕ) (g : good format vs ≡ true) where
       omega (arith, frame-bits vs g, columns-small k (kind-below vs g), entries-fit k (entriesSaid vs) (kind-below vs g) (entries-few vs g))
 
   module _ (before bytes : List ℕ) (i at : ℕ) (st : State) (c : Laid vs before bytes i at st) where
+    -- the row of the kind tells what the next field holds
+    pub laid-sort : {row : List ℕ} → row ≡ rowOf (getD vs 0 0) → (getD row (st .place) 0 ≡ sortOf st) × (getD row (st .place) 0 < sorts)
+    laid-sort er = rowed-tells (getD vs 0 0) i st (rw (c .state) (walk-rowed vs g i)) er
+
+    -- and so how wide it is
+    pub laid-width : {row : List ℕ} {f : Field} → row ≡ rowOf (getD vs 0 0) → f ≡ limitsOf (getD row (st .place) 0) → (f .width ≡ widthOf st) × (f .width ≤ 32)
+    laid-width {row} er ef =
+        let t = laid-sort er in
+        let w = limits-width (getD row (st .place) 0) ef in
+        (w ∙ ap bitsOf (t .0), omega (arith, w, bits-most (getD row (st .place) 0) (t .1)))
+
     -- all is laid
     pub laid-end : length vs ≤ i → bytes ≡ lay format vs before 0
     laid-end h =

@@ -1,5 +1,5 @@
 -- What the reader finds, field by field, and that it is what the grammar says.
-use mathlib.Core.Path.{_≡_, refl, sym, ap, _∙_}
+use mathlib.Core.Path.{_≡_, refl, sym, ap, ap₂, _∙_}
 use Prim.Native.Nat.{ℕ, _+_, _-_, _*_, _/_, _≤_, _<_}
 use native.Mathlib.Omega.{arith}
 use native.Mathlib.Numerals.{add-one}
@@ -16,8 +16,10 @@ use Rattle.formats.specs.declared.state.State.{State}
 use Rattle.formats.specs.declared.reading.Took.{Took}
 use Rattle.formats.specs.declared.reading.Scan.{Scan}
 use Rattle.formats.specs.Grammar.{Grammar, Outcome, got, fault, ahead, judged, ended, read}
+use Rattle.formats.specs.Table.{sortAt, bitsOf}
+use Rattle.formats.specs.TableLaws.{kindBits}
 use Rattle.formats.specs.Format.{mostValues, widthOf, fieldOf, within, allowed, nextOf, one, start, format}
-use Rattle.formats.specs.FormatLaws.{Goes, goes-start, goes-next, rest, rest-start, rest-one, rest-end}
+use Rattle.formats.specs.FormatLaws.{Goes, goes-start, goes-next, Rowed, rowed-next, rest, rest-start, rest-one, rest-end}
 
 -- ---- definitions
 
@@ -195,3 +197,11 @@ module _ (bytes values : List ℕ) (i at : ℕ) (st : State) (c : Come bytes val
     turn-on h w en =
         rw (en, is-value, is-width)
         (come-on bytes values i at st c some is-fault none h (omega (arith, is-width)) (goes-next st (fieldAt bytes at (widthOf st)) (c .goes) some))
+
+    -- with the row of the kind that the first field has
+    pub turn-rowed : {next : State} (kind m : ℕ) → Rowed kind at st → kind ≡ fieldAt bytes 0 kindBits → next ≡ nextOf st (t .value) → Rowed kind m next
+    unfolding bitsOf sortAt
+    turn-rowed kind m r ek en =
+        rw en
+        (rowed-next kind at st r m (t .value) turn-allowed
+        (λ e. is-value ∙ ap₂ (fieldAt bytes) (r .first e .1) (ap bitsOf (ap₂ sortAt (r .first e .0) e)) ∙ sym ek))

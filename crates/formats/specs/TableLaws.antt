@@ -1,13 +1,13 @@
 -- The rule of the table, proved at each of its entries by one computed test.
 use Prim.Native.Nat.{ℕ, zero, suc, _+_, _*_, _≤_, _<_}
-use mathlib.Core.Path.{_≡_, refl, sym, ap}
-use mathlib.Core.Bool.{Bool, true, false, not, _&&_}
+use mathlib.Core.Path.{_≡_, refl, sym, ap, _∙_}
+use mathlib.Core.Bool.{Bool, true, false, cond, not, _&&_}
 use mathlib.Core.List.{List, []}
 use native.Mathlib.Nat.{mul-le-mul}
 use native.Mathlib.Omega.{arith}
 use lib.Dec.{eqb, leb, ltb}
 use lib.ListN.{length, getD, List·getD-eq-default}
-use borrow.Author.Tests.{eqb-true, eq-eqb, ne-eqb, leb-true, ltb-true, ltb-false, not-true}
+use borrow.Author.Tests.{eqb-true, eq-eqb, ne-eqb, leb-true, lt-ltb, le-ltb, ltb-true, ltb-false, not-true}
 use Rattle.ranges.specs.Tests.{either, by-test, both-left, both-right}
 use Rattle.ranges.specs.All.{allBelow, all-at}
 use Rattle.formats.specs.Table.{manyPlace, entryPlace, rowPlaces, kinds, sorts, headerBits, table, mostEntries, own, of, sortAt, bitsOf, leastOf, mostOf, mosts, leasts, less, entriesIn, bodyBits, entryBits}
@@ -69,11 +69,51 @@ pub beyond-place : (kind place : ℕ) → kind < kinds → rowPlaces ≤ place �
 unfolding sortAt
 beyond-place kind place h g = sym (List·getD-eq-default (getD table kind []) 0 (let p = row-right kind h .places in omega arith))
 
+-- the bits of the first field, which is the kind
+abbrev pub kindBits : ℕ
+kindBits = 4
+
+-- the row of a kind; of a number that is no kind, the row that stands until the kind is read
+unfoldable pub rowOf : ℕ → List ℕ
+rowOf kind = getD table (cond (ltb kind kinds) kind 0) []
+
+pub row-is : (kind : ℕ) → kind < kinds → getD table kind [] ≡ rowOf kind
+unfolding rowOf
+row-is kind h = rw (lt-ltb kind kinds h)
+
+pub row-none : (kind : ℕ) → kinds ≤ kind → getD table 0 [] ≡ rowOf kind
+unfolding rowOf
+row-none kind h = rw (le-ltb kind kinds h)
+
+-- it begins with the kind, whatever the number is
+pub row-first : (kind : ℕ) → getD (rowOf kind) 0 0 ≡ sortAt 0 0
+unfolding sortAt
+row-first kind =
+    by-test (ltb kind kinds)
+    (λ e. let h = ltb-true _ _ e in ap (λ (r : List ℕ). getD r 0 0) (sym (row-is kind h)) ∙ row-right kind h .begins)
+    (λ e. ap (λ (r : List ℕ). getD r 0 0) (sym (row-none kind (ltb-false _ _ e))))
+
+-- and tells what each field of a frame of the kind holds
+pub row-at : (kind place : ℕ) → kind < kinds → getD (rowOf kind) place 0 ≡ sortAt kind place
+unfolding sortAt
+row-at kind place h = ap (λ (r : List ℕ). getD r place 0) (sym (row-is kind h))
+
 -- each entry is one of the fifteen sorts, and none of them has more than 32 bits
 pub sort-below : (kind place : ℕ) → kind < kinds → place < rowPlaces → sortAt kind place < sorts
 unfolding allBelow sortAt
 sort-below kind place h g =
     ltb-true _ _ (all-at (λ p. ltb (sortAt kind p) sorts) rowPlaces (all-at (λ k. allBelow (λ p. ltb (sortAt k p) sorts) rowPlaces) kinds refl kind h) place g)
+
+-- also beyond the table
+pub sort-small : (kind place : ℕ) → sortAt kind place < sorts
+sort-small kind place =
+    by-test (ltb kind kinds)
+    (λ e.
+    let h = ltb-true _ _ e in
+    by-test (ltb place rowPlaces)
+    (λ f. sort-below kind place h (ltb-true _ _ f))
+    (λ f. omega (arith, beyond-place kind place h (ltb-false _ _ f))))
+    (λ e. omega (arith, beyond-kind kind place (ltb-false _ _ e)))
 
 pub bits-most : (sort : ℕ) → sort < sorts → bitsOf sort ≤ 32
 unfolding allBelow bitsOf
@@ -96,41 +136,37 @@ few-entries kind client before =
     rw (r .plain) (either (λ n. n ≤ 255) (eqb (sortAt kind manyPlace) of && eqb before 0) (omega arith) (r .few)))
     (λ e. rw (← beyond-kind kind manyPlace (ltb-false _ _ e)) (omega arith))
 
--- the cases of the limits, as the code meets them
+-- the cases of the limits, as the code meets them: `plain` is the one that stands for the sort
 module _ (sort client before : ℕ) where
   pub least-own : sort ≡ own → client ≡ leastOf sort client
   unfolding leastOf
   least-own e = rw (eq-eqb sort own e)
 
-  pub least-other : (sort ≡ own → ⊥) → getD leasts sort 0 ≡ leastOf sort client
+  pub least-other : {plain : ℕ} → plain ≡ getD leasts sort 0 → (sort ≡ own → ⊥) → plain ≡ leastOf sort client
   unfolding leastOf
-  least-other d = rw (ne-eqb sort own d)
+  least-other p d = rw (ne-eqb sort own d) p
 
   pub most-own : sort ≡ own → client ≡ mostOf sort client before
   unfolding mostOf
   most-own e = rw (eq-eqb sort own e)
 
-  pub most-other : (sort ≡ own → ⊥) → (sort ≡ of → ⊥) → getD mosts sort 0 ≡ mostOf sort client before
-  unfolding mostOf
-  most-other d f = rw (ne-eqb sort own d, ne-eqb sort of f)
-
   pub most-opening : (sort ≡ own → ⊥) → before ≡ 0 → sort ≡ of → 0 ≡ mostOf sort client before
   unfolding mostOf
   most-opening d z e = rw (ne-eqb sort own d, eq-eqb sort of e, eq-eqb before 0 z)
 
-  pub most-of-key : (sort ≡ own → ⊥) → (before ≡ 0 → ⊥) → sort ≡ of → getD mosts sort 0 ≡ mostOf sort client before
-  unfolding mostOf
-  most-of-key d z e = rw (ne-eqb sort own d, eq-eqb sort of e, ne-eqb before 0 z)
+  module _ {plain : ℕ} (p : plain ≡ getD mosts sort 0) (d : sort ≡ own → ⊥) where
+    pub most-other : (sort ≡ of → ⊥) → plain ≡ mostOf sort client before
+    unfolding mostOf
+    most-other f = rw (ne-eqb sort own d, ne-eqb sort of f) p
 
--- the cases of the number of entries
-module _ (kind v : ℕ) where
-  pub entries-less : sortAt kind manyPlace ≡ less → v + 1 ≡ entriesIn kind v
-  unfolding entriesIn
-  entries-less e = rw (eq-eqb (sortAt kind manyPlace) less e)
+    pub most-of-key : (before ≡ 0 → ⊥) → sort ≡ of → plain ≡ mostOf sort client before
+    unfolding mostOf
+    most-of-key z e = rw (ne-eqb sort own d, eq-eqb sort of e, ne-eqb before 0 z) p
 
-  pub entries-plain : (sortAt kind manyPlace ≡ less → ⊥) → v ≡ entriesIn kind v
-  unfolding entriesIn
-  entries-plain d = rw (ne-eqb (sortAt kind manyPlace) less d)
+-- the number of entries, by what the field that says it holds
+pub entries-by : (kind v : ℕ) {sort n : ℕ} → sort ≡ sortAt kind manyPlace → n ≡ cond (eqb sort less) (v + 1) v → n ≡ entriesIn kind v
+unfolding entriesIn
+entries-by kind v e d = d ∙ ap (λ (s : ℕ). cond (eqb s less) (v + 1) v) e
 
 pub entries-most : (kind v : ℕ) → entriesIn kind v ≤ v + 1
 unfolding entriesIn

@@ -17,7 +17,7 @@ use Rattle.formats.specs.declared.state.State.{State}
 use Rattle.formats.specs.declared.writing.Wrote.{Wrote}
 use Rattle.formats.specs.Grammar.{Grammar, end, good, frame}
 use Rattle.formats.specs.Format.{widthOf, fieldOf, within, allowed, nextOf, one, start, format}
-use Rattle.formats.specs.FormatLaws.{Goes, goes-start, goes-next, rest, rest-start, rest-one, rest-end}
+use Rattle.formats.specs.FormatLaws.{Goes, goes-start, goes-next, Rowed, rowed-next, rest, rest-start, rest-one, rest-end}
 
 -- ---- definitions
 
@@ -107,6 +107,11 @@ module _ (values : List ℕ) (i : ℕ) (st : State) (c : Tested values i st) whe
                 ap (λ (k : ℕ). good (rest (nextOf st (getD values i 0))) (drop k values)) (add-one i)
                 ∙ sym (ap (λ (b : Bool). b && good (rest (nextOf st (getD values i 0))) (drop (suc i) values)) e) ∙ tested-value;
           }
+
+-- the walk with the row of the first value's kind
+module _ (values : List ℕ) (i : ℕ) (st : State) where
+  pub rowed-on : {next : State} → Rowed (getD values 0 0) i st → allowed st (getD values i 0) ≡ true → next ≡ nextOf st (getD values i 0) → Rowed (getD values 0 0) (i + 1) next
+  rowed-on r a en = rw en (rowed-next (getD values 0 0) i st r (i + 1) (getD values i 0) a (λ e. ap (λ (k : ℕ). getD values k 0) (r .first e .1)))
 
 -- the test of a state's field, as the code makes it
 pub allows-is : (st : State) (v : ℕ) {f : Field} {r : Bool} → f ≡ fieldOf st → r ≡ (ltb v (2 ^ f .width) && within f v) → r ≡ (ltb v (2 ^ widthOf st) && allowed st v)

@@ -1,6 +1,7 @@
 // From bytes to values: field by field, until the first fault.
 use crate::state;
 use crate::state::Field;
+use crate::table;
 ghost use mathlib.Core.Path.{_≡_};
 ghost use Prim.Native.Nat.{_*_, _≤_};
 ghost use lib.ListN.{length};
@@ -69,15 +70,20 @@ pub struct Scan {
 }
 
 // The values of a frame, in order, into a row that has room for those of the longest. Where the bytes are refused the row holds what came before the fault.
+// The kind is read ahead of the other fields, so that its row of the table is taken once.
 pub fn read_values(bytes: &[u8], values: &mut [u32]) -> Scan
     requires { ⌜ length (now values) ≡ mostValues ⌝ }
     ensures { λ r. ⌜ Scanned (now (bytes .entry)) (now (values .exit)) r ⌝ }
 {
+    let kind = fields::read_field(bytes, 0, table::KIND_BITS);
+    let row = table::row_of(kind);
     let mut state = state::first();
     let mut at: usize = 0;
     let mut i: usize = 0;
     while 0 < state.left {
-        let field = state::field_at(state);
+        let place = state.place;
+        let sort = row[place];
+        let field = state::field_at(sort, state);
         let took = take(bytes, at, field);
         let fault = took.fault;
         let value = took.value;
@@ -90,7 +96,7 @@ pub fn read_values(bytes: &[u8], values: &mut [u32]) -> Scan
         values[i] = value;
         at += field.width;
         i += 1;
-        state = state::next(state, value);
+        state = state::next(sort, state, value);
     }
     let fault = finish(bytes, at);
     Scan {

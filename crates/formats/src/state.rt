@@ -4,8 +4,8 @@ ghost use mathlib.Core.Path.{_≡_};
 ghost use Prim.Native.Nat.{_<_, _≤_};
 ghost use mathlib.Core.Bool.{cond};
 ghost use lib.Dec.{eqb};
-ghost use Rattle.formats.specs.Table.{numberPlace};
-ghost use Rattle.formats.specs.Format.{fieldOf, leftAfter, nextOf, start};
+ghost use Rattle.formats.specs.Table.{numberPlace, sorts};
+ghost use Rattle.formats.specs.Format.{sortOf, fieldOf, leftAfter, nextOf, start};
 
 // A field: its bits, and the least and the greatest value that it may have.
 pub struct Field {
@@ -36,13 +36,15 @@ pub fn first() -> State
     }
 }
 
-pub fn field_at(state: State) -> Field
+// The next field; `sort` is what it holds.
+pub fn field_at(sort: u8, state: State) -> Field
+    requires { ⌜ (sort ≡ sortOf state) × (sort < sorts) ⌝ }
     ensures { λ r. ⌜ (r ≡ fieldOf state) × (r .width ≤ 32) ⌝ }
 {
-    let sort = table::sort_at(state.kind, state.place);
-    let width = table::bits_of(sort);
-    let least = table::least_of(sort, state.client);
-    let most = table::most_of(sort, state.client, state.before);
+    let plain = table::limits_of(sort);
+    let width = plain.width;
+    let least = table::least_of(sort, plain.least, state.client);
+    let most = table::most_of(sort, plain.most, state.client, state.before);
     Field {
         width: width,
         least: least,
@@ -57,26 +59,26 @@ fn taken_at(wanted: usize, place: usize, new: u32, old: u32) -> u32
     if place == wanted { new } else { old }
 }
 
-// How many fields are left behind this one.
-fn left_after(state: State, value: u32) -> usize
-    requires { ⌜ 0 < state .left ⌝ }
+// How many fields are left behind this one; `sort` is what it holds.
+fn left_after(sort: u8, state: State, value: u32) -> usize
+    requires { ⌜ (0 < state .left) × (sort ≡ sortOf state) ⌝ }
     ensures { λ r. ⌜ r ≡ leftAfter state value ⌝ }
 {
     if state.place == table::MANY {
-        return 3 * table::entries_in(state.kind, value);
+        return 3 * table::entries_in(sort, value);
     }
     state.left - 1
 }
 
-// The state behind a field with this value.
-pub fn next(state: State, value: u32) -> State
-    requires { ⌜ (0 < state .left) × (state .place ≤ numberPlace) ⌝ }
+// The state behind a field with this value; `sort` is what the field holds.
+pub fn next(sort: u8, state: State, value: u32) -> State
+    requires { ⌜ (0 < state .left) × (state .place ≤ numberPlace) × (sort ≡ sortOf state) ⌝ }
     ensures { λ r. ⌜ r ≡ nextOf state value ⌝ }
 {
     let place = state.place;
     let kind = taken_at(0, place, value, state.kind);
     let client = taken_at(1, place, value, state.client);
-    let left = left_after(state, value);
+    let left = left_after(sort, state, value);
     if place == table::NUMBER {
         return State {
             kind: kind,

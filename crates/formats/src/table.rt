@@ -1,7 +1,13 @@
 // The constant table by kind: the one source of the format.
+use crate::state::Field;
 ghost use mathlib.Core.Path.{_≡_};
-ghost use Prim.Native.Nat.{_<_, _≤_};
-ghost use Rattle.formats.specs.Table.{kinds, sorts, mostEntries, sortAt, bitsOf, leastOf, mostOf, entriesIn, hasNumbers, frameLength};
+ghost use Prim.Native.Nat.{_+_, _<_, _≤_};
+ghost use mathlib.Core.Bool.{cond};
+ghost use lib.Dec.{eqb};
+ghost use lib.ListN.{getD};
+ghost use Rattle.formats.specs.Table.{kinds, sorts, less, leasts, mosts, mostEntries, sortAt, leastOf, mostOf, hasNumbers, frameLength};
+ghost use Rattle.formats.specs.TableLaws.{rowOf};
+ghost use Rattle.formats.specs.FormatLaws.{limitsOf};
 
 // What a field holds. NO: the kind has no such field; it then has no bits and the value 0.
 const NO: u8 = 0;
@@ -42,13 +48,15 @@ pub const ENTRY: usize = 8;
 
 pub const NUMBER: usize = 10;
 
-const PLACES: usize = 11;
-// How many kinds there are, with 0, how many sorts of fields, and the bits of the header.
+pub const PLACES: usize = 11;
+
+// How many kinds there are, with 0, and the bits of the header.
 const KINDS: usize = 13;
 
-const SORTS: usize = 15;
-
 const HEADER_BITS: usize = 13;
+
+// The bits of the first field, which is the kind.
+pub const KIND_BITS: usize = 4;
 
 // By kind, from 0: kind, client, target; of the fixed body tag, key's count and client, setpoint or mask, how many entries;
 // of each entry key's count and client, setpoint or mask.
@@ -68,33 +76,22 @@ const FORMAT: [[u8; PLACES]; KINDS] = [
     [KIND, CLIENT, COORD, NO, NO, NO, NO, LESS, COUNT, OF, MASK], // 12 log
 ];
 
-// By what a field holds: its bits, its least value, its greatest.
-const BITS: [usize; SORTS] = [0, 4, 4, 5, 5, 8, 8, 8, 8, 4, 4, 32, 16, 5, 8];
-
-const LEAST: [u32; SORTS] = [0, 1, 0, 0, 16, 0, 1, 0, 1, 0, 0, 0, 1, 1, 0];
-
-const MOST: [u32; SORTS] = [
-    0,
-    12,
-    15,
-    15,
-    16,
-    255,
-    255,
-    255,
-    255,
-    15,
-    15,
-    4294967295,
-    65535,
-    16,
-    255,
-];
-
 // By kind: the bits of the fixed body, and of each entry.
 const BODY_BITS: [usize; KINDS] = [0, 44, 0, 28, 8, 0, 13, 12, 32, 0, 8, 0, 8];
 
 const ENTRY_BITS: [usize; KINDS] = [0, 0, 0, 0, 0, 0, 12, 0, 0, 0, 44, 0, 28];
+
+// What the fields of a frame of this kind hold, place by place; where there is no such kind, the row that stands until the kind is read.
+// Taken once for a frame, since the whole table is built on the stack where it is used.
+pub fn row_of(kind: u32) -> [u8; PLACES]
+    ensures { λ r. ⌜ r ≡ rowOf kind ⌝ }
+{
+    let row = kind as usize;
+    if KINDS <= row {
+        return FORMAT[0];
+    }
+    FORMAT[row]
+}
 
 // What the field at a place of a frame of this kind holds.
 pub fn sort_at(kind: u32, place: usize) -> u8
@@ -110,46 +107,75 @@ pub fn sort_at(kind: u32, place: usize) -> u8
     FORMAT[row][place]
 }
 
-pub fn bits_of(sort: u8) -> usize
-    requires { ⌜ sort < sorts ⌝ }
-    ensures { λ r. ⌜ (r ≡ bitsOf sort) × (r ≤ 32) ⌝ }
+// A row of the table of sorts.
+fn limits(width: usize, least: u32, most: u32) -> Field
+    ensures { λ r. ⌜ r ≡ record { width = width; least = least; most = most } ⌝ }
 {
-    BITS[sort as usize]
+    Field {
+        width: width,
+        least: least,
+        most: most,
+    }
 }
 
-// The least value of a field in a frame of a client.
-pub fn least_of(sort: u8, client: u32) -> u32
+// The table of sorts: by what a field holds its bits, its least value, its greatest; the last row is of LESS.
+// It is a `match` since a constant array is built where it stands, on the stack and anew for each field.
+pub fn limits_of(sort: u8) -> Field
     requires { ⌜ sort < sorts ⌝ }
+    ensures { λ r. ⌜ r ≡ limitsOf sort ⌝ }
+{
+    match sort {
+        NO => limits(0, 0, 0),
+        KIND => limits(KIND_BITS, 1, 12),
+        CLIENT => limits(4, 0, 15),
+        SERVER => limits(5, 0, 15),
+        COORD => limits(5, 16, 16),
+        TAG => limits(8, 0, 255),
+        TAG1 => limits(8, 1, 255),
+        COUNT => limits(8, 0, 255),
+        COUNT1 => limits(8, 1, 255),
+        OF => limits(4, 0, 15),
+        OWN => limits(4, 0, 15),
+        VALUE => limits(32, 0, 4294967295),
+        MASK => limits(16, 1, 65535),
+        KEYS => limits(5, 1, 16),
+        _ => limits(8, 0, 255),
+    }
+}
+
+// The least value of a field in a frame of a client, from the one that stands in the table of sorts.
+pub fn least_of(sort: u8, plain: u32, client: u32) -> u32
+    requires { ⌜ plain ≡ getD leasts sort 0 ⌝ }
     ensures { λ r. ⌜ r ≡ leastOf sort client ⌝ }
 {
     if sort == OWN {
         return client;
     }
-    LEAST[sort as usize]
+    plain
 }
 
 // The greatest value of a field in a frame of a client, where `before` is the value of the field before it.
-pub fn most_of(sort: u8, client: u32, before: u32) -> u32
-    requires { ⌜ sort < sorts ⌝ }
+pub fn most_of(sort: u8, plain: u32, client: u32, before: u32) -> u32
+    requires { ⌜ plain ≡ getD mosts sort 0 ⌝ }
     ensures { λ r. ⌜ r ≡ mostOf sort client before ⌝ }
 {
     if sort == OWN {
         return client;
     }
     if sort != OF {
-        return MOST[sort as usize];
+        return plain;
     }
     if before == 0 {
         return 0;
     }
-    MOST[sort as usize]
+    plain
 }
 
-// How many entries a frame of this kind has, by the value that says it.
-pub fn entries_in(kind: u32, value: u32) -> usize
-    ensures { λ r. ⌜ r ≡ entriesIn kind value ⌝ }
+// How many entries a frame has, by the value that says it and what the field of that value holds.
+pub fn entries_in(sort: u8, value: u32) -> usize
+    ensures { λ r. ⌜ r ≡ cond (eqb sort less) (value + 1) value ⌝ }
 {
-    if sort_at(kind, MANY) == LESS {
+    if sort == LESS {
         return value as usize + 1;
     }
     value as usize

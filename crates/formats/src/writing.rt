@@ -2,12 +2,14 @@
 use crate::state;
 use crate::state::Field;
 use crate::table;
+use crate::table::PLACES;
 ghost use mathlib.Core.Path.{_≡_};
 ghost use Prim.Native.Nat.{_*_, _^_, _≤_};
 ghost use mathlib.Core.Bool.{true, _&&_};
 ghost use lib.Dec.{ltb};
-ghost use lib.ListN.{length};
+ghost use lib.ListN.{length, getD};
 ghost use Rattle.formats.specs.Grammar.{good, size, lay, zeros, frame};
+ghost use Rattle.formats.specs.TableLaws.{rowOf};
 ghost use Rattle.formats.specs.Format.{within, format};
 ghost use Rattle.formats.specs.Writing.{wroteOf, bytesAfter};
 
@@ -36,8 +38,19 @@ fn allows(field: Field, value: u32) -> bool
     value <= field.most
 }
 
-// Whether the values are those of a frame.
-pub fn writable(values: &[u32]) -> bool
+// The kind that values begin with, 0 where there are none.
+fn kind_of(values: &[u32]) -> u32
+    ensures { λ r. ⌜ r ≡ getD (now (values .entry)) 0 0 ⌝ }
+{
+    if values.len() == 0 {
+        return 0;
+    }
+    values[0]
+}
+
+// Whether the values are those of a frame; `row` is what the fields of their kind hold.
+fn writable(row: &[u8; PLACES], values: &[u32]) -> bool
+    requires { ⌜ now row ≡ rowOf (getD (now values) 0 0) ⌝ }
     ensures { λ r. ⌜ r ≡ good format (now (values .entry)) ⌝ }
 {
     let mut state = state::first();
@@ -47,11 +60,13 @@ pub fn writable(values: &[u32]) -> bool
             return false;
         }
         let value = values[i];
-        let field = state::field_at(state);
+        let place = state.place;
+        let sort = row[place];
+        let field = state::field_at(sort, state);
         if !allows(field, value) {
             return false;
         }
-        state = state::next(state, value);
+        state = state::next(sort, state, value);
         i += 1;
     }
     i == values.len()
@@ -68,8 +83,8 @@ fn clear(bytes: &mut [u8])
 }
 
 // The fields of a frame's values, one behind the other.
-fn lay_fields(values: &[u32], bytes: &mut [u8])
-    requires { ⌜ (good format (now values) ≡ true) × (size format (now values) ≤ 8 * length (now bytes)) ⌝ }
+fn lay_fields(row: &[u8; PLACES], values: &[u32], bytes: &mut [u8])
+    requires { ⌜ (now row ≡ rowOf (getD (now values) 0 0)) × (good format (now values) ≡ true) × (size format (now values) ≤ 8 * length (now bytes)) ⌝ }
     ensures { λ _. ⌜ now (bytes .exit) ≡ lay format (now (values .entry)) (now (bytes .entry)) 0 ⌝ }
 {
     let mut state = state::first();
@@ -77,22 +92,24 @@ fn lay_fields(values: &[u32], bytes: &mut [u8])
     let mut i: usize = 0;
     while i < values.len() {
         let value = values[i];
-        let field = state::field_at(state);
-        let width = field.width;
+        let place = state.place;
+        let sort = row[place];
+        let limits = table::limits_of(sort);
+        let width = limits.width;
         fields::write_field(bytes, at, width, value);
         at += width;
         i += 1;
-        state = state::next(state, value);
+        state = state::next(sort, state, value);
     }
 }
 
 // The frame of the values over zero bits.
-fn fill(values: &[u32], bytes: &mut [u8])
-    requires { ⌜ (good format (now values) ≡ true) × (size format (now values) ≤ 8 * length (now bytes)) ⌝ }
+fn fill(row: &[u8; PLACES], values: &[u32], bytes: &mut [u8])
+    requires { ⌜ (now row ≡ rowOf (getD (now values) 0 0)) × (good format (now values) ≡ true) × (size format (now values) ≤ 8 * length (now bytes)) ⌝ }
     ensures { λ _. ⌜ now (bytes .exit) ≡ lay format (now (values .entry)) (zeros (length (now (bytes .entry)))) 0 ⌝ }
 {
     clear(bytes);
-    lay_fields(values, bytes);
+    lay_fields(row, values, bytes);
 }
 
 // What writing did: the number that refuses it, or 0 and the frame's length in bytes.
@@ -105,20 +122,21 @@ pub struct Wrote {
 pub fn write_values(values: &[u32], bytes: &mut [u8]) -> Wrote
     ensures { λ r. ⌜ (r ≡ wroteOf (now (values .entry)) (now (bytes .entry))) × (now (bytes .exit) ≡ bytesAfter (now (values .entry)) (now (bytes .entry))) ⌝ }
 {
-    if !writable(values) {
+    let row = table::row_of(kind_of(values));
+    if !writable(&row, values) {
         return Wrote {
             fault: 11,
             length: 0,
         };
     }
-    let length = length_of(values);
+    let length = length_of(&row, values);
     if bytes.len() < length {
         return Wrote {
             fault: 12,
             length: 0,
         };
     }
-    fill(values, &mut bytes[..length]);
+    fill(&row, values, &mut bytes[..length]);
     Wrote {
         fault: 0,
         length: length,
@@ -126,11 +144,11 @@ pub fn write_values(values: &[u32], bytes: &mut [u8]) -> Wrote
 }
 
 // How many bytes the frame of the values has, by the table.
-fn length_of(values: &[u32]) -> usize
-    requires { ⌜ good format (now values) ≡ true ⌝ }
+fn length_of(row: &[u8; PLACES], values: &[u32]) -> usize
+    requires { ⌜ (now row ≡ rowOf (getD (now values) 0 0)) × (good format (now values) ≡ true) ⌝ }
     ensures { λ r. ⌜ r ≡ length (frame format (now (values .entry))) ⌝ }
 {
     let kind = values[0];
-    let entries = table::entries_in(kind, values[table::MANY]);
+    let entries = table::entries_in(row[table::MANY], values[table::MANY]);
     table::frame_length(kind, entries)
 }

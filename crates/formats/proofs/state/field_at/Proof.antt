@@ -1,15 +1,25 @@
 -- Width and limits by what the field holds.
 use borrow.Author.Needs.{needs}
-use Rattle.formats.specs.FormatLaws.{field-is}
+use mathlib.Core.Path.{_∙_}
+use native.Mathlib.Omega.{arith}
+use Rattle.formats.specs.TableLaws.{bits-most}
+use Rattle.formats.specs.FormatLaws.{limits-width, limits-least, limits-most, field-is}
 use Rattle.formats.proofs.state.field_at.Statement.{statement}
 use Rattle.formats.proofs.state.field_at.Tie as tie
 
+least-of-requires : tie.Need-least-of-requires
+least-of-requires c κs = limits-least (c .before .args .sort) (c .limits-of .ensures)
+
+most-of-requires : tie.Need-most-of-requires
+most-of-requires c κs = limits-most (c .before .before .args .sort) (c .before .limits-of .ensures)
+
 returns : tie.Need-returns
-returns c = (
-  field-is (c .before .before .before .before .args .state) (c .before .before .before .sort-at .ensures .0) (c .before .before .bits-of .ensures .0) (c .before .least-of .ensures) (c .most-of .ensures),
-  c .before .before .bits-of .ensures .1,
-)
+returns c =
+    let s = c .before .before .before in
+    let w = limits-width (s .args .sort) (c .before .before .limits-of .ensures) in
+    (field-is (s .args .state) (s .pre .0) w (c .before .least-of .ensures) (c .most-of .ensures), omega (arith, w, bits-most (s .args .sort) (s .pre .1)))
 
 pub field-at-spec : {M : Type 1} → statement M
 field-at-spec =
-    tie.close (tie.spec (λ c κs. search needs) (λ c κs. search needs) (λ c κs. search needs) (λ c κs. search needs) returns)
+    tie.close
+    (tie.spec (λ c κs. search needs) least-of-requires most-of-requires returns)

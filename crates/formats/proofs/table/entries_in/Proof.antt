@@ -1,15 +1,17 @@
--- One law a branch.
+-- The test picks.
 use borrow.Author.Needs.{needs}
-use mathlib.Core.Path.{sym, _∙_}
-use Rattle.formats.specs.TableLaws.{entries-less, entries-plain}
+use borrow.Author.Tests.{eq-eqb, ne-eqb}
+use Rattle.formats.specs.Table.{less}
 use Rattle.formats.proofs.table.entries_in.Statement.{statement}
 use Rattle.formats.proofs.table.entries_in.Tie as tie
 
 returns : tie.Need-returns
-returns c = let a = c .before .before .args in entries-less (a .kind) (a .value) (sym (c .before .sort-at .ensures .0) ∙ c .if1 .taken)
+returns c = rw (eq-eqb (c .before .args .sort) less (c .if1 .taken))
 
 returns-2 : tie.Need-returns-2
-returns-2 c = let a = c .before .before .args in entries-plain (a .kind) (a .value) (λ e. c .if1 .left (c .before .sort-at .ensures .0 ∙ e))
+returns-2 c = rw (ne-eqb (c .before .args .sort) less (c .if1 .left))
 
 pub entries-in-spec : {M : Type 1} → statement M
-entries-in-spec = tie.close (tie.spec (λ c κs. search needs) (λ c. search needs) returns returns-2)
+entries-in-spec =
+    tie.close
+    (tie.spec (λ c. search needs) returns returns-2)

@@ -1,5 +1,4 @@
 -- One law a branch.
-use borrow.Author.Needs.{needs}
 use Rattle.formats.specs.TableLaws.{least-own, least-other}
 use Rattle.formats.proofs.table.least_of.Statement.{statement}
 use Rattle.formats.proofs.table.least_of.Tie as tie
@@ -8,7 +7,7 @@ returns : tie.Need-returns
 returns c = let a = c .before .args in least-own (a .sort) (a .client) 0 (c .if1 .taken)
 
 returns-2 : tie.Need-returns-2
-returns-2 c = let a = c .before .args in least-other (a .sort) (a .client) 0 (c .if1 .left)
+returns-2 c = let a = c .before .args in least-other (a .sort) (a .client) 0 (c .before .pre) (c .if1 .left)
 
 pub least-of-spec : {M : Type 1} → statement M
-least-of-spec = tie.close (tie.spec returns (λ c. search needs) (λ c. search needs) returns-2)
+least-of-spec = tie.close (tie.spec returns returns-2)

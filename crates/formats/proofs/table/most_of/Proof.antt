@@ -1,5 +1,4 @@
 -- One law a branch.
-use borrow.Author.Needs.{needs}
 use Rattle.formats.specs.TableLaws.{most-own, most-other, most-opening, most-of-key}
 use Rattle.formats.proofs.table.most_of.Statement.{statement}
 use Rattle.formats.proofs.table.most_of.Tie as tie
@@ -8,7 +7,7 @@ returns : tie.Need-returns
 returns c = let a = c .before .args in most-own (a .sort) (a .client) (a .before) (c .if1 .taken)
 
 returns-2 : tie.Need-returns-2
-returns-2 c = let a = c .before .before .args in most-other (a .sort) (a .client) (a .before) (c .before .if1 .left) (c .if2 .taken)
+returns-2 c = let a = c .before .before .args in most-other (a .sort) (a .client) (a .before) (c .before .before .pre) (c .before .if1 .left) (c .if2 .taken)
 
 returns-3 : tie.Need-returns-3
 returns-3 c =
@@ -18,9 +17,8 @@ returns-3 c =
 returns-4 : tie.Need-returns-4
 returns-4 c =
     let a = c .before .before .before .args in
-    most-of-key (a .sort) (a .client) (a .before) (c .before .before .if1 .left) (c .if3 .left) (c .before .if2 .left)
+    most-of-key (a .sort) (a .client) (a .before) (c .before .before .before .pre) (c .before .before .if1 .left) (c .if3 .left) (c .before .if2 .left)
 
 pub most-of-spec : {M : Type 1} → statement M
 most-of-spec =
-    tie.close
-    (tie.spec returns (λ c. search needs) (λ c. search needs) returns-2 returns-3 (λ c. search needs) (λ c. search needs) returns-4)
+    tie.close (tie.spec returns returns-2 returns-3 returns-4)

@@ -13,7 +13,7 @@ use Rattle.formats.proofs.writing.fill.Tie as tie
 lay-fields-requires : tie.Need-lay-fields-requires
 lay-fields-requires c κs =
     let s = c .before .before .before .before .before .before .before in
-    (s .pre .0, omega (arith, s .pre .1, ap length (c .before .before .before .clear .ensures), length-replicate {A = ℕ} (length (s .args .bytes .now)) 0))
+    (s .pre .0, s .pre .1, omega (arith, s .pre .2, ap length (c .before .before .before .clear .ensures), length-replicate {A = ℕ} (length (s .args .bytes .now)) 0))
 
 returns : tie.Need-returns
 returns c =
