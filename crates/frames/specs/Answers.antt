@@ -1,8 +1,8 @@
 -- What the code computes on the way, and that it comes to what the definitions say.
 use Prim.Native.Nat.{ℕ, _+_, _-_, _*_, _/_, _%_, _≤_, _<_}
 use mathlib.Core.Path.{_≡_, refl, sym, ap, _∙_}
-use mathlib.Core.Bool.{Bool, true, false, cond}
-use mathlib.Core.List.{List, _++_}
+use mathlib.Core.Bool.{Bool, true, false, cond, not, _||_}
+use mathlib.Core.List.{List, _++_, append-nil}
 use native.Mathlib.Omega.{arith}
 use lib.Dec.{eqb, leb, ltb}
 use lib.ListN.{length, getD, take, drop, length-append, List·getD-append}
@@ -20,7 +20,7 @@ use Rattle.frames.specs.declared.Message.{Message}
 use Rattle.frames.specs.declared.Reading.the-variants as reading
 use Rattle.frames.specs.declared.Written.{Written}
 use Rattle.frames.specs.declared.Written.the-variants.{Length, Refused}
-use Rattle.frames.specs.Lists.{built, built-length, built-at, laid}
+use Rattle.frames.specs.Lists.{built, built-length, built-at, laid, laid-none}
 use Rattle.frames.specs.Messages.{entriesOf, fixedOf, messageOf}
 use Rattle.frames.specs.Entries.{keyIn, numberIn, entryValue, valuesOf}
 use Rattle.frames.specs.Good.{kind-back, entries-back}
@@ -73,6 +73,14 @@ module _ (kind entries keys numbers : ℕ) where
 
     pub enough-numbers : hasNumbers kind ≡ true → leb entries numbers ≡ enough kind entries keys numbers
     enough-numbers e = rw (le-leb entries keys h, e)
+
+-- no entries need no places
+enough-none : (kind keys numbers : ℕ) → enough kind 0 keys numbers ≡ true
+enough-none kind keys numbers = rw (le-leb 0 keys (omega arith), le-leb 0 numbers (omega arith)) (go (hasNumbers kind))
+  where
+    go : (b : Bool) → (not b || true) ≡ true
+    go true = refl
+    go false = refl
 
 module _ (numbered : Bool) (keys numbers : List ℕ) (j : ℕ) where
   pub part-count : j % 3 ≡ 0 → getD keys (j / 3) 0 / 256 ≡ entryValue numbered keys numbers j
@@ -202,6 +210,16 @@ module _ (vs keys numbers : List ℕ) (g : good format vs ≡ true) where
           rw t (dx ∙ (λ i. cond (hasNumbers (sym (kind-back vs g) i)) (laid (numberIn vs) (its-entries i) numbers) numbers)),
         )
 
+    -- there are none
+    pub read-bare : n ≡ 0 → (reading.Read m ≡ readingOf (got vs) keys numbers) × (keys ≡ keysRead (got vs) keys numbers) × (numbers ≡ numbersRead (got vs) keys numbers)
+    read-bare z =
+        let k = getD vs 0 0 in
+        read-done (ap (λ (j : ℕ). enough k j (length keys) (length numbers)) z ∙ enough-none k (length keys) (length numbers))
+        (laid-none (keyIn vs) keys ∙ ap (λ (j : ℕ). laid (keyIn vs) j keys) (sym z))
+        (by-test (hasNumbers k)
+        (λ b. rw b (laid-none (numberIn vs) numbers ∙ ap (λ (j : ℕ). laid (numberIn vs) j numbers) (sym z)))
+        (λ b. rw b))
+
 -- the bytes are refused
 pub read-refused : (o : Outcome) (us keys numbers : List ℕ) {f : ℕ} → o ≡ outcome f us → (f ≡ 0 → ⊥) → (reading.Refused f ≡ readingOf o keys numbers) × (keys ≡ keysRead o keys numbers) × (numbers ≡ numbersRead o keys numbers)
 unfolding outcome readingOf keysRead numbersRead
@@ -232,6 +250,15 @@ module _ (m : Message) (keys numbers : List ℕ) {fixed : List ℕ} {n : ℕ} (e
   pub values-is : valuesBy fixed keys numbers n ≡ valuesOf m keys numbers
   unfolding valuesOf
   values-is i = valuesBy (ef i) keys numbers (en i)
+
+  -- without entries
+  module _ (z : n ≡ 0) where
+    pub bare-places : hasPlaces m keys numbers ≡ true
+    bare-places = sym enough-is ∙ ap (λ (k : ℕ). enough (getD fixed 0 0) k (length keys) (length numbers)) z ∙ enough-none (getD fixed 0 0) (length keys) (length numbers)
+
+    pub bare-values : fixed ≡ valuesOf m keys numbers
+    unfolding built
+    bare-values = sym (append-nil fixed) ∙ ap (λ (k : ℕ). valuesBy fixed keys numbers k) (sym z) ∙ values-is
 
   pub is-packable : enough (getD fixed 0 0) n (length keys) (length numbers) ≡ true → n ≤ mostEntries → Packable fixed keys numbers n
   is-packable e h =

@@ -298,6 +298,9 @@ fn deliver(values: &[u32], keys: &mut [u32], numbers: &mut [u32]) -> Reading
 {
     let message = message_of(values);
     let entries = entries_of(message) as usize;
+    if entries == 0 {
+        return Reading::Read(message);
+    }
     let kind = values[0];
     if !entries::enough_places(kind, entries, keys.len(), numbers.len()) {
         return Reading::Refused(12);
@@ -352,12 +355,15 @@ fn write_present(
 }
 
 // Writes a message with its entries, the first of the two slices: the frame stands at the front of the lent bytes.
-// Refused by 11, then 12, and then the bytes are as before.
+// Refused by 11, then 12, and then the bytes are as before. Without entries the fixed values are all that there are.
 pub fn write_frame(message: Message, keys: &[u32], numbers: &[u32], bytes: &mut [u8]) -> Written
     ensures { λ r. ⌜ (r ≡ writtenOf message (now (keys .entry)) (now (numbers .entry)) (now (bytes .entry))) × (now (bytes .exit) ≡ bytesWritten message (now (keys .entry)) (now (numbers .entry)) (now (bytes .entry))) ⌝ }
 {
     let entries = entries_of(message) as usize;
     let fixed = fixed_of(message);
+    if entries == 0 {
+        return send(&fixed, bytes);
+    }
     let kind = fixed[0];
     if !entries::enough_places(kind, entries, keys.len(), numbers.len()) {
         return Written::Refused(11);
