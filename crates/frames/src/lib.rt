@@ -355,12 +355,13 @@ fn write_present(
 }
 
 // Writes a message with its entries, the first of the two slices: the frame stands at the front of the lent bytes.
-// Refused by 11, then 12, and then the bytes are as before. Without entries the fixed values are all that there are.
+// Refused by 11, then 12, and then the bytes are as before.
 pub fn write_frame(message: Message, keys: &[u32], numbers: &[u32], bytes: &mut [u8]) -> Written
     ensures { λ r. ⌜ (r ≡ writtenOf message (now (keys .entry)) (now (numbers .entry)) (now (bytes .entry))) × (now (bytes .exit) ≡ bytesWritten message (now (keys .entry)) (now (numbers .entry)) (now (bytes .entry))) ⌝ }
 {
     let entries = entries_of(message) as usize;
     let fixed = fixed_of(message);
+    // Without entries the fixed values are all that there are.
     if entries == 0 {
         return send(&fixed, bytes);
     }
