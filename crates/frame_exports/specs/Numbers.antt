@@ -1,11 +1,13 @@
 -- Messages and answers as the numbers by which they cross to other languages.
 use Prim.Native.Nat.{ℕ, _+_, _*_, _-_}
+use mathlib.Core.Path.{_≡_, _∙_}
 use Rattle.frames.specs.declared.Message.{Message}
 use Rattle.frames.specs.declared.Message.the-variants.{Set, SetDone, Enter, Entered, WhichKeys, Keys, Get, Got, GetAll, All, GetLog, Log}
 use Rattle.frames.specs.declared.Reading.{Reading}
 use Rattle.frames.specs.declared.Reading.the-variants as reading
 use Rattle.frames.specs.declared.Written.{Written}
 use Rattle.frames.specs.declared.Written.the-variants as written
+use Rattle.frame_exports.specs.declared.Parts.{Parts}
 
 -- 2^64 - 1 less the number of the refusal
 abbrev pub refusedNumber : ℕ → ℕ
@@ -48,13 +50,13 @@ tailOf (All client server entries) = pairOf entries 0
 tailOf (GetLog client) = pairOf 0 0
 tailOf (Log client entries) = pairOf entries 0
 
-abbrev pub readHead : Reading → ℕ
-readHead (reading.Read m) = headOf m
-readHead (reading.Refused n) = refusedNumber n
+-- what reading a frame answers: the two of its message, or the refusal in both
+abbrev pub partsOf : Reading → Parts
+partsOf (reading.Read m) = record { head = headOf m; tail = tailOf m }
+partsOf (reading.Refused n) = record { head = refusedNumber n; tail = refusedNumber n }
 
-abbrev pub readTail : Reading → ℕ
-readTail (reading.Read m) = tailOf m
-readTail (reading.Refused n) = refusedNumber n
+pub parts-same : {head tail h l : ℕ} {p : Parts} → p ≡ record { head = h; tail = l } → h ≡ head → l ≡ tail → p ≡ record { head = head; tail = tail }
+parts-same e d f = e ∙ (λ i. record { head = d i; tail = f i })
 
 -- the frame's length, or the refusal
 abbrev pub writtenNumber : Written → ℕ

@@ -2,9 +2,10 @@
 // A message crosses as two numbers, its head (kind, client, server, tag, key) and its tail (how many entries, setpoint or mask), a refusal as 2^64 - 1 less its number.
 ghost use mathlib.Core.Path.{_≡_};
 ghost use Prim.Native.Nat.{_-_};
-ghost use Rattle.frames.specs.Frames.{readingOf, keysRead, numbersRead, found, writtenOf, bytesWritten};
-ghost use Rattle.frame_exports.specs.Numbers.{digitsOf, pairOf, headOf, tailOf, refusedNumber, readHead, readTail, writtenNumber};
+ghost use Rattle.frames.specs.Frames.{readingOf, keysRead, numbersRead, found};
+ghost use Rattle.frame_exports.specs.Numbers.{digitsOf, pairOf, headOf, tailOf, partsOf, refusedNumber, writtenNumber};
 ghost use Rattle.frame_exports.specs.Fields.{messageBy, fieldsOf};
+ghost use Rattle.frame_exports.specs.Writing.{isKind, frameAnswer, frameLeft};
 use frames::Message;
 use frames::Reading;
 use frames::Written;
@@ -81,21 +82,28 @@ fn tail_of(message: Message) -> u64
     }
 }
 
-fn head_number(reading: Reading) -> u64
-    ensures { λ r. ⌜ r ≡ readHead reading ⌝ }
+// A message as it crosses; where it is refused, both are the refusal.
+#[repr(C)]
+pub struct Parts {
+    pub head: u64,
+    pub tail: u64,
+}
+
+fn both_parts(head: u64, tail: u64) -> Parts
+    ensures { λ r. ⌜ r ≡ record { head = head; tail = tail } ⌝ }
 {
-    match reading {
-        Reading::Read(message) => head_of(message),
-        Reading::Refused(number) => refused(number),
+    Parts {
+        head: head,
+        tail: tail,
     }
 }
 
-fn tail_number(reading: Reading) -> u64
-    ensures { λ r. ⌜ r ≡ readTail reading ⌝ }
+fn parts_of(reading: Reading) -> Parts
+    ensures { λ r. ⌜ r ≡ partsOf reading ⌝ }
 {
     match reading {
-        Reading::Read(message) => tail_of(message),
-        Reading::Refused(number) => refused(number),
+        Reading::Read(message) => both_parts(head_of(message), tail_of(message)),
+        Reading::Refused(number) => both_parts(refused(number), refused(number)),
     }
 }
 
@@ -108,22 +116,13 @@ fn written_number(written: Written) -> u64
     }
 }
 
-// Reads a frame: the head of its message, and its entries at the front of the two lent slices.
+// Reads a frame: its message, and the entries at the front of the two lent slices.
 #[no_mangle]
-pub extern "C" fn frame_head(bytes: &[u8], keys: &mut [u32], numbers: &mut [u32]) -> u64
-    ensures { λ r. ⌜ (r ≡ readHead (readingOf (found (now (bytes .entry))) (now (keys .entry)) (now (numbers .entry)))) × (now (keys .exit) ≡ keysRead (found (now (bytes .entry))) (now (keys .entry)) (now (numbers .entry))) × (now (numbers .exit) ≡ numbersRead (found (now (bytes .entry))) (now (keys .entry)) (now (numbers .entry))) ⌝ }
+pub extern "C" fn frame_read(bytes: &[u8], keys: &mut [u32], numbers: &mut [u32]) -> Parts
+    ensures { λ r. ⌜ (r ≡ partsOf (readingOf (found (now (bytes .entry))) (now (keys .entry)) (now (numbers .entry)))) × (now (keys .exit) ≡ keysRead (found (now (bytes .entry))) (now (keys .entry)) (now (numbers .entry))) × (now (numbers .exit) ≡ numbersRead (found (now (bytes .entry))) (now (keys .entry)) (now (numbers .entry))) ⌝ }
 {
     let reading = frames::read_frame(bytes, keys, numbers);
-    head_number(reading)
-}
-
-// Reads a frame: the tail of its message, and its entries at the front of the two lent slices.
-#[no_mangle]
-pub extern "C" fn frame_tail(bytes: &[u8], keys: &mut [u32], numbers: &mut [u32]) -> u64
-    ensures { λ r. ⌜ (r ≡ readTail (readingOf (found (now (bytes .entry))) (now (keys .entry)) (now (numbers .entry)))) × (now (keys .exit) ≡ keysRead (found (now (bytes .entry))) (now (keys .entry)) (now (numbers .entry))) × (now (numbers .exit) ≡ numbersRead (found (now (bytes .entry))) (now (keys .entry)) (now (numbers .entry))) ⌝ }
-{
-    let reading = frames::read_frame(bytes, keys, numbers);
-    tail_number(reading)
+    parts_of(reading)
 }
 
 // What is fixed in a message, whatever its kind.
@@ -136,7 +135,7 @@ struct Fields {
     entries: u32,
 }
 
-// The message of a kind; every kind that is none of the first eleven is a log.
+// The message of a kind; what is none of the first eleven is a log.
 fn message_by(kind: u32, fields: Fields) -> Message
     ensures { λ r. ⌜ r ≡ messageBy kind fields ⌝ }
 {
@@ -221,7 +220,17 @@ fn fields_of(
     }
 }
 
-// Writes the message of these fields: its length, or a refusal.
+// Whether a number is a kind of message.
+fn is_kind(kind: u32) -> bool
+    ensures { λ r. ⌜ r ≡ isKind kind ⌝ }
+{
+    if kind == 0 {
+        return false;
+    }
+    kind <= 12
+}
+
+// Writes the message of these fields: its length, or a refusal. A number that is no kind names no message, and gives 11.
 #[no_mangle]
 pub extern "C" fn frame_write(
     kind: u32,
@@ -236,9 +245,12 @@ pub extern "C" fn frame_write(
     numbers: &[u32],
     bytes: &mut [u8],
 ) -> u64
-    ensures { λ r. ⌜ (r ≡ writtenNumber (writtenOf (messageBy kind (fieldsOf client server tag count owner number entries)) (now (keys .entry)) (now (numbers .entry)) (now (bytes .entry))))
-        × (now (bytes .exit) ≡ bytesWritten (messageBy kind (fieldsOf client server tag count owner number entries)) (now (keys .entry)) (now (numbers .entry)) (now (bytes .entry))) ⌝ }
+    ensures { λ r. ⌜ (r ≡ frameAnswer kind (fieldsOf client server tag count owner number entries) (now (keys .entry)) (now (numbers .entry)) (now (bytes .entry)))
+        × (now (bytes .exit) ≡ frameLeft kind (fieldsOf client server tag count owner number entries) (now (keys .entry)) (now (numbers .entry)) (now (bytes .entry))) ⌝ }
 {
+    if !is_kind(kind) {
+        return refused(11);
+    }
     let fields = fields_of(client, server, tag, count, owner, number, entries);
     let message = message_by(kind, fields);
     let written = frames::write_frame(message, keys, numbers, bytes);

@@ -1,5 +1,6 @@
--- The message is that of the fields, and the writer's answer crosses as its number.
-use mathlib.Core.Path.{sym, ap, _∙_}
+-- `frame_exports::frame_write` meets its contract: a number that is no kind is refused; else the message is that of the fields, and the writer's answer crosses as its number.
+use mathlib.Core.Path.{refl, sym, ap, _∙_}
+use borrow.Author.Tests.{not-true, not-false}
 use Rattle.frame_exports.specs.Numbers.{writtenNumber}
 use Rattle.frames.specs.declared.Message.{Message}
 use Rattle.frames.specs.Frames.{writtenOf, bytesWritten}
@@ -10,10 +11,14 @@ use Rattle.frame_exports.proofs.frame_write.Statement.{statement}
 use Rattle.frame_exports.proofs.frame_write.Tie as tie
 
 returns : tie.Need-returns
-returns c =
-    let a = c .before .before .before .before .before .before .before .before .before .before .args in
+returns c = rw (sym (c .before .before .is-kind .ensures) ∙ not-true _ (c .before .if1 .taken)) (c .refused .ensures, refl)
+
+returns-2 : tie.Need-returns-2
+returns-2 c =
+    let a = c .before .before .before .before .before .before .before .before .before .before .before .before .args in
     let w = c .before .before .before .write-frame .ensures in
-    let e = c .before .before .before .before .before .message-by .ensures ∙ ap (λ (f : Fields). messageBy (a .kind) f) (c .before .before .before .before .before .before .fields-of .ensures) in (
+    let e = c .before .before .before .before .before .message-by .ensures ∙ ap (λ (f : Fields). messageBy (a .kind) f) (c .before .before .before .before .before .before .fields-of .ensures) in
+    rw (sym (c .before .before .before .before .before .before .before .before .is-kind .ensures) ∙ not-false _ (c .before .before .before .before .before .before .before .if1 .left)) (
       c .written-number .ensures ∙ ap writtenNumber (w .0 ∙ ap (λ (m : Message). writtenOf m (a .keys .now) (a .numbers .now) (a .bytes .now)) e),
       w .1 ∙ ap (λ (m : Message). bytesWritten m (a .keys .now) (a .numbers .now) (a .bytes .now)) e,
     )
@@ -21,4 +26,4 @@ returns c =
 pub frame-write-spec : {M : Type 1} → statement M
 frame-write-spec =
     tie.close
-    (tie.spec (λ c κs. search needs) (λ c κs. search needs) (λ c κs. search needs) (λ c κs. search needs) (λ c. search needs) returns)
+    (tie.spec (λ c κs. search needs) (λ c κs. search needs) returns (λ c κs. search needs) (λ c κs. search needs) (λ c κs. search needs) (λ c κs. search needs) (λ c. search needs) returns-2)
