@@ -9,7 +9,7 @@ use frames::message::to_server;
 const GOAL: f64 = 3.0;
 /// More than any frame has.
 const MOST_BYTES: usize = 1500;
-const HEADS: [&str; 10] = [
+const HEADS: [&str; 9] = [
     "kind",
     "entries",
     "bytes",
@@ -19,7 +19,6 @@ const HEADS: [&str; 10] = [
     "proved, read a second",
     "Rust, read a second",
     "times as long",
-    "by both calls, times as long",
 ];
 /// Each kind, those with a list of entries with few and with the most.
 const FRAMES: [(u32, u32); 16] = [
@@ -47,9 +46,9 @@ pub fn report(library: FrameLibrary) {
     print("Frames", &HEADS, &rows);
 }
 
-fn row(library: FrameLibrary, (kind, entries): (u32, u32), times: [f64; 5]) -> Vec<String> {
+fn row(library: FrameLibrary, (kind, entries): (u32, u32), times: [f64; 4]) -> Vec<String> {
     let length = Lent::of(library, kind, entries).frame.len();
-    let [written, rust_written, read, rust_read, read_by_both] = times;
+    let [written, rust_written, read, rust_read] = times;
     let a_second = |nanoseconds: f64| thousands(1e9 / nanoseconds);
     vec![
         kind.to_string(),
@@ -61,7 +60,6 @@ fn row(library: FrameLibrary, (kind, entries): (u32, u32), times: [f64; 5]) -> V
         a_second(read),
         a_second(rust_read),
         ratio(read, rust_read, GOAL),
-        ratio(read_by_both, rust_read, GOAL),
     ]
 }
 
@@ -85,8 +83,8 @@ impl Lent {
     }
 }
 
-/// Nanoseconds: written by the proved crate and by Rust, read by both, and read by the proved crate as other languages must.
-fn one_kind(library: FrameLibrary, kind: u32, entries: u32) -> [f64; 5] {
+/// Nanoseconds: written by the proved crate and by Rust, and read by both.
+fn one_kind(library: FrameLibrary, kind: u32, entries: u32) -> [f64; 4] {
     let Lent { fixed, keys, numbers, frame } = Lent::of(library, kind, entries);
     let (mut keys_read, mut numbers_read) = (vec![0; 256], vec![0; 256]);
     assert_eq!(read_lent(&frame, &mut keys_read, &mut numbers_read), Ok(fixed));
@@ -96,11 +94,9 @@ fn one_kind(library: FrameLibrary, kind: u32, entries: u32) -> [f64; 5] {
     let rust_write = || write_lent(&fixed, &keys, &numbers, &mut rust_bytes);
     let (written, rust_written) = beside(|| library.write(&fixed, &keys, &numbers, &mut bytes), rust_write);
     let (mut rust_keys, mut rust_numbers) = (vec![0; 256], vec![0; 256]);
-    let mut rust_reading = || read_lent(&frame, &mut rust_keys, &mut rust_numbers);
-    // One of the two calls by which a message crosses: each reads the whole frame.
-    let (read, rust_read) = beside(|| library.head(&frame, &mut keys_read, &mut numbers_read), &mut rust_reading);
-    let (read_by_both, again) = beside(|| library.read(&frame, &mut keys_read, &mut numbers_read), rust_reading);
-    [written, rust_written, read, rust_read.min(again), read_by_both]
+    let rust_reading = || read_lent(&frame, &mut rust_keys, &mut rust_numbers);
+    let (read, rust_read) = beside(|| library.read(&frame, &mut keys_read, &mut numbers_read), rust_reading);
+    [written, rust_written, read, rust_read]
 }
 
 /// A good message of the kind.

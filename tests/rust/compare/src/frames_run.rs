@@ -224,7 +224,7 @@ fn random_key(random: &mut Random) -> u32 {
 
 /// Makes one value odd; the kind may not have it, and then nothing is spoilt.
 fn spoil(random: &mut Random, fixed: &mut Fixed, keys: &mut Vec<u32>, numbers: &mut Vec<u32>) {
-    match random.below(9) {
+    match random.below(10) {
         0 => fixed.client = random.pick(&[15, 16, 17, 255]),
         1 if to_server(fixed.kind) => fixed.server = random.pick(&[15, 16, 17, 31, 32, 255]),
         2 if matches!(fixed.kind, 1 | 3 | 7) => fixed.key = random.pick(&[(0, 0), (0, 1), (1, 16), (255, 255), (1, 0)]),
@@ -237,6 +237,7 @@ fn spoil(random: &mut Random, fixed: &mut Fixed, keys: &mut Vec<u32>, numbers: &
         7 => {
             numbers.pop();
         }
+        8 => fixed.kind = random.pick(&[0, 13, 14, 16, 255, 256 + 1, u32::MAX]),
         _ if !keys.is_empty() => {
             let place = random.below(keys.len());
             keys[place] = random.pick(&[1, 15, 16, 255, 256 + 16, 65535, 65536, 65536 + 256, u32::MAX]);

@@ -17,10 +17,6 @@ impl FrameLibrary {
         unreachable!("no handle without the library")
     }
 
-    pub fn head(self, _bytes: &[u8], _keys: &mut [u32], _numbers: &mut [u32]) -> Result<u64, Refusal> {
-        unreachable!("no handle without the library")
-    }
-
     pub fn write(self, _fixed: &Fixed, _keys: &[u32], _numbers: &[u32], _bytes: &mut [u8]) -> Result<usize, Refusal> {
         unreachable!("no handle without the library")
     }
@@ -37,11 +33,6 @@ impl FrameLibrary {
         linked::read(bytes, keys, numbers)
     }
 
-    /// Reads a frame by one of the two calls, for measurements.
-    pub fn head(self, bytes: &[u8], keys: &mut [u32], numbers: &mut [u32]) -> Result<u64, Refusal> {
-        linked::head(bytes, keys, numbers)
-    }
-
     /// Writes a message to the front of the bytes: its length.
     pub fn write(self, fixed: &Fixed, keys: &[u32], numbers: &[u32], bytes: &mut [u8]) -> Result<usize, Refusal> {
         linked::write(fixed, keys, numbers, bytes)
@@ -53,19 +44,20 @@ mod linked {
     use frames::lent::Fixed;
     use model::Refusal;
 
-    // Nothing checks these declarations against crates/frame_exports/src/lib.rt.
-    type Reader = unsafe extern "C" fn(*const u8, usize, *mut u32, usize, *mut u32, usize) -> u64;
+    /// A message as it crosses; where it is refused, both are the refusal.
+    #[repr(C)]
+    struct Parts {
+        head: u64,
+        tail: u64,
+    }
 
+    // Nothing checks these declarations against crates/frame_exports/src/lib.rt.
     #[rustfmt::skip]
     extern "C" {
-        fn frame_head(
+        fn frame_read(
             bytes: *const u8, bytes_length: usize, keys: *mut u32, keys_length: usize,
             numbers: *mut u32, numbers_length: usize,
-        ) -> u64;
-        fn frame_tail(
-            bytes: *const u8, bytes_length: usize, keys: *mut u32, keys_length: usize,
-            numbers: *mut u32, numbers_length: usize,
-        ) -> u64;
+        ) -> Parts;
         fn frame_write(
             kind: u32, client: u8, server: u8, tag: u8, count: u8, owner: u8, number: u32, entries: u32,
             keys: *const u32, keys_length: usize, numbers: *const u32, numbers_length: usize,
@@ -79,21 +71,12 @@ mod linked {
         refusal.map_or(Ok(number), Err)
     }
 
-    fn call(reader: Reader, bytes: &[u8], keys: &mut [u32], numbers: &mut [u32]) -> Result<u64, Refusal> {
-        // The library was proved to stay within the slices that it is lent.
-        let number =
-            unsafe { reader(bytes.as_ptr(), bytes.len(), keys.as_mut_ptr(), keys.len(), numbers.as_mut_ptr(), numbers.len()) };
-        answer(number)
-    }
-
-    pub fn head(bytes: &[u8], keys: &mut [u32], numbers: &mut [u32]) -> Result<u64, Refusal> {
-        call(frame_head, bytes, keys, numbers)
-    }
-
-    /// The head and the tail come by two calls, which leave the slices alike.
     pub fn read(bytes: &[u8], keys: &mut [u32], numbers: &mut [u32]) -> Result<Fixed, Refusal> {
-        let head = call(frame_head, bytes, keys, numbers)?;
-        let tail = call(frame_tail, bytes, keys, numbers)?;
+        // The library was proved to stay within the slices that it is lent.
+        let Parts { head, tail } = unsafe {
+            frame_read(bytes.as_ptr(), bytes.len(), keys.as_mut_ptr(), keys.len(), numbers.as_mut_ptr(), numbers.len())
+        };
+        let head = answer(head)?;
         let digit = |place: u32| (head >> (8 * place)) as u8;
         Ok(Fixed {
             kind: (head >> 40) as u32,

@@ -4,7 +4,7 @@ use crate::message::Message;
 use crate::{read, write};
 use model::{Entry, Key, Refusal, Version};
 
-/// What is fixed in a message, as numbers; what a kind lacks is 0. `target` is 16 for the head.
+/// What is fixed in a message, as numbers; what a kind lacks is 0, so the server of one to or from the head.
 #[derive(Clone, Copy, Debug, Default, PartialEq, Eq)]
 pub struct Fixed {
     pub kind: u32,
