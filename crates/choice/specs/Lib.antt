@@ -1,4 +1,6 @@
--- What C's choice relies on, the cases of it, and the flags of a walk down the log.
+-- What C's choice relies on, the cases of it, the bits of masks, the table of holders, and the walk up the log.
 pub mod Ready
 pub mod Cases
-pub mod Flags
+pub mod Bits
+pub mod Holders
+pub mod Walk

@@ -1,21 +1,26 @@
 // Method C's last reply: the choice of the tag, and the setpoints at it.
 ghost use mathlib.Core.Path.{_≡_};
-ghost use Prim.Native.Nat.{ℕ, _+_, _*_, _≤_, _<_};
-ghost use lib.ListN.{length, getD};
+ghost use Prim.Native.Nat.{ℕ, _+_, _*_, _%_, _^_, _≤_, _<_};
+ghost use lib.Dec.{eqb};
+ghost use lib.ListN.{length};
 ghost use Rattle.tables.specs.Rows.{HasRow};
-ghost use mathlib.Core.Bool.{true, false, cond};
-ghost use Rattle.ranges.specs.All.{allBelow};
+ghost use mathlib.Core.Bool.{true, cond};
+ghost use Rattle.ranges.specs.Picked.{picked};
 ghost use Rattle.ranges.specs.Turns.{turns};
 ghost use Rattle.keys.specs.Masks.{hasServer};
-ghost use Rattle.tables.specs.Layout.{clientWidth, entryWidth, serverPlaces, setpointsField, tagField, putClientWord, versionWord};
+ghost use Rattle.tables.specs.Layout.{clientWidth, entryWidth, serverPlaces, setpointsField, tagField, putClientWord, versionWord, entryKey, entryMask};
 ghost use Rattle.tables.specs.Links.{targets};
 ghost use Rattle.rules.specs.Choice.{versionAt, hasVersion, qualifies, chosenTag};
 ghost use Rattle.rules.specs.Reply.{receivedIn, forget};
 ghost use Rattle.choice.specs.Ready.{Received, ChoiceReady};
 ghost use Rattle.choice.specs.Cases.{serves, keptSetpoints};
-ghost use Rattle.choice.specs.Flags.{Flagged};
+ghost use Rattle.choice.specs.Bits.{without, addServer, gathered};
+ghost use Rattle.choice.specs.Holders.{slots, tabled, slotOf, marked, markVersions, markServers, Marked};
+ghost use Rattle.choice.specs.Walk.{holdsKey, holdersOf, lackingAfter};
+use keys::Key;
 use tables::clients;
 use tables::links;
+use tables::log;
 use tables::versions;
 
 // Whether the key of a server at a tag is among the versions received from it.
@@ -57,8 +62,8 @@ fn serves(
     true
 }
 
-// Asks each server anew.
-fn ask_all(
+// Whether all servers serve at a tag.
+fn all_serve(
     clients: &[u32],
     keys: &[u32],
     log: &[u32],
@@ -66,83 +71,14 @@ fn ask_all(
     mask: u32,
     servers: usize,
     tag: usize,
-    flags: &mut [bool],
-)
-    requires { ⌜ (servers ≤ 16) × (((i : ℕ) → i < servers → Received (now clients) (now keys) client i)) ⌝ }
-    requires { ⌜ (HasRow entryWidth (now log) tag) × (16 ≤ length (now flags)) ⌝ }
-    ensures { λ _. ⌜ Flagged (serves (now (keys .entry)) (now (log .entry)) mask (receivedIn (now (clients .entry)) client) tag) servers (now (flags .exit)) ⌝ }
-{
-    let mut server = 0;
-    while server < servers {
-        flags[server] = serves(clients, keys, log, client, mask, server, tag);
-        server += 1;
-    }
-}
-
-// The flag of a server at a tag, from that at the tag behind it: where the entry between them did not write the server, its key is the same.
-fn asked_again(
-    clients: &[u32],
-    keys: &[u32],
-    log: &[u32],
-    client: usize,
-    mask: u32,
-    server: usize,
-    tag: usize,
-    written: u32,
-    flag: bool,
 ) -> bool
-    requires { ⌜ Received (now clients) (now keys) client server ⌝ }
-    requires { ⌜ HasRow entryWidth (now log) tag ⌝ }
-    ensures { λ r. ⌜ r ≡ cond (hasServer written server) (serves (now (keys .entry)) (now (log .entry)) mask (receivedIn (now (clients .entry)) client) tag server) flag ⌝ }
-{
-    if keys::has_server(written, server) {
-        return serves(clients, keys, log, client, mask, server, tag);
-    }
-    flag
-}
-
-// From the tag behind it to a tag: only the servers that the entry between them wrote have another key.
-fn ask_written(
-    clients: &[u32],
-    keys: &[u32],
-    log: &[u32],
-    client: usize,
-    mask: u32,
-    servers: usize,
-    tag: usize,
-    flags: &mut [bool],
-)
     requires { ⌜ (servers ≤ 16) × (((i : ℕ) → i < servers → Received (now clients) (now keys) client i)) ⌝ }
-    requires { ⌜ (HasRow entryWidth (now log) (tag + 1)) × (16 ≤ length (now flags)) ⌝ }
-    requires { ⌜ Flagged (serves (now keys) (now log) mask (receivedIn (now clients) client) (tag + 1)) servers (now flags) ⌝ }
-    ensures { λ _. ⌜ Flagged (serves (now (keys .entry)) (now (log .entry)) mask (receivedIn (now (clients .entry)) client) tag) servers (now (flags .exit)) ⌝ }
-{
-    let written = tables::log::entry_mask(log, tag + 1);
-    let mut server = 0;
-    while server < servers {
-        flags[server] = asked_again(
-            clients,
-            keys,
-            log,
-            client,
-            mask,
-            server,
-            tag,
-            written,
-            flags[server],
-        );
-        server += 1;
-    }
-}
-
-// Whether all servers are flagged.
-fn all_serve(flags: &[bool], servers: usize) -> bool
-    requires { ⌜ servers ≤ length (now flags) ⌝ }
-    ensures { λ r. ⌜ r ≡ allBelow (λ i. getD (now (flags .entry)) i false) servers ⌝ }
+    requires { ⌜ HasRow entryWidth (now log) tag ⌝ }
+    ensures { λ r. ⌜ r ≡ qualifies (now (keys .entry)) (now (log .entry)) mask (receivedIn (now (clients .entry)) client) servers tag ⌝ }
 {
     let mut server = 0;
     while server < servers {
-        if !flags[server] {
+        if !serves(clients, keys, log, client, mask, server, tag) {
             return false;
         }
         server += 1;
@@ -150,8 +86,297 @@ fn all_serve(flags: &[bool], servers: usize) -> bool
     true
 }
 
-// The greatest tag among the first entries of the log that qualifies. It does not stop at the first tag whose key is missing. A walk down the log keeps,
-// for each server, whether its key is held, so that each entry is asked for once for each server that it wrote.
+// The table of holders has for each key of a client below 16, so for every key of sound tables, the mask of the servers that hold it.
+const SLOTS: usize = 4096;
+
+// Whether a word is a key that has a slot.
+fn is_tabled(word: u32) -> bool
+    ensures { λ r. ⌜ r ≡ tabled word ⌝ }
+{
+    if word < 65536 {
+        return word % 256 < 16;
+    }
+    false
+}
+
+fn slot_of(word: u32) -> usize
+    ensures { λ r. ⌜ r ≡ slotOf word ⌝ }
+{
+    (word / 256 * 16 + word % 256) as usize
+}
+
+// The mask of one server.
+fn mask_of(server: usize) -> u32
+    requires { ⌜ server ≤ 16 ⌝ }
+    ensures { λ r. ⌜ r ≡ 2 ^ server ⌝ }
+{
+    1 << server
+}
+
+// The servers of a mask go into the slot of a word, if it has one.
+fn mark(holders: &mut [u32], mask: u32, word: u32)
+    requires { ⌜ slots ≤ length (now holders) ⌝ }
+    ensures { λ _. ⌜ now (holders .exit) ≡ marked mask word (now (holders .entry)) ⌝ }
+{
+    if is_tabled(word) {
+        let slot = slot_of(word);
+        holders[slot] = holders[slot] | mask;
+    }
+}
+
+// The keys of a server's first versions are marked as held by it.
+fn mark_versions(holders: &mut [u32], keys: &[u32], server: usize, received: usize)
+    requires { ⌜ slots ≤ length (now holders) ⌝ }
+    requires { ⌜ (server < 16) × (serverPlaces * server + received ≤ length (now keys)) ⌝ }
+    ensures { λ _. ⌜ now (holders .exit) ≡ markVersions (now (keys .entry)) server received (now (holders .entry)) ⌝ }
+{
+    let mask = mask_of(server);
+    let mut place = 0;
+    while place < received {
+        mark(holders, mask, versions::key_word(keys, server, place));
+        place += 1;
+    }
+}
+
+// The versions received from a server, if the mask has it.
+fn mark_server(
+    holders: &mut [u32],
+    clients: &[u32],
+    keys: &[u32],
+    client: usize,
+    mask: u32,
+    server: usize,
+)
+    requires { ⌜ slots ≤ length (now holders) ⌝ }
+    requires { ⌜ Received (now clients) (now keys) client server ⌝ }
+    ensures { λ _. ⌜ now (holders .exit) ≡ picked (hasServer mask) (λ i. markVersions (now (keys .entry)) i (receivedIn (now (clients .entry)) client i)) server (now (holders .entry)) ⌝ }
+{
+    if keys::has_server(mask, server) {
+        let received = clients::client_word(clients, client, clients::RECEIVED + server) as usize;
+        mark_versions(holders, keys, server, received);
+    }
+}
+
+// The versions received from all servers of a mask.
+fn mark_servers(
+    holders: &mut [u32],
+    clients: &[u32],
+    keys: &[u32],
+    client: usize,
+    mask: u32,
+    servers: usize,
+)
+    requires { ⌜ slots ≤ length (now holders) ⌝ }
+    requires { ⌜ ((i : ℕ) → i < servers → Received (now clients) (now keys) client i) ⌝ }
+    ensures { λ _. ⌜ now (holders .exit) ≡ markServers (now (keys .entry)) mask (receivedIn (now (clients .entry)) client) servers (now (holders .entry)) ⌝ }
+{
+    let mut server = 0;
+    while server < servers {
+        mark_server(holders, clients, keys, client, mask, server);
+        server += 1;
+    }
+}
+
+// A mask with a server besides, if a key is among the versions received from it.
+fn with_holder(
+    clients: &[u32],
+    keys: &[u32],
+    client: usize,
+    server: usize,
+    key: Key,
+    found: u32,
+) -> u32
+    requires { ⌜ Received (now clients) (now keys) client server ⌝ }
+    ensures { λ r. ⌜ r ≡ picked (holdsKey (now (keys .entry)) (receivedIn (now (clients .entry)) client) key) addServer server found ⌝ }
+{
+    let received = clients::client_word(clients, client, clients::RECEIVED + server) as usize;
+    if server::find(keys, server, received, key) < received {
+        return found | mask_of(server);
+    }
+    found
+}
+
+// The holders of a key, each searched for.
+fn search_holders(clients: &[u32], keys: &[u32], client: usize, servers: usize, key: Key) -> u32
+    requires { ⌜ ((i : ℕ) → i < servers → Received (now clients) (now keys) client i) ⌝ }
+    ensures { λ r. ⌜ r ≡ gathered (holdsKey (now (keys .entry)) (receivedIn (now (clients .entry)) client) key) servers ⌝ }
+{
+    let mut found = 0;
+    let mut server = 0;
+    while server < servers {
+        found = with_holder(clients, keys, client, server, key, found);
+        server += 1;
+    }
+    found
+}
+
+// The holders of a key: its slot has them. A key that has no slot occurs in no sound tables.
+fn holders_of(
+    holders: &[u32],
+    clients: &[u32],
+    keys: &[u32],
+    client: usize,
+    servers: usize,
+    key: Key,
+) -> u32
+    requires { ⌜ slots ≤ length (now holders) ⌝ }
+    requires { ⌜ ((i : ℕ) → i < servers → Received (now clients) (now keys) client i) ⌝ }
+    ensures { λ r. ⌜ r ≡ holdersOf (now (holders .entry)) (now (keys .entry)) (receivedIn (now (clients .entry)) client) servers key ⌝ }
+{
+    let word = key.word();
+    if is_tabled(word) {
+        return holders[slot_of(word)];
+    }
+    search_holders(clients, keys, client, servers, key)
+}
+
+// The servers of a mask that another does not have.
+fn without(mask: u32, other: u32) -> u32
+    ensures { λ r. ⌜ r ≡ without mask other ⌝ }
+{
+    mask - (mask & other)
+}
+
+// Of the wanted servers, those that lack their key at a tag, from those at the tag before it: one that the entry wrote has the entry's key there,
+// and lacks it unless it holds it; any other lacks its key as before.
+fn lacking_after(lacking: u32, wanted: u32, written: u32, holding: u32) -> u32
+    ensures { λ r. ⌜ r ≡ lackingAfter lacking wanted written holding ⌝ }
+{
+    let touched = wanted & written;
+    without(lacking | touched, touched & holding)
+}
+
+// The same, of the entry at the tag.
+fn lacking_at(
+    holders: &[u32],
+    clients: &[u32],
+    keys: &[u32],
+    log: &[u32],
+    client: usize,
+    wanted: u32,
+    servers: usize,
+    tag: usize,
+    lacking: u32,
+) -> u32
+    requires { ⌜ slots ≤ length (now holders) ⌝ }
+    requires { ⌜ ((i : ℕ) → i < servers → Received (now clients) (now keys) client i) ⌝ }
+    requires { ⌜ HasRow entryWidth (now log) tag ⌝ }
+    ensures { λ r. ⌜ r ≡ lackingAfter lacking wanted (entryMask (now (log .entry)) tag)
+        (holdersOf (now (holders .entry)) (now (keys .entry)) (receivedIn (now (clients .entry)) client) servers (entryKey (now (log .entry)) tag)) ⌝ }
+{
+    let key = log::entry_key(log, tag);
+    let holding = holders_of(holders, clients, keys, client, servers, key);
+    lacking_after(lacking, wanted, log::entry_mask(log, tag), holding)
+}
+
+// At the first tag every server has the first entry's key, whatever its mask.
+fn lacking_first(
+    holders: &[u32],
+    clients: &[u32],
+    keys: &[u32],
+    log: &[u32],
+    client: usize,
+    wanted: u32,
+    servers: usize,
+) -> u32
+    requires { ⌜ slots ≤ length (now holders) ⌝ }
+    requires { ⌜ ((i : ℕ) → i < servers → Received (now clients) (now keys) client i) ⌝ }
+    requires { ⌜ HasRow entryWidth (now log) 0 ⌝ }
+    ensures { λ r. ⌜ r ≡ without wanted
+        (holdersOf (now (holders .entry)) (now (keys .entry)) (receivedIn (now (clients .entry)) client) servers (entryKey (now (log .entry)) 0)) ⌝ }
+{
+    let key = log::entry_key(log, 0);
+    without(
+        wanted,
+        holders_of(holders, clients, keys, client, servers, key),
+    )
+}
+
+// The tag just come to, if no server lacks its key there, else the one chosen before.
+fn chosen_at(tag: usize, lacking: u32, chosen: usize) -> usize
+    ensures { λ r. ⌜ r ≡ cond (eqb lacking 0) tag chosen ⌝ }
+{
+    if lacking == 0 {
+        return tag;
+    }
+    chosen
+}
+
+// A walk up the log keeps which servers lack their key, and the last tag at which none did.
+fn walk(
+    holders: &[u32],
+    clients: &[u32],
+    keys: &[u32],
+    log: &[u32],
+    client: usize,
+    wanted: u32,
+    servers: usize,
+    entries: usize,
+) -> usize
+    requires { ⌜ Marked (now keys) wanted (receivedIn (now clients) client) (now holders) ⌝ }
+    requires { ⌜ ((i : ℕ) → i < servers → Received (now clients) (now keys) client i) × ((i : ℕ) → hasServer wanted i ≡ true → i < servers) ⌝ }
+    requires { ⌜ (0 < entries) × (entryWidth * entries ≤ length (now log)) ⌝ }
+    ensures { λ r. ⌜ r ≡ chosenTag (now (keys .entry)) (now (log .entry)) wanted (receivedIn (now (clients .entry)) client) servers entries ⌝ }
+{
+    let mut lacking = lacking_first(holders, clients, keys, log, client, wanted, servers);
+    let mut chosen = 0;
+    let mut tag = 0;
+    while tag + 1 < entries {
+        lacking = lacking_at(
+            holders,
+            clients,
+            keys,
+            log,
+            client,
+            wanted,
+            servers,
+            tag + 1,
+            lacking,
+        );
+        chosen = chosen_at(tag + 1, lacking, chosen);
+        tag += 1;
+    }
+    chosen
+}
+
+// The greatest tag that qualifies, of the servers of a mask that has no others: the versions received are gone over once, and then the log.
+fn greatest_tag(
+    clients: &[u32],
+    keys: &[u32],
+    log: &[u32],
+    client: usize,
+    wanted: u32,
+    servers: usize,
+    entries: usize,
+) -> usize
+    requires { ⌜ ((i : ℕ) → i < servers → Received (now clients) (now keys) client i) × ((i : ℕ) → hasServer wanted i ≡ true → i < servers) ⌝ }
+    requires { ⌜ (0 < entries) × (entryWidth * entries ≤ length (now log)) ⌝ }
+    ensures { λ r. ⌜ r ≡ chosenTag (now (keys .entry)) (now (log .entry)) wanted (receivedIn (now (clients .entry)) client) servers entries ⌝ }
+{
+    let mut holders = [0; SLOTS];
+    mark_servers(&mut holders, clients, keys, client, wanted, servers);
+    walk(
+        &holders,
+        clients,
+        keys,
+        log,
+        client,
+        wanted,
+        servers,
+        entries,
+    )
+}
+
+// The first servers of a mask.
+fn first_servers(mask: u32, servers: usize) -> u32
+    requires { ⌜ servers ≤ 16 ⌝ }
+    ensures { λ r. ⌜ r ≡ mask % 2 ^ servers ⌝ }
+{
+    mask % mask_of(servers)
+}
+
+// The greatest tag among the first entries of the log that qualifies. It does not stop at the first tag whose key is missing. The newest is tried first:
+// it qualifies unless a WRITE came between the replies.
 pub fn chosen_tag(
     clients: &[u32],
     keys: &[u32],
@@ -165,20 +390,14 @@ pub fn chosen_tag(
     requires { ⌜ entryWidth * entries ≤ length (now log) ⌝ }
     ensures { λ r. ⌜ r ≡ chosenTag (now (keys .entry)) (now (log .entry)) mask (receivedIn (now (clients .entry)) client) servers entries ⌝ }
 {
-    if entries == 0 {
+    if entries < 2 {
         return 0;
     }
-    let mut flags = [false; 16];
-    let mut tag = entries - 1;
-    ask_all(clients, keys, log, client, mask, servers, tag, &mut flags);
-    while 0 < tag {
-        if all_serve(&flags, servers) {
-            return tag;
-        }
-        tag -= 1;
-        ask_written(clients, keys, log, client, mask, servers, tag, &mut flags);
+    if all_serve(clients, keys, log, client, mask, servers, entries - 1) {
+        return entries - 1;
     }
-    0
+    let wanted = first_servers(mask, servers);
+    greatest_tag(clients, keys, log, client, wanted, servers, entries)
 }
 
 // The setpoint of a server at a tag goes into the client's row, if the mask has the server.

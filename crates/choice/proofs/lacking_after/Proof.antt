@@ -1,0 +1,12 @@
+-- Those that lacked their key or were written, but not those written that hold it: one call.
+use borrow.Author.Needs.{needs}
+use Rattle.choice.proofs.lacking_after.Statement.{statement}
+use Rattle.choice.proofs.lacking_after.Tie as tie
+
+returns : tie.Need-returns
+returns c = c .without .ensures
+
+pub lacking-after-spec : {M : Type 1} → statement M
+lacking-after-spec =
+    tie.close
+    (tie.spec (λ c κs. search needs) returns)

@@ -1,0 +1,13 @@
+-- The calls put one after another.
+use mathlib.Core.Path.{_∙_}
+use borrow.Author.Needs.{needs}
+use Rattle.choice.proofs.lacking_first.Statement.{statement}
+use Rattle.choice.proofs.lacking_first.Tie as tie
+
+returns : tie.Need-returns
+returns c = c .without .ensures ∙ rw (c .before .holders-of .ensures, c .before .before .entry-key .ensures)
+
+pub lacking-first-spec : {M : Type 1} → statement M
+lacking-first-spec =
+    tie.close
+    (tie.spec (λ c κs. search needs) (λ c κs. search needs) (λ c κs. search needs) returns)

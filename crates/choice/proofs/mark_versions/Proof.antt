@@ -1,0 +1,31 @@
+-- The versions passed are marked.
+use Prim.Native.Nat.{_≤_, _-_, _^_}
+use mathlib.Core.Path.{_≡_, _∙_}
+use native.Mathlib.Omega.{arith}
+use lib.ListN.{length}
+use Rattle.ranges.specs.Turns.{turns-none, turns-more}
+use Rattle.tables.specs.Layout.{versionWord}
+use Rattle.choice.specs.Holders.{marked, markVersions}
+use borrow.Author.Needs.{needs}
+use Rattle.choice.proofs.mark_versions.Statement.{statement}
+use Rattle.choice.proofs.mark_versions.Tie as tie
+
+abbrev Inv-loop : tie.InvT-loop
+Inv-loop holders₀ keys server received mask place₀ holders place = (place ≤ received) × ((length holders ≡ length holders₀) × (holders ≡ markVersions keys server place holders₀))
+
+abbrev μ-loop : tie.MeasureT-loop
+μ-loop holders₀ keys server received mask place₀ holders place = received - place
+
+loop-holds : tie.Need-loop-holds Inv-loop μ-loop
+loop-holds c = let a = c .before .before .before .args in (search needs, (search needs, turns-none (λ place. marked (2 ^ a .server) (versionWord (a .keys .now) (a .server) place)) (a .holders .now)))
+
+loop-again : tie.Need-loop-again Inv-loop μ-loop
+loop-again c = let a = c .before .before .before .before .before .before .before .before .before .before .args in (search needs, (search needs, turns-more (λ place. marked (2 ^ a .server) (versionWord (a .keys .now) (a .server) place)) (c .before .before .before .before .before .before .loop .place) (a .holders .now) (c .before .before .before .before .before .before .loop .inv .1 .1) (c .before .before .mark .ensures ∙ rw (c .before .before .before .before .before .before .before .mask-of .ensures, c .before .before .before .key-word .ensures))))
+
+returns : tie.Need-returns Inv-loop μ-loop
+returns c = let e : c .before .loop .place ≡ c .before .before .before .before .before .args .received = omega arith in rw (← e) (c .before .loop .inv .1 .1)
+
+pub mark-versions-spec : {M : Type 1} → statement M
+mark-versions-spec =
+    tie.close
+    (tie.spec Inv-loop μ-loop (λ c κs. search needs) loop-holds (λ c κs. search needs) (λ c κs. search needs) (λ c. search needs) (λ c. search needs) loop-again (λ c. search needs) returns)

@@ -1,0 +1,158 @@
+-- The walk up the log: which of the wanted servers lack their key at the tag come to, as a mask. At each tag only the servers that its entry wrote change.
+use Prim.Native.Nat.{ℕ, _+_, _-_, _^_, _%_, _≤_, _<_}
+use mathlib.Core.Path.{_≡_, refl, sym, ap, _∙_}
+use mathlib.Core.Bool.{Bool, true, false, cond, not, _&&_, _||_, or-true, or-false, and-true}
+use mathlib.Core.List.{List}
+use native.Mathlib.Omega.{arith}
+use lib.Dec.{eqb, ltb}
+use lib.Bits.{bitAnd, bitOr}
+use lib.ListN.{getD}
+use borrow.Author.Tests.{eqb-true, eqb-false, not-true, not-false, ltb-true, ltb-false, lt-ltb, le-ltb}
+use Rattle.ranges.specs.Tests.{by-equal, by-test, not-both, both-left, both-right}
+use Rattle.ranges.specs.All.{all-of, all-not, all-same}
+use Rattle.ranges.specs.Last.{lastBelow, last-none, last-here, last-before, last-below, last-same}
+use Rattle.keys.specs.declared.Key.{Key}
+use Rattle.keys.specs.Keys.{keyWord}
+use Rattle.keys.specs.Masks.{hasServer, some-server}
+use Rattle.tables.specs.Layout.{entryKey, entryMask}
+use Rattle.server.specs.Held.{firstBearing}
+use Rattle.coordinator.specs.Latest.{wrote, latestTag}
+use Rattle.rules.specs.Choice.{hasVersion, qualifies, chosenTag}
+use Rattle.choice.specs.Cases.{serves}
+use Rattle.choice.specs.Bits.{without, and-bit, or-bit, without-bit, no-bit, first-bit, beyond-bit, gathered, gathered-bit}
+use Rattle.choice.specs.Holders.{tabled, slotOf, Marked}
+
+-- a key is among the versions received from server i
+abbrev pub holdsKey : List ℕ → (ℕ → ℕ) → Key → ℕ → Bool
+holdsKey keys received key i = ltb (firstBearing keys i key (received i)) (received i)
+
+-- the holders of a key: those in its slot, and where it has none those found by a search
+unfoldable pub holdersOf : List ℕ → List ℕ → (ℕ → ℕ) → ℕ → Key → ℕ
+holdersOf holders keys received k key = cond (tabled (keyWord key)) (getD holders (slotOf (keyWord key)) 0) (gathered (holdsKey keys received key) k)
+
+-- of the servers asked for, those that lack their key: one that the entry wrote has another key, any other lacks it as before
+abbrev pub lackingAfter : ℕ → ℕ → ℕ → ℕ → ℕ
+lackingAfter lacking wanted written holding = without (bitOr lacking (bitAnd wanted written)) (bitAnd (bitAnd wanted written) holding)
+
+abbrev pub Lacking : List ℕ → List ℕ → (ℕ → ℕ) → ℕ → ℕ → ℕ → Type 0
+Lacking keys log received wanted t lacking = (i : ℕ) → hasServer lacking i ≡ (hasServer wanted i && not (hasVersion keys log received t i))
+
+-- a search for a key, as the code finds it: n is what was received, place what was found
+module _ (keys : List ℕ) (received : ℕ → ℕ) (key : Key) (i : ℕ) {n place : ℕ} (c : n ≡ received i) (f : place ≡ firstBearing keys i key n) where
+  pub holds-found : place < n → holdsKey keys received key i ≡ true
+  holds-found h = rw (← c, ← f) (lt-ltb place n h)
+
+  pub holds-not : n ≤ place → holdsKey keys received key i ≡ false
+  holds-not h = rw (← c, ← f) (le-ltb place n h)
+
+-- the holders of a key, as the code finds them
+module _ (holders keys : List ℕ) (received : ℕ → ℕ) (k : ℕ) (key : Key) where
+  pub holders-in : tabled (keyWord key) ≡ true → getD holders (slotOf (keyWord key)) 0 ≡ holdersOf holders keys received k key
+  unfolding holdersOf
+  holders-in e = rw e
+
+  pub holders-sought : tabled (keyWord key) ≡ false → gathered (holdsKey keys received key) k ≡ holdersOf holders keys received k key
+  unfolding holdersOf
+  holders-sought e = rw e
+
+  -- of a marked table they are the holders
+  holders-hold : (wanted : ℕ) → Marked keys wanted received holders → (i : ℕ) → i < k → hasServer wanted i ≡ true → hasServer (holdersOf holders keys received k key) i ≡ holdsKey keys received key i
+  unfolding holdersOf
+  holders-hold wanted m i h e =
+      by-test (tabled (keyWord key))
+      (λ b. rw b (m .bits (keyWord key) b i e))
+      (λ b. rw b (gathered-bit (holdsKey keys received key) i k h))
+
+-- what a bit becomes: l lacking before, m wanted, w written, h holding, v whether the key was held, v′ whether it is
+bit-after : (l m w h v v′ : Bool) → l ≡ (m && not v) → (m ≡ true → w ≡ true → v′ ≡ h) → (w ≡ false → v′ ≡ v) → ((l || (m && w)) && not ((m && w) && h)) ≡ (m && not v′)
+bit-after l false w h v v′ e f g = rw e
+bit-after l true true h v v′ e f g = rw (f refl refl, or-true l)
+bit-after l true false h v v′ e f g = rw (e, g refl, or-false (not v)) (and-true (not v))
+
+-- the key of a server at a tag: at the entry's own where it wrote the server or is the first, else as at the tag before
+module _ (keys log : List ℕ) (received : ℕ → ℕ) (i : ℕ) where
+  at-tag : (s t : ℕ) → latestTag log i t ≡ s → hasVersion keys log received t i ≡ holdsKey keys received (entryKey log s) i
+  at-tag s t e = ap (λ (x : ℕ). holdsKey keys received (entryKey log x) i) e
+
+  key-first : hasVersion keys log received 0 i ≡ holdsKey keys received (entryKey log 0) i
+  key-first = at-tag 0 0 (let l : latestTag log i 0 < 1 = last-below (wrote log i) 1 (omega arith) in omega arith)
+
+  key-written : (t : ℕ) → wrote log i (t + 1) ≡ true → hasVersion keys log received (t + 1) i ≡ holdsKey keys received (entryKey log (t + 1)) i
+  key-written t e = at-tag (t + 1) (t + 1) (last-here (wrote log i) (t + 1) e)
+
+  key-kept : (t : ℕ) → wrote log i (t + 1) ≡ false → hasVersion keys log received (t + 1) i ≡ hasVersion keys log received t i
+  key-kept t e = at-tag (latestTag log i t) (t + 1) (last-before (wrote log i) (t + 1) e)
+
+-- the walk, over a marked table; no server from k on is wanted
+module _ (keys log : List ℕ) (received : ℕ → ℕ) (wanted k : ℕ) (few : (i : ℕ) → hasServer wanted i ≡ true → i < k) where
+  abbrev q : ℕ → Bool
+  q = qualifies keys log wanted received k
+
+  module _ (holders : List ℕ) (marked : Marked keys wanted received holders) where
+    held-at : (t i : ℕ) → hasServer wanted i ≡ true → hasServer (holdersOf holders keys received k (entryKey log t)) i ≡ holdsKey keys received (entryKey log t) i
+    held-at t i e = holders-hold holders keys received k (entryKey log t) wanted marked i (few i e) e
+
+    pub lacking-first : {l : ℕ} → l ≡ without wanted (holdersOf holders keys received k (entryKey log 0)) → Lacking keys log received wanted 0 l
+    lacking-first {l} d i =
+        rw d (without-bit wanted (holdersOf holders keys received k (entryKey log 0)) i
+        ∙ by-test (hasServer wanted i)
+        (λ e. rw (held-at 0 i e, key-first keys log received i))
+        (λ e. rw e))
+
+    pub lacking-next : (t l : ℕ) {r : ℕ} → Lacking keys log received wanted t l →
+        r ≡ lackingAfter l wanted (entryMask log (t + 1)) (holdersOf holders keys received k (entryKey log (t + 1))) → Lacking keys log received wanted (t + 1) r
+    lacking-next t l f d i =
+        let w = entryMask log (t + 1) in
+        let h = holdersOf holders keys received k (entryKey log (t + 1)) in
+        rw d (without-bit (bitOr l (bitAnd wanted w)) (bitAnd (bitAnd wanted w) h) i
+        ∙ rw (or-bit l (bitAnd wanted w) i, and-bit (bitAnd wanted w) h i, and-bit wanted w i)
+        (bit-after (hasServer l i) (hasServer wanted i) (hasServer w i) (hasServer h i) (hasVersion keys log received t i) (hasVersion keys log received (t + 1) i)
+        (f i) (λ e b. key-written keys log received i t b ∙ sym (held-at (t + 1) i e)) (key-kept keys log received i t)))
+
+  -- where no server lacks its key the tag qualifies, and else not
+  none-lacking : (t l : ℕ) → Lacking keys log received wanted t l → l ≡ 0 → q t ≡ true
+  none-lacking t l f z =
+      all-of (serves keys log wanted received t) k
+      (λ i h. by-test (hasServer wanted i)
+      (λ e. rw e (not-false _ (sym (rw (z, no-bit i, e) at (f i)))))
+      (λ e. rw e))
+
+  some-lacking : (t l : ℕ) → Lacking keys log received wanted t l → l < 2 ^ 32 → (l ≡ 0 → ⊥) → q t ≡ false
+  some-lacking t l f b n =
+      let s = some-server l 32 (record { some = omega arith; below = b }) in
+      let e : (hasServer wanted (s .0) && not (hasVersion keys log received t (s .0))) ≡ true = sym (f (s .0)) ∙ s .2 in
+      let m : hasServer wanted (s .0) ≡ true = both-left _ _ e in
+      all-not (serves keys log wanted received t) k (s .0) (few (s .0) m) (rw m (not-true _ (both-right (hasServer wanted (s .0)) _ e)))
+
+  pub walk-begins : 0 ≡ lastBelow q (0 + 1)
+  walk-begins = let l : lastBelow q 1 < 1 = last-below q 1 (omega arith) in omega arith
+
+  pub walk-next : (t l : ℕ) {chosen r : ℕ} → Lacking keys log received wanted (t + 1) l → l < 2 ^ 32 → chosen ≡ lastBelow q (t + 1) →
+      r ≡ cond (eqb l 0) (t + 1) chosen → r ≡ lastBelow q (t + 1 + 1)
+  walk-next t l {chosen} {r} f b c d =
+      by-test (eqb l 0)
+      (λ e. d ∙ rw e (sym (last-here q (t + 1) (none-lacking (t + 1) l f (eqb-true l 0 e)))))
+      (λ e. d ∙ rw e (c ∙ sym (last-before q (t + 1) (some-lacking (t + 1) l f b (eqb-false l 0 e)))))
+
+-- the first k servers of a mask are all that its choice asks for
+module _ (keys log : List ℕ) (mask : ℕ) (received : ℕ → ℕ) (k : ℕ) {wanted : ℕ} (first : wanted ≡ mask % 2 ^ k) where
+  pub few-wanted : (i : ℕ) → hasServer wanted i ≡ true → i < k
+  few-wanted i e = by-test (ltb i k) (λ b. ltb-true i k b) (λ b. absurd (not-both e (rw first (beyond-bit mask k i (ltb-false i k b)))))
+
+  pub same-choice : (n : ℕ) → chosenTag keys log wanted received k n ≡ chosenTag keys log mask received k n
+  same-choice n =
+      last-same (qualifies keys log wanted received k) (qualifies keys log mask received k) n
+      (λ t l. all-same (serves keys log wanted received t) (serves keys log mask received t) k (λ i h. rw (first, first-bit mask k i h)))
+
+-- what is tried before the walk: one entry at most leaves no choice, and then the newest tag
+module _ (keys log : List ℕ) (mask : ℕ) (received : ℕ → ℕ) (k n : ℕ) where
+  pub no-choice : n < 2 → 0 ≡ chosenTag keys log mask received k n
+  no-choice h =
+      by-equal n 0
+      (λ e. sym (ap (lastBelow (qualifies keys log mask received k)) e ∙ last-none (qualifies keys log mask received k)))
+      (λ d. let l = last-below (qualifies keys log mask received k) n (omega arith) in omega arith)
+
+  pub newest-serves : 2 ≤ n → qualifies keys log mask received k (n - 1) ≡ true → n - 1 ≡ chosenTag keys log mask received k n
+  newest-serves d e =
+      let z : n - 1 + 1 ≡ n = omega arith in
+      sym (ap (lastBelow (qualifies keys log mask received k)) (sym z) ∙ last-here (qualifies keys log mask received k) (n - 1) e)
