@@ -114,7 +114,7 @@ fn mask_of(server: usize) -> u32
 }
 
 // The servers of a mask go into the slot of a word, if it has one.
-fn mark(holders: &mut [u32], mask: u32, word: u32)
+fn mark(holders: &mut [u16], mask: u16, word: u32)
     requires { ⌜ slots ≤ length (now holders) ⌝ }
     ensures { λ _. ⌜ now (holders .exit) ≡ marked mask word (now (holders .entry)) ⌝ }
 {
@@ -125,12 +125,12 @@ fn mark(holders: &mut [u32], mask: u32, word: u32)
 }
 
 // The keys of a server's first versions are marked as held by it.
-fn mark_versions(holders: &mut [u32], keys: &[u32], server: usize, received: usize)
+fn mark_versions(holders: &mut [u16], keys: &[u32], server: usize, received: usize)
     requires { ⌜ slots ≤ length (now holders) ⌝ }
     requires { ⌜ (server < 16) × (serverPlaces * server + received ≤ length (now keys)) ⌝ }
     ensures { λ _. ⌜ now (holders .exit) ≡ markVersions (now (keys .entry)) server received (now (holders .entry)) ⌝ }
 {
-    let mask = mask_of(server);
+    let mask = mask_of(server) as u16;
     let mut place = 0;
     while place < received {
         mark(holders, mask, versions::key_word(keys, server, place));
@@ -140,7 +140,7 @@ fn mark_versions(holders: &mut [u32], keys: &[u32], server: usize, received: usi
 
 // The versions received from a server, if the mask has it.
 fn mark_server(
-    holders: &mut [u32],
+    holders: &mut [u16],
     clients: &[u32],
     keys: &[u32],
     client: usize,
@@ -159,7 +159,7 @@ fn mark_server(
 
 // The versions received from all servers of a mask.
 fn mark_servers(
-    holders: &mut [u32],
+    holders: &mut [u16],
     clients: &[u32],
     keys: &[u32],
     client: usize,
@@ -212,7 +212,7 @@ fn search_holders(clients: &[u32], keys: &[u32], client: usize, servers: usize, 
 
 // The holders of a key: its slot has them. A key that has no slot occurs in no sound tables.
 fn holders_of(
-    holders: &[u32],
+    holders: &[u16],
     clients: &[u32],
     keys: &[u32],
     client: usize,
@@ -225,7 +225,7 @@ fn holders_of(
 {
     let word = key.word();
     if is_tabled(word) {
-        return holders[slot_of(word)];
+        return holders[slot_of(word)] as u32;
     }
     search_holders(clients, keys, client, servers, key)
 }
@@ -248,7 +248,7 @@ fn lacking_after(lacking: u32, wanted: u32, written: u32, holding: u32) -> u32
 
 // The same, of the entry at the tag.
 fn lacking_at(
-    holders: &[u32],
+    holders: &[u16],
     clients: &[u32],
     keys: &[u32],
     log: &[u32],
@@ -271,7 +271,7 @@ fn lacking_at(
 
 // At the first tag every server has the first entry's key, whatever its mask.
 fn lacking_first(
-    holders: &[u32],
+    holders: &[u16],
     clients: &[u32],
     keys: &[u32],
     log: &[u32],
@@ -304,7 +304,7 @@ fn chosen_at(tag: usize, lacking: u32, chosen: usize) -> usize
 
 // A walk up the log keeps which servers lack their key, and the last tag at which none did.
 fn walk(
-    holders: &[u32],
+    holders: &[u16],
     clients: &[u32],
     keys: &[u32],
     log: &[u32],

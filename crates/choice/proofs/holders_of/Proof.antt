@@ -13,6 +13,9 @@ use Rattle.choice.proofs.holders_of.Tie as tie
 shared-slice-read-result : tie.Need-shared-slice-read-result
 shared-slice-read-result c = omega (arith, c .before .slot-of .ensures, slot-below (c .before .before .before .before .word .result) (sym (c .before .before .before .is-tabled .ensures) ∙ c .before .before .if1 .taken), c .before .before .before .before .before .before .before .before .pre .0)
 
+cast-result : tie.Need-cast-result
+cast-result c = omega (arith, c .shared-slice-known4 .given (c .before .slot-of .result))
+
 returns : tie.Need-returns
 returns c = let a = c .before .before .before .before .before .before .before .before .args in let t : tabled (keyWord (a .key)) ≡ true = rw (← c .before .before .before .before .word .ensures) (sym (c .before .before .before .is-tabled .ensures) ∙ c .before .before .if1 .taken) in
     rw (c .before .slot-of .ensures, c .before .before .before .before .word .ensures) (holders-in (a .holders .now) (a .keys .now) (receivedIn (a .clients .now) (a .client)) (a .servers) (a .key) t)
@@ -24,4 +27,4 @@ returns-2 c = let a = c .before .before .before .before .before .before .before 
 pub holders-of-spec : {M : Type 1} → statement M
 holders-of-spec =
     tie.close
-    (tie.spec (λ c κs. search needs) (λ c κs. search needs) (λ c κs. search needs) (λ c. search needs) shared-slice-read-result returns (λ c κs. search needs) returns-2)
+    (tie.spec (λ c κs. search needs) (λ c κs. search needs) (λ c κs. search needs) (λ c. search needs) shared-slice-read-result cast-result returns (λ c κs. search needs) returns-2)

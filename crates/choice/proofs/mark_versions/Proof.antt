@@ -1,8 +1,9 @@
 -- The versions passed are marked.
-use Prim.Native.Nat.{_≤_, _-_, _^_}
+use Prim.Native.Nat.{_≤_, _<_, _-_, _^_}
 use mathlib.Core.Path.{_≡_, _∙_}
 use native.Mathlib.Omega.{arith}
 use lib.ListN.{length}
+use lib.Pow.{pow-lt}
 use Rattle.ranges.specs.Turns.{turns-none, turns-more}
 use Rattle.tables.specs.Layout.{versionWord}
 use Rattle.choice.specs.Holders.{marked, markVersions}
@@ -16,6 +17,9 @@ Inv-loop holders₀ keys server received mask place₀ holders place = (place �
 abbrev μ-loop : tie.MeasureT-loop
 μ-loop holders₀ keys server received mask place₀ holders place = received - place
 
+cast-mask : tie.Need-cast-mask Inv-loop μ-loop
+cast-mask c = let h : 2 ^ c .before .before .before .args .server < 2 ^ 16 = pow-lt (c .before .before .before .pre .1 .0) in omega (arith, c .mask-of .ensures, h)
+
 loop-holds : tie.Need-loop-holds Inv-loop μ-loop
 loop-holds c = let a = c .before .before .before .args in (search needs, (search needs, turns-none (λ place. marked (2 ^ a .server) (versionWord (a .keys .now) (a .server) place)) (a .holders .now)))
 
@@ -28,4 +32,4 @@ returns c = let e : c .before .loop .place ≡ c .before .before .before .before
 pub mark-versions-spec : {M : Type 1} → statement M
 mark-versions-spec =
     tie.close
-    (tie.spec Inv-loop μ-loop (λ c κs. search needs) loop-holds (λ c κs. search needs) (λ c κs. search needs) (λ c. search needs) (λ c. search needs) loop-again (λ c. search needs) returns)
+    (tie.spec Inv-loop μ-loop (λ c κs. search needs) cast-mask loop-holds (λ c κs. search needs) (λ c κs. search needs) (λ c. search needs) (λ c. search needs) loop-again (λ c. search needs) returns)
