@@ -14,15 +14,26 @@ const GOAL: f64 = 1.5;
 type Case = (&'static str, usize, fn(usize) -> Plan);
 
 const LOGS: [usize; 5] = [1, 32, 64, 128, 256];
-const BY_LOG: [Case; 7] = [
+const BY_LOG: [Case; 10] = [
     ("begin a READ, A, one server that no WRITE wrote: one search of the whole log", 1, untouched_server),
     ("begin a READ, A, 16 servers of which 15 were never written: 15 such searches", 1, untouched_servers),
     ("which keys, B, request and reply together, the same servers: 15 such searches", 2, keys_of_untouched),
     ("request get of the newest of as many versions", 1, newest_version),
     ("C's last reply, 1 server, the newest tag qualifies", 1, newest_tag_of_one),
     ("C's last reply, 16 servers, the newest tag qualifies", 1, newest_tag),
-    ("C's last reply, 16 servers, no tag but 0 qualifies: the worst case", 1, no_tag_but_0),
+    ("C's last reply, 16 servers, no tag but 0 qualifies, each WRITE of the last server", 1, |entries| gap(entries, 1, LAST)),
+    ("C's last reply, 16 servers, no tag but 0 qualifies, each WRITE of all", 1, |entries| gap(entries, 1, ALL)),
+    ("C's last reply, 16 servers, the tag below the newest qualifies, each WRITE of the last server", 1, |entries| {
+        gap(entries, entries - 1, LAST)
+    }),
+    ("C's last reply, 16 servers, the tag below the newest qualifies, each WRITE of all", 1, |entries| {
+        gap(entries, entries - 1, ALL)
+    }),
 ];
+
+/// Masks of 16 servers.
+const ALL: u32 = 0xFFFF;
+const LAST: u32 = 1 << 15;
 
 const SERVERS: [usize; 5] = [1, 2, 4, 8, 16];
 const BY_SERVERS: [Case; 6] = [
@@ -117,7 +128,7 @@ fn newest_tag_of_one(entries: usize) -> Plan {
 }
 
 fn newest_tag(entries: usize) -> Plan {
-    read_last(written(3, 16, 0xFFFF, entries), 16)
+    read_last(written(3, 16, ALL, entries), 16)
 }
 
 /// A READ of all servers up to its last reply.
@@ -130,19 +141,26 @@ fn read_last(mut plan: Plan, servers: usize) -> Plan {
     plan
 }
 
-/// The servers answer before any WRITE, the head after all of them. Each WRITE is of the last server alone, so that
-/// at each tag 15 servers are searched for back to the opening before the last one is found missing.
-fn no_tag_but_0(entries: usize) -> Plan {
+/// A READ under C whose last server answers as soon as the log has `early` entries, and all others when it has all of them.
+/// So the newest tag that qualifies is `early` less 1, and all 15 servers asked before the last one have what the newest asks for.
+fn gap(entries: usize, early: usize, mask: u32) -> Plan {
     let mut plan = Plan::opened(3, 16, 2);
     plan.begin_read(0, plan.all());
-    for server in 0..16 {
-        plan.request(0, server);
-        plan.reply(0, server);
+    for logged in 1..=entries {
+        if logged == early.max(1) {
+            answer(&mut plan, 15);
+        }
+        if logged < entries {
+            plan.write(1, mask);
+        }
     }
-    for _ in 1..entries {
-        plan.write(1, 1 << 15);
+    for target in (0..15).chain([COORDINATOR]) {
+        answer(&mut plan, target);
     }
-    plan.request(0, COORDINATOR);
-    plan.reply(0, COORDINATOR);
     plan
+}
+
+fn answer(plan: &mut Plan, target: usize) {
+    plan.request(0, target);
+    plan.reply(0, target);
 }
