@@ -2,7 +2,6 @@
 use Prim.Native.Nat.{ℕ}
 use mathlib.Core.Path.{_≡_, refl}
 use mathlib.Core.List.{List, [], _∷_}
-use lib.ListN.{replicate}
 use Rattle.ranges.specs.Last.{lastBelow}
 use Rattle.keys.specs.Keys.{keyOf, opening}
 use Rattle.tables.specs.Layout.{putEntry}

@@ -1,15 +1,14 @@
 -- Laws of the latest key: the cases as the search meets them, and what a longer log leaves.
-use Prim.Native.Nat.{ℕ, zero, suc, _+_, _-_, _≤_, _<_}
-use mathlib.Core.Path.{_≡_, refl, sym, _∙_, ap}
+use Prim.Native.Nat.{ℕ, _+_, _-_, _≤_, _<_}
+use mathlib.Core.Path.{_≡_, refl, ap}
 use mathlib.Core.Bool.{Bool, true, false}
 use mathlib.Core.List.{List}
 use native.Mathlib.Omega.{arith}
-use lib.ListN.{getD, set, length, length-set}
+use lib.ListN.{getD, length, length-set}
 use lib.Seq.{getD-set-same, getD-set-other}
 use Rattle.ranges.specs.Tests.{by-equal}
-use Rattle.ranges.specs.Last.{lastBelow, last-none, last-here, last-before, last-below, last-same}
-use Rattle.ranges.specs.Turns.{turns}
-use Rattle.ranges.specs.Picked.{has-room, not-reached, is-picked}
+use Rattle.ranges.specs.Last.{last-here, last-before, last-below, last-same}
+use Rattle.ranges.specs.Picked.{not-reached, is-picked}
 use Rattle.keys.specs.declared.Key.{Key}
 use Rattle.keys.specs.Keys.{keyWord}
 use Rattle.keys.specs.Masks.{hasServer}

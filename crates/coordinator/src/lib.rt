@@ -2,6 +2,7 @@
 ghost use mathlib.Core.Path.{_≡_};
 ghost use Prim.Native.Nat.{_≤_, _<_};
 ghost use lib.ListN.{length};
+ghost use Rattle.keys.specs.Keys.{keyWord};
 ghost use Rattle.tables.specs.Rows.{HasRow};
 ghost use Rattle.tables.specs.Layout.{entryWidth};
 ghost use Rattle.coordinator.specs.Log.{LogRoom, enterLeft, entered};
@@ -24,18 +25,28 @@ pub fn enter(counts: &mut [u32], log: &mut [u32], key: Key, mask: u32) -> bool
     true
 }
 
-// The key of the latest entry, at the tag or before it, whose mask has the server. The search back calls itself with a tag one smaller.
+// The key of the latest entry, at the tag or before it, whose mask has the server, as one number. The search back calls itself with a tag one smaller.
+// It hands on the reference to the log that it was lent, and answers a number: so the compiler makes the calls a loop.
+fn latest_word(log: &&[u32], server: usize, tag: usize) -> u32
+    requires { ⌜ (server < 16) × HasRow entryWidth (now (now log)) tag ⌝ }
+    ensures { λ r. ⌜ r ≡ keyWord (latestKey (now (now (log .entry))) server tag) ⌝ }
+{
+    let entries = *log;
+    if tag == 0 {
+        return log::entry_key(entries, 0).word();
+    }
+    if keys::has_server(log::entry_mask(entries, tag), server) {
+        return log::entry_key(entries, tag).word();
+    }
+    latest_word(log, server, tag - 1)
+}
+
+// The key of the latest entry, at the tag or before it, whose mask has the server.
 pub fn latest_key(log: &[u32], server: usize, tag: usize) -> Key
     requires { ⌜ (server < 16) × HasRow entryWidth (now log) tag ⌝ }
     ensures { λ r. ⌜ r ≡ latestKey (now (log .entry)) server tag ⌝ }
 {
-    if tag == 0 {
-        return log::entry_key(log, 0);
-    }
-    if keys::has_server(log::entry_mask(log, tag), server) {
-        return log::entry_key(log, tag);
-    }
-    latest_key(log, server, tag - 1)
+    Key::at_word(latest_word(&log, server, tag))
 }
 
 // The keys of the first servers at a tag, as words into the front of lent space.
