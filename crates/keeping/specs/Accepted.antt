@@ -9,13 +9,13 @@ use lib.Dec.{eqb, leb, ltb}
 use borrow.Author.Tests.{eq-eqb, ne-eqb, eqb-true, ltb-true, leb-false, not-false}
 use Rattle.ranges.specs.Tests.{by-test, both-left, both-right}
 use Rattle.keys.specs.Masks.{maskWithin, Within, within-true}
-use Rattle.tables.specs.Layout.{recordPlaces}
+use Rattle.tables.specs.Layout.{lastStep, recordPlaces}
 use Rattle.tables.specs.Links.{targets}
 use Rattle.tables.specs.Tables.{Tables, methodOf, serversOf, clientsOf, stepOf, writesOf, readsOf, stateOf}
 use Rattle.rules.specs.Common.{idle, coordinator}
 use Rattle.soundness.specs.Sound.{longEnough, pressFits, holding, sound}
 use Rattle.soundness.specs.Facts.{Long, long-facts, Press, press-facts, Sound}
-use Rattle.refusals.specs.Refusals.{openRefusal, writeRefusal, readRefusal, deliveryRefusal, isTarget, atLastStep}
+use Rattle.refusals.specs.Refusals.{openRefusal, beginFault, writeRefusal, readRefusal, deliveryRefusal, isTarget, atLastStep}
 
 -- a cause that is a failed test is absent: the test passed, and no later cause refuses
 has : (b : Bool) (n rest : ℕ) → cond (not b) (suc n) rest ≡ 0 → (b ≡ true) × (rest ≡ 0)
@@ -43,7 +43,7 @@ pub record Beginnable (q mask : ℕ) (t : Tables) : Type 0 where
   pub client : q < clientsOf t
   pub free : stateOf t q ≡ idle
   pub masked : Within mask (serversOf t)
-  pub early : stepOf t < 4294967295
+  pub early : stepOf t < lastStep
 
 pub record Writable (q mask : ℕ) (setpoints : List ℕ) (t : Tables) : Type 0 where
   pub begin : Beginnable q mask t
@@ -60,7 +60,7 @@ pub record Readable (q mask : ℕ) (t : Tables) : Type 0 where
 pub record Deliverable (q i : ℕ) (t : Tables) : Type 0 where
   pub client : q < clientsOf t
   pub target : isTarget t i ≡ true
-  pub early : stepOf t < 4294967295
+  pub early : stepOf t < lastStep
 
 module _ (m k p : ℕ) (values : List ℕ) (t : Tables) where
   abbrev opens : Bool
@@ -77,70 +77,60 @@ module _ (m k p : ℕ) (values : List ℕ) (t : Tables) where
         long = long-facts k p t (b .0);
       }
 
+-- a begin that no number refuses: every cause is absent
+record Passed (absent barred free fits spent : Bool) : Type 0 where
+  there : absent ≡ false
+  allowed : barred ≡ false
+  idling : free ≡ true
+  fitting : fits ≡ true
+  unspent : spent ≡ false
+
+passed : (absent barred free fits spent : Bool) → beginFault absent barred free fits spent ≡ 0 → Passed absent barred free fits spent
+passed absent barred free fits spent e =
+    let r₃ = lacks absent 2 (cond barred 4 (cond (not free) 5 (cond (not fits) 6 (cond spent 7 0)))) e in
+    let r₄ = lacks barred 3 (cond (not free) 5 (cond (not fits) 6 (cond spent 7 0))) (r₃ .1) in
+    let r₅ = has free 4 (cond (not fits) 6 (cond spent 7 0)) (r₄ .1) in
+    let r₆ = has fits 5 (cond spent 7 0) (r₅ .1) in
+    record { there = r₃ .0; allowed = r₄ .0; idling = r₅ .0; fitting = r₆ .0; unspent = lacks spent 6 0 (r₆ .1) .0 }
+
 module _ (q mask : ℕ) (setpoints : List ℕ) (t : Tables) where
-  abbrev fits : Bool
-  fits = maskWithin mask (serversOf t) && eqb (length setpoints) (serversOf t)
-
-  abbrev full : Bool
-  full = leb recordPlaces (writesOf t) || atLastStep t
-
-  -- the refusal from each number on
-  abbrev from6 : ℕ
-  from6 = cond (not fits) 6 (cond full 7 0)
-
-  abbrev from5 : ℕ
-  from5 = cond (not (eqb (stateOf t q) idle)) 5 from6
-
-  abbrev from4 : ℕ
-  from4 = cond (eqb (methodOf t) 1 && eqb q 0) 4 from5
-
   pub writable : writeRefusal q mask setpoints t ≡ 0 → Writable q mask setpoints t
   unfolding writeRefusal
   writable e =
-      let r₂ = has (sound t) 1 (cond (leb (clientsOf t) q) 3 from4) e in
-      let r₃ = lacks (leb (clientsOf t) q) 2 from4 (r₂ .1) in
-      let r₄ = lacks (eqb (methodOf t) 1 && eqb q 0) 3 from5 (r₃ .1) in
-      let r₅ = has (eqb (stateOf t q) idle) 4 from6 (r₄ .1) in
-      let r₆ = has fits 5 (cond full 7 0) (r₅ .1) in
-      let r₇ = neither (leb recordPlaces (writesOf t)) (atLastStep t) (lacks full 6 0 (r₆ .1) .0) in
+      let absent = leb (clientsOf t) q in
+      let free = eqb (stateOf t q) idle in
+      let barred = eqb (methodOf t) 1 && eqb q 0 in
+      let fits = maskWithin mask (serversOf t) && eqb (length setpoints) (serversOf t) in
+      let spent = leb recordPlaces (writesOf t) || atLastStep t in
+      let r = passed absent barred free fits spent (has (sound t) 1 (beginFault absent barred free fits spent) e .1) in
+      let left = neither (leb recordPlaces (writesOf t)) (atLastStep t) (r .unspent) in
       record {
         begin = record {
-          client = leb-false _ _ (r₃ .0);
-          free = eqb-true _ _ (r₅ .0);
-          masked = within-true _ _ (both-left (maskWithin mask (serversOf t)) (eqb (length setpoints) (serversOf t)) (r₆ .0));
-          early = leb-false _ _ (r₇ .1);
+          client = leb-false _ _ (r .there);
+          free = eqb-true _ _ (r .idling);
+          masked = within-true _ _ (both-left (maskWithin mask (serversOf t)) (eqb (length setpoints) (serversOf t)) (r .fitting));
+          early = leb-false _ _ (left .1);
         };
-        part = r₄ .0;
-        values = eqb-true _ _ (both-right (maskWithin mask (serversOf t)) (eqb (length setpoints) (serversOf t)) (r₆ .0));
-        few = leb-false _ _ (r₇ .0);
+        part = r .allowed;
+        values = eqb-true _ _ (both-right (maskWithin mask (serversOf t)) (eqb (length setpoints) (serversOf t)) (r .fitting));
+        few = leb-false _ _ (left .0);
       }
 
 module _ (q mask : ℕ) (t : Tables) where
-  abbrev allBegun : Bool
-  allBegun = leb recordPlaces (readsOf t) || atLastStep t
-
-  abbrev readFrom6 : ℕ
-  readFrom6 = cond (not (maskWithin mask (serversOf t))) 6 (cond allBegun 7 0)
-
-  abbrev readFrom5 : ℕ
-  readFrom5 = cond (not (eqb (stateOf t q) idle)) 5 readFrom6
-
-  abbrev readFrom4 : ℕ
-  readFrom4 = cond (eqb (methodOf t) 1 && not (eqb q 0)) 4 readFrom5
-
   pub readable : readRefusal q mask t ≡ 0 → Readable q mask t
   unfolding readRefusal
   readable e =
-      let r₂ = has (sound t) 1 (cond (leb (clientsOf t) q) 3 readFrom4) e in
-      let r₃ = lacks (leb (clientsOf t) q) 2 readFrom4 (r₂ .1) in
-      let r₄ = lacks (eqb (methodOf t) 1 && not (eqb q 0)) 3 readFrom5 (r₃ .1) in
-      let r₅ = has (eqb (stateOf t q) idle) 4 readFrom6 (r₄ .1) in
-      let r₆ = has (maskWithin mask (serversOf t)) 5 (cond allBegun 7 0) (r₅ .1) in
-      let r₇ = neither (leb recordPlaces (readsOf t)) (atLastStep t) (lacks allBegun 6 0 (r₆ .1) .0) in
+      let absent = leb (clientsOf t) q in
+      let free = eqb (stateOf t q) idle in
+      let barred = eqb (methodOf t) 1 && not (eqb q 0) in
+      let fits = maskWithin mask (serversOf t) in
+      let spent = leb recordPlaces (readsOf t) || atLastStep t in
+      let r = passed absent barred free fits spent (has (sound t) 1 (beginFault absent barred free fits spent) e .1) in
+      let left = neither (leb recordPlaces (readsOf t)) (atLastStep t) (r .unspent) in
       record {
-        begin = record { client = leb-false _ _ (r₃ .0); free = eqb-true _ _ (r₅ .0); masked = within-true _ _ (r₆ .0); early = leb-false _ _ (r₇ .1) };
-        part = r₄ .0;
-        few = leb-false _ _ (r₇ .0);
+        begin = record { client = leb-false _ _ (r .there); free = eqb-true _ _ (r .idling); masked = within-true _ _ (r .fitting); early = leb-false _ _ (left .1) };
+        part = r .allowed;
+        few = leb-false _ _ (left .0);
       }
 
 module _ (q i : ℕ) (t : Tables) where

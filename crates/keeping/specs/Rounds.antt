@@ -6,7 +6,7 @@ use mathlib.Core.List.{List}
 use native.Mathlib.Omega.{arith}
 use lib.ListN.{getD, length}
 use Rattle.ranges.specs.Tests.{by-test, by-equal, not-both, either}
-use Rattle.ranges.specs.Turns.{turns}
+use Rattle.ranges.specs.Turns.{turns, turns-keep-below}
 use Rattle.ranges.specs.Picked.{picked, is-picked, not-picked}
 use Rattle.keys.specs.Masks.{Within}
 use Rattle.tables.specs.Links.{targets, linkWidth, putLink, link-length, contentWords}
@@ -17,7 +17,6 @@ use Rattle.soundness.specs.Sound.{uses, requestSound, keyOn, isWriting, stateAl
 use Rattle.soundness.specs.Facts.{Between, LinkFacts, ClientFacts}
 use Rattle.keeping.specs.Links.{linkWord, kindOn, numberOn, kind-full, pending-at, put-same, put-other, put-beside, link-asks, asks-link}
 use Rattle.keeping.specs.States.{uses-idle, arrived, none-received, not-all, not-used, not-empty, allowed-idle}
-use Rattle.keeping.specs.Rows.{turns-keep-below}
 
 -- a link that holds nothing asks nothing
 pub link-empty : (t : Tables) (q i : ℕ) → kindOn t q i ≡ 0 → LinkFacts t q i
@@ -128,11 +127,11 @@ module _ (q k : ℕ) (p : ℕ → Bool) (content : ℕ → Content) (links : Lis
     pub sent-others : (r i : ℕ) → (r ≡ q → ⊥) → i < targets → linkWord (turns (picked p send) k links) r i f ≡ linkWord links r i f
     sent-others r i d h =
         turns-keep-below (picked p send) (λ xs. linkWord xs r i f ≡ linkWord links r i f) k
-        (λ j xs l e. either (λ ys. linkWord ys r i f ≡ linkWord links r i f) (p j) (put-other xs q j (content j) r i f (omega arith) h (λ y. d (y .0)) g ∙ e) e)
+        (λ j l xs e. either (λ ys. linkWord ys r i f ≡ linkWord links r i f) (p j) (put-other xs q j (content j) r i f (omega arith) h (λ y. d (y .0)) g ∙ e) e)
         links refl
 
   pub sent-length : length (turns (picked p send) k links) ≡ length links
   sent-length =
       turns-keep-below (picked p send) (λ xs. length xs ≡ length links) k
-      (λ j xs l e. either (λ ys. length ys ≡ length links) (p j) (link-length xs q j (content j) ∙ e) e)
+      (λ j l xs e. either (λ ys. length ys ≡ length links) (p j) (link-length xs q j (content j) ∙ e) e)
       links refl

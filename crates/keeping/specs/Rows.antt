@@ -1,5 +1,5 @@
 -- The words of a client's row after several puts, and after a loop over its setpoints or its n.
-use Prim.Native.Nat.{ℕ, zero, suc, _+_, _*_, _≤_, _<_}
+use Prim.Native.Nat.{ℕ, _+_, _*_, _≤_, _<_}
 use mathlib.Core.Path.{_≡_, refl, _∙_}
 use mathlib.Core.Bool.{Bool, true, cond, _&&_}
 use mathlib.Core.List.{List, [], _∷_}
@@ -9,16 +9,10 @@ use lib.Seq.{getD-set-other}
 use lib.Dec.{eqb, ltb}
 use borrow.Author.Tests.{eq-eqb, ne-eqb, ltb-true}
 use Rattle.ranges.specs.Tests.{by-equal, both-left, both-right, either}
-use Rattle.ranges.specs.Turns.{turns}
+use Rattle.ranges.specs.Turns.{turns, turns-keep-below}
 use Rattle.ranges.specs.Picked.{picked, is-picked}
 use Rattle.tables.specs.Rows.{HasRow, word-same, word-other}
 use Rattle.tables.specs.Layout.{clientWidth, clientWord, putClientWord}
-
--- what each turn below n keeps, the n turns keep
-pub turns-keep-below : {A : Type 0} (f : ℕ → A → A) (P : A → Type 0) (n : ℕ) → ((i : ℕ) (y : A) → i < n → P y → P (f i y)) → (x : A) → P x → P (turns f n x)
-unfolding turns
-turns-keep-below f P zero k x h = h
-turns-keep-below f P (suc n) k x h = k n _ (omega arith) (turns-keep-below f P n (λ i y l. k i y (omega arith)) x h)
 
 -- a word to put: its field and its value
 pub record Put : Type 0 where
@@ -97,14 +91,14 @@ module _ (q from n : ℕ) (within : from + n ≤ clientWidth) (p : ℕ → Bool)
   pub loop-other : (clients : List ℕ) (r g : ℕ) → g < clientWidth → ((r ≡ q) × (from ≤ g) × (g < from + n) → ⊥) → clientWord (turns turn n clients) r g ≡ clientWord clients r g
   loop-other clients r g k d =
       turns-keep-below turn (λ xs. clientWord xs r g ≡ clientWord clients r g) n
-      (λ i xs l e. either (λ ys. clientWord ys r g ≡ clientWord clients r g) (p i)
+      (λ i l xs e. either (λ ys. clientWord ys r g ≡ clientWord clients r g) (p i)
       (word-other clientWidth xs q (from + i) (value i) r g (omega arith) k (λ y. d (y .0, omega (arith, y .1), omega (arith, y .1))) ∙ e) e)
       clients refl
 
   pub loop-length : (clients : List ℕ) → length (turns turn n clients) ≡ length clients
   loop-length clients =
       turns-keep-below turn (λ xs. length xs ≡ length clients) n
-      (λ i xs l e. either (λ ys. length ys ≡ length clients) (p i) (length-set xs (clientWidth * q + (from + i)) (value i) ∙ e) e)
+      (λ i l xs e. either (λ ys. length ys ≡ length clients) (p i) (length-set xs (clientWidth * q + (from + i)) (value i) ∙ e) e)
       clients refl
 
   -- and what the loop reaches holds its new value

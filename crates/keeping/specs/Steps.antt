@@ -1,12 +1,12 @@
 -- The theorems for the public steps: an accepted opening leaves sound tables, and each step on sound tables leaves sound tables, refused or accepted.
-use Prim.Native.Nat.{ℕ, zero, suc}
-use mathlib.Core.Path.{_≡_, refl, sym, ap}
-use mathlib.Core.Bool.{Bool, true, false, not, true≢false}
+use Prim.Native.Nat.{ℕ}
+use mathlib.Core.Path.{_≡_, refl}
+use mathlib.Core.Bool.{Bool, not}
 use mathlib.Core.List.{List}
 use lib.Dec.{leb}
+use Rattle.tables.specs.Layout.{lastStep}
 use Rattle.tables.specs.Tables.{Tables, stepOf}
-use Rattle.rules.specs.declared.Answer.{Answer}
-use Rattle.rules.specs.declared.Answer.the-variants.{Ok, Refused}
+use Rattle.rules.specs.declared.Answer.the-variants.{Ok}
 use Rattle.rules.specs.Answers.{left}
 use Rattle.rules.specs.Open.{opened}
 use Rattle.rules.specs.Begin.{begunWrite, begunRead}
@@ -14,7 +14,8 @@ use Rattle.rules.specs.Request.{requestDelivered}
 use Rattle.rules.specs.Reply.{replyDelivered}
 use Rattle.soundness.specs.Facts.{Sound}
 use Rattle.refusals.specs.Refusals.{atLastStep, openRefusal, writeRefusal, readRefusal, deliveryRefusal}
-use Rattle.refusals.specs.Steps.{unless, unlessArrived, open′, beginWrite, beginRead, deliverRequest, deliverReply}
+use Rattle.refusals.specs.Steps.{open′, beginWrite, beginRead, deliverRequest, deliverReply}
+use Rattle.refusals.specs.Either.{by-refusal, by-refusal-arrived, unstopped}
 use Rattle.keeping.specs.Frame.{Kept, kept-same}
 use Rattle.keeping.specs.Opening.{opened-sound}
 use Rattle.keeping.specs.BeginWrite.{begunWrite-kept}
@@ -24,78 +25,52 @@ use Rattle.keeping.specs.Replies.{replyDelivered-kept}
 
 -- whether a step may follow a step number: the last is 2^32 − 1
 abbrev pub mayStep : ℕ → Bool
-mayStep step = not (leb 4294967295 step)
+mayStep step = not (leb lastStep step)
 
 pub may-step : (t : Tables) → mayStep (stepOf t) ≡ not (atLastStep t)
 may-step t = refl
 
--- an answer is *ok* or not
-abbrev isOk : Answer → Bool
-isOk Ok = true
-isOk (Refused n) = false
-
 module _ (m k p : ℕ) (setpoints : List ℕ) (t : Tables) where
   -- an opening that answers *ok* leaves sound tables, whatever stood there
-  open-accepted : (n : ℕ) → openRefusal m k p setpoints t ≡ n → unless n (left Ok (opened m k p setpoints t)) t .answer ≡ Ok → Sound (unless n (left Ok (opened m k p setpoints t)) t .tables)
-  open-accepted zero e a = opened-sound m k p setpoints t e
-  open-accepted (suc n) e a = absurd (true≢false (sym (ap isOk a)))
-
   pub open-sound : open′ m k p setpoints t .answer ≡ Ok → Sound (open′ m k p setpoints t .tables)
   unfolding open′
-  open-sound a = open-accepted (openRefusal m k p setpoints t) refl a
+  open-sound a =
+      let none : openRefusal m k p setpoints t ≡ 0 = unstopped (openRefusal m k p setpoints t) (opened m k p setpoints t) t a in
+      rw none (opened-sound m k p setpoints t none)
 
   -- and one that is refused leaves them as sound as they were
-  open-either : Sound t → (n : ℕ) → openRefusal m k p setpoints t ≡ n → Sound (unless n (left Ok (opened m k p setpoints t)) t .tables)
-  open-either s zero e = opened-sound m k p setpoints t e
-  open-either s (suc n) e = s
-
   pub open-keeps : Sound t → Sound (open′ m k p setpoints t .tables)
   unfolding open′
-  open-keeps s = open-either s (openRefusal m k p setpoints t) refl
+  open-keeps s = by-refusal (λ x. Sound (x .tables)) (openRefusal m k p setpoints t) (left Ok (opened m k p setpoints t)) t (λ n e. s) (opened-sound m k p setpoints t)
 
 module _ (q mask : ℕ) (setpoints : List ℕ) (t : Tables) (s : Sound t) where
-  write-either : (n : ℕ) → writeRefusal q mask setpoints t ≡ n → Kept q t (unless n (left Ok (begunWrite q mask setpoints t)) t .tables)
-  write-either zero e = begunWrite-kept q mask setpoints t s e
-  write-either (suc n) e = kept-same q t s
-
   pub beginWrite-kept : Kept q t (beginWrite q mask setpoints t .tables)
   unfolding beginWrite
-  beginWrite-kept = write-either (writeRefusal q mask setpoints t) refl
+  beginWrite-kept =
+      by-refusal (λ x. Kept q t (x .tables)) (writeRefusal q mask setpoints t) (left Ok (begunWrite q mask setpoints t)) t (λ n e. kept-same q t s) (begunWrite-kept q mask setpoints t s)
 
   pub beginWrite-sound : Sound (beginWrite q mask setpoints t .tables)
   beginWrite-sound = beginWrite-kept .sound
 
 module _ (q mask : ℕ) (t : Tables) (s : Sound t) where
-  read-either : (n : ℕ) → readRefusal q mask t ≡ n → Kept q t (unless n (left Ok (begunRead q mask t)) t .tables)
-  read-either zero e = begunRead-kept q mask t s e
-  read-either (suc n) e = kept-same q t s
-
   pub beginRead-kept : Kept q t (beginRead q mask t .tables)
   unfolding beginRead
-  beginRead-kept = read-either (readRefusal q mask t) refl
+  beginRead-kept = by-refusal (λ x. Kept q t (x .tables)) (readRefusal q mask t) (left Ok (begunRead q mask t)) t (λ n e. kept-same q t s) (begunRead-kept q mask t s)
 
   pub beginRead-sound : Sound (beginRead q mask t .tables)
   beginRead-sound = beginRead-kept .sound
 
 module _ (q i : ℕ) (t : Tables) (s : Sound t) where
-  request-either : (n : ℕ) → deliveryRefusal q i t ≡ n → Kept q t (unless n (requestDelivered q i t) t .tables)
-  request-either zero e = requestDelivered-kept q i t s e
-  request-either (suc n) e = kept-same q t s
-
   pub deliverRequest-kept : Kept q t (deliverRequest q i t .tables)
   unfolding deliverRequest
-  deliverRequest-kept = request-either (deliveryRefusal q i t) refl
+  deliverRequest-kept = by-refusal (λ x. Kept q t (x .tables)) (deliveryRefusal q i t) (requestDelivered q i t) t (λ n e. kept-same q t s) (requestDelivered-kept q i t s)
 
   pub deliverRequest-sound : Sound (deliverRequest q i t .tables)
   deliverRequest-sound = deliverRequest-kept .sound
 
-  reply-either : (n : ℕ) → deliveryRefusal q i t ≡ n → Kept q t (unlessArrived n (replyDelivered q i t) t .tables)
-  reply-either zero e = replyDelivered-kept q i t s e
-  reply-either (suc n) e = kept-same q t s
-
   pub deliverReply-kept : Kept q t (deliverReply q i t .tables)
   unfolding deliverReply
-  deliverReply-kept = reply-either (deliveryRefusal q i t) refl
+  deliverReply-kept = by-refusal-arrived (λ x. Kept q t (x .tables)) (deliveryRefusal q i t) (replyDelivered q i t) t (λ n e. kept-same q t s) (replyDelivered-kept q i t s)
 
   pub deliverReply-sound : Sound (deliverReply q i t .tables)
   deliverReply-sound = deliverReply-kept .sound

@@ -1,15 +1,33 @@
 -- Laws of the texts: how they are printed part by part, and how long they are.
 use Prim.Native.Nat.{ℕ, _+_, _/_, _%_, _≤_, _<_}
 use mathlib.Core.Path.{_≡_, refl, sym}
+use mathlib.Core.Bool.{Bool, true, false}
 use mathlib.Core.List.{List, [], _∷_, _++_}
-use native.Mathlib.Omega.{arith}
 use lib.ListN.{length, take, getD, length-append}
+use borrow.Author.Tests.{eq-eqb, ne-eqb}
 use Rattle.schedule.specs.Decimal.{decimal, spacedAll}
 use Rattle.schedule.specs.DecimalLaws.{decimal-one, decimal-more, spaced-more}
 use Rattle.ranges.specs.Turns.{turns-none, turns-more}
-use Rattle.printing.specs.Texts.{spaced, shownText, shownBelow}
+use Rattle.keys.specs.Masks.{hasServer}
+use Rattle.printing.specs.Texts.{spaced, pairText, shownText, shownBelow, endText}
 use Rattle.printing.specs.Printed.{Printed}
 use Rattle.printing.specs.PrintedLaws.{printed-none, printed-then}
+
+-- the text of a server, by what was asked of the mask
+module _ (mask : ℕ) (setpoints : List ℕ) (server : ℕ) {has : Bool} (m : has ≡ hasServer mask server) where
+  pub server-shown : has ≡ true → shownText mask setpoints server ≡ pairText server (getD setpoints server 0)
+  server-shown e = rw (← m, e)
+
+  pub server-passed : has ≡ false → shownText mask setpoints server ≡ []
+  server-passed e = rw (← m, e)
+
+-- the text of an end
+module _ (end : ℕ) where
+  pub no-end : end ≡ 0 → endText end ≡ 32 ∷ 45 ∷ []
+  no-end e = rw (eq-eqb end 0 e)
+
+  pub some-end : (end ≡ 0 → ⊥) → endText end ≡ spaced end
+  some-end d = rw (ne-eqb end 0 d)
 
 -- a number of one digit
 module _ (n : ℕ) (h : n < 10) where

@@ -1,10 +1,10 @@
 -- Whether every number below n passes a test, and whether any does.
-use Prim.Native.Nat.{ℕ, zero, suc, _+_, _<_}
+use Prim.Native.Nat.{ℕ, zero, suc, _+_, _≤_, _<_}
 use mathlib.Core.Path.{_≡_, refl, sym}
-use mathlib.Core.Bool.{Bool, true, false, _&&_, _||_, true≢false, or-true}
+use mathlib.Core.Bool.{Bool, true, false, not, _&&_, _||_, true≢false, or-true}
 use native.Mathlib.Omega.{arith}
 use native.Mathlib.Numerals.{add-one}
-use Rattle.ranges.specs.Tests.{by-equal, by-test, not-both, both, both-left, both-right}
+use Rattle.ranges.specs.Tests.{by-equal, by-test, not-both, both, both-left, both-right, fails, holds}
 
 unfoldable pub allBelow : (ℕ → Bool) → ℕ → Bool
 allBelow p zero = true
@@ -72,6 +72,24 @@ module _ (p : ℕ → Bool) where
       (λ b. let f = any-of n b in (f .0, omega arith, f .2))
       (λ b. (n, omega arith, rw b at a))
 
+-- A loop that asks a test of each number below n, as the code meets it: r is what it answered at i, and m how the definition names n.
+module _ (p : ℕ → Bool) (i : ℕ) where
+  -- the test passed at i
+  pub all-next : {r : Bool} → allBelow p i ≡ true → r ≡ p i → not r ≡ false → allBelow p (i + 1) ≡ true
+  all-next a d e = all-more p i a (holds d e)
+
+  -- the test failed at i
+  pub all-stop : {r : Bool} {n m : ℕ} → n ≡ m → i < n → r ≡ p i → not r ≡ true → false ≡ allBelow p m
+  all-stop {r} {n} {m} s h d e = sym (all-not p m i (omega arith) (fails d e))
+
+  -- the loop came to its end
+  pub all-end : {n m : ℕ} → n ≡ m → i ≤ n → n ≤ i → allBelow p i ≡ true → true ≡ allBelow p m
+  all-end {n} {m} s h g a = let e : i ≡ m = omega arith in rw (← e) (sym a)
+
+  -- and one that looks for a number that passes found none
+  pub any-end : {n : ℕ} → i ≤ n → n ≤ i → anyBelow p i ≡ false → false ≡ anyBelow p n
+  any-end {n} h g a = let e : i ≡ n = omega arith in rw (← e) (sym a)
+
 -- two tests that agree below n
 module _ (p q : ℕ → Bool) where
   pub all-same : (n : ℕ) → ((i : ℕ) → i < n → p i ≡ q i) → allBelow p n ≡ allBelow q n
@@ -83,3 +101,15 @@ module _ (p q : ℕ → Bool) where
   unfolding anyBelow
   any-same zero h = refl
   any-same (suc n) h = rw (any-same n (λ i l. h i (omega arith)), h n (omega arith))
+
+-- two tests asked together, or each of its own
+pub all-both : (p q : ℕ → Bool) (n : ℕ) → allBelow (λ i. p i && q i) n ≡ (allBelow p n && allBelow q n)
+unfolding allBelow
+all-both p q zero = refl
+all-both p q (suc n) = rw (all-both p q n) (swap (allBelow p n) (allBelow q n) (p n) (q n))
+  where
+    swap : (a b c d : Bool) → ((a && b) && (c && d)) ≡ ((a && c) && (b && d))
+    swap true true c d = refl
+    swap true false true d = refl
+    swap true false false d = refl
+    swap false b c d = refl

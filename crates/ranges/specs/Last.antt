@@ -1,6 +1,6 @@
 -- The last number below n that passes a test.
-use Prim.Native.Nat.{ℕ, zero, suc, _+_, _-_, _≤_, _<_}
-use mathlib.Core.Path.{_≡_, refl, sym, _∙_}
+use Prim.Native.Nat.{ℕ, zero, suc, _+_, _≤_, _<_}
+use mathlib.Core.Path.{_≡_, refl}
 use mathlib.Core.Bool.{Bool, true, false, cond}
 use native.Mathlib.Omega.{arith}
 use native.Mathlib.Numerals.{add-one}
@@ -64,17 +64,3 @@ pub last-same : (p q : ℕ → Bool) (n : ℕ) → ((i : ℕ) → i < n → p i 
 unfolding lastBelow
 last-same p q zero h = refl
 last-same p q (suc n) h = rw (last-same p q n (λ i l. h i (omega arith)), h n (omega arith))
-
--- A search by a loop goes down from n and has come to m: what it looks for is below m.
-module _ (p : ℕ → Bool) (n m : ℕ) (same : lastBelow p n ≡ lastBelow p m) where
-  down-one : 0 < m → m - 1 + 1 ≡ m
-  down-one h = omega arith
-
-  pub down-found : 0 < m → p (m - 1) ≡ true → m - 1 ≡ lastBelow p n
-  down-found h e = sym (same ∙ (rw (down-one h) at (last-here p (m - 1) e)))
-
-  pub down-past : 0 < m → p (m - 1) ≡ false → lastBelow p n ≡ lastBelow p (m - 1)
-  down-past h e = same ∙ (rw (down-one h) at (last-before p (m - 1) e))
-
-  pub down-end : m ≡ 0 → 0 ≡ lastBelow p n
-  down-end e = sym (same ∙ rw e (last-none p))

@@ -1,5 +1,6 @@
 -- Folds over the numbers below n, each as a definition with its laws. Everything above cites these; nothing above proves such an induction again.
 pub mod Tests
+pub mod Every
 pub mod All
 pub mod Sum
 pub mod First
@@ -7,3 +8,4 @@ pub mod Last
 pub mod Turns
 pub mod Picked
 pub mod Words
+pub mod Each

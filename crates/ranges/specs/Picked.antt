@@ -1,7 +1,7 @@
 -- A loop that takes a turn only for the numbers that pass a test, as for the stations of a mask: what it leaves at each place, once for every table.
 -- A loop over all numbers is the one whose test is always true.
 use Prim.Native.Nat.{ℕ, zero, suc, _≤_, _<_}
-use mathlib.Core.Path.{_≡_, refl, sym, _∙_}
+use mathlib.Core.Path.{_≡_, refl, _∙_}
 use mathlib.Core.Bool.{Bool, true, false, cond}
 use native.Mathlib.Omega.{arith}
 use Rattle.ranges.specs.Tests.{either, by-equal, not-both}

@@ -1,7 +1,7 @@
 -- The sum of f over the numbers below n, and how many of them pass a test: a sum of ones.
 use Prim.Native.Nat.{ℕ, zero, suc, _+_, _*_, _≤_, _<_}
-use mathlib.Core.Path.{_≡_, refl, ap}
-use mathlib.Core.Bool.{Bool, true, false}
+use mathlib.Core.Path.{_≡_, refl}
+use mathlib.Core.Bool.{Bool, true, false, not}
 use native.Mathlib.Nat.{suc-mul}
 use native.Mathlib.Omega.{arith}
 use native.Mathlib.Numerals.{add-one}
@@ -34,12 +34,6 @@ module _ (f : ℕ → ℕ) where
   sum-part zero j h = omega arith
   sum-part (suc n) j h = by-equal j n (λ e. rw e (omega arith)) (λ d. omega (arith, sum-part n j (omega arith)))
 
-  -- a longer sum is no less
-  pub sum-longer : (n m : ℕ) → n ≤ m → sumBelow f n ≤ sumBelow f m
-  unfolding sumBelow
-  sum-longer n zero h = let e : n ≡ 0 = omega arith in rw e (omega arith)
-  sum-longer n (suc m) h = by-equal n (suc m) (λ e. rw e (omega arith)) (λ d. omega (arith, sum-longer n m (omega arith)))
-
   -- each part at most b: the sum at most n times b
   pub sum-most : (b n : ℕ) → ((i : ℕ) → i < n → f i ≤ b) → sumBelow f n ≤ n * b
   unfolding sumBelow
@@ -55,6 +49,24 @@ module _ (f g : ℕ → ℕ) where
   unfolding sumBelow
   sum-same zero h = refl
   sum-same (suc n) h = rw (sum-same n (λ i l. h i (omega arith)), h n (omega arith))
+
+-- a sum taken in two parts
+pub sum-add : (f g h : ℕ → ℕ) (n : ℕ) → ((i : ℕ) → i < n → h i ≡ f i + g i) → sumBelow h n ≡ sumBelow f n + sumBelow g n
+unfolding sumBelow
+sum-add f g h zero e = refl
+sum-add f g h (suc n) e = omega (arith, sum-add f g h n (λ i l. e i (omega arith)), e n (omega arith))
+
+-- where each part is 0, the sum is
+pub sum-nothing : (f : ℕ → ℕ) (n : ℕ) → ((i : ℕ) → i < n → f i ≡ 0) → sumBelow f n ≡ 0
+unfolding sumBelow
+sum-nothing f zero e = refl
+sum-nothing f (suc n) e = omega (arith, sum-nothing f n (λ i l. e i (omega arith)), e n (omega arith))
+
+-- what passes and what fails are all
+pub count-both : (p : ℕ → Bool) (n : ℕ) → countBelow (λ i. not (p i)) n + countBelow p n ≡ n
+unfolding sumBelow
+count-both p zero = refl
+count-both p (suc n) = by-test (p n) (λ e. rw e (omega (arith, count-both p n))) (λ e. rw e (omega (arith, count-both p n)))
 
 -- one place set: the sum moves by what that place moves
 pub sum-set : (f g : ℕ → ℕ) (n j : ℕ) → j < n → ((i : ℕ) → i < n → (i ≡ j → ⊥) → f i ≡ g i) → sumBelow f n + g j ≡ sumBelow g n + f j
@@ -82,10 +94,6 @@ module _ (p : ℕ → Bool) where
   -- at most n of n pass
   pub count-most : (n : ℕ) → countBelow p n ≤ n
   count-most n = omega (arith, sum-most (λ i. one (p i)) 1 n (λ i l. one-most (p i)))
-
-  -- where none counts, each fails
-  pub count-none : (n : ℕ) → countBelow p n ≡ 0 → (i : ℕ) → i < n → p i ≡ false
-  count-none n e i h = by-test (p i) (λ t. let z : ⊥ = omega (arith, sum-zero (λ j. one (p j)) n e i h, one-true t) in absurd z) (λ t. t)
 
   -- one number more, as a loop that counts meets it
   pub count-zero : countBelow p 0 ≡ 0

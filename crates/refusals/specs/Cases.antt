@@ -4,9 +4,10 @@ use mathlib.Core.Path.{_≡_}
 use mathlib.Core.Bool.{Bool, true, false, _||_}
 use mathlib.Core.List.{List}
 use lib.ListN.{length}
-use lib.Dec.{leb, eqb}
-use borrow.Author.Tests.{le-leb, lt-leb, eq-eqb, ne-eqb}
-use Rattle.tables.specs.Layout.{countAt, countWords, clientsField, serversField, stepField, clientWidth, recordPlaces}
+use lib.Dec.{leb}
+use borrow.Author.Tests.{le-leb, lt-leb}
+use Rattle.tables.specs.Layout.{countAt, countWords, lastStep, clientsField, serversField, stepField, clientWidth, recordPlaces}
+use Rattle.refusals.specs.Refusals.{beginFault, deliverFault}
 
 -- what judging relies on: the counts, and a row for each client
 pub record Judged (counts clients : List ℕ) : Type 0 where
@@ -16,24 +17,28 @@ pub record Judged (counts clients : List ℕ) : Type 0 where
 
 -- no record's place of a kind is left, or no step number
 abbrev pub isSpent : List ℕ → ℕ → Bool
-isSpent counts kind = leb recordPlaces (countAt counts kind) || leb 4294967295 (countAt counts stepField)
+isSpent counts kind = leb recordPlaces (countAt counts kind) || leb lastStep (countAt counts stepField)
 
--- a test of a word that was read
-module _ {m n v : ℕ} (e : n ≡ m) where
-  pub most : n ≤ v → leb m v ≡ true
-  most h = rw (← e) (le-leb n v h)
+-- n is the number of records of the kind, as it was read
+module _ (counts : List ℕ) (kind : ℕ) {n : ℕ} (e : n ≡ countAt counts kind) where
+  pub no-place : recordPlaces ≤ n → true ≡ isSpent counts kind
+  no-place h = rw (← e, le-leb recordPlaces n h)
 
-  pub above : v < n → leb m v ≡ false
-  above h = rw (← e) (lt-leb n v h)
+  pub place-left : {step : ℕ} → step ≡ countAt counts stepField → n < recordPlaces → leb lastStep step ≡ isSpent counts kind
+  place-left d h = rw (← e, ← d, lt-leb recordPlaces n h)
 
-  pub least : v ≤ n → leb v m ≡ true
-  least h = rw (← e) (le-leb v n h)
+-- a begin whose client is there, may begin, is idle and asks what fits: 7 where it is spent, else accepted
+module _ {absent barred free fits spent : Bool} (a : absent ≡ false) (b : barred ≡ false) (f : free ≡ true) (m : fits ≡ true) where
+  pub refused-7 : spent ≡ true → 7 ≡ beginFault absent barred free fits spent
+  refused-7 s = rw (a, b, f, m, s)
 
-  pub under : n < v → leb v m ≡ false
-  under h = rw (← e) (lt-leb v n h)
+  pub begins : spent ≡ false → 0 ≡ beginFault absent barred free fits spent
+  begins s = rw (a, b, f, m, s)
 
-  pub is : n ≡ v → eqb m v ≡ true
-  is h = rw (← e) (eq-eqb n v h)
+-- a delivery for a client and a target that are there: 7 at the last step, else accepted
+module _ {absent known last : Bool} (a : absent ≡ false) (k : known ≡ true) where
+  pub no-step-left : last ≡ true → 7 ≡ deliverFault absent known last
+  no-step-left l = rw (a, k, l)
 
-  pub is-not : (n ≡ v → ⊥) → eqb m v ≡ false
-  is-not h = rw (← e) (ne-eqb n v h)
+  pub delivers : last ≡ false → 0 ≡ deliverFault absent known last
+  delivers l = rw (a, k, l)

@@ -1,4 +1,5 @@
 -- The refusals in their order, and the five public steps as definitions.
 pub mod Refusals
 pub mod Steps
+pub mod Either
 pub mod Cases

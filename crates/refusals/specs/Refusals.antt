@@ -1,11 +1,11 @@
 -- "Refused": for each step the causes in the order of their numbers, 0 where none refuses. Numbers 8 and 9 are found by the delivery itself, in `rules`.
 use Prim.Native.Nat.{ℕ}
-use mathlib.Core.Bool.{Bool, true, false, cond, not, _&&_, _||_}
+use mathlib.Core.Bool.{Bool, cond, not, _&&_, _||_}
 use mathlib.Core.List.{List}
 use lib.ListN.{length}
 use lib.Dec.{eqb, leb, ltb}
 use Rattle.keys.specs.Masks.{maskWithin}
-use Rattle.tables.specs.Layout.{recordPlaces}
+use Rattle.tables.specs.Layout.{lastStep, recordPlaces}
 use Rattle.tables.specs.Tables.{Tables, methodOf, serversOf, clientsOf, stepOf, writesOf, readsOf, stateOf}
 use Rattle.rules.specs.Common.{idle, coordinator}
 use Rattle.soundness.specs.Sound.{longEnough, pressFits, sound}
@@ -18,7 +18,7 @@ openRefusal method k p setpoints t =
 
 -- 7 "any step but an opening at step number 2^32 − 1"
 abbrev pub atLastStep : Tables → Bool
-atLastStep t = leb 4294967295 (stepOf t)
+atLastStep t = leb lastStep (stepOf t)
 
 -- 3 "no such panel or target", 4 "method 1: panel 0 writes, another reads", 5 "panel not idle",
 -- 6 "mask zero or beyond k; not k setpoints in a WRITE", 7 "255 WRITEs (or, for a READ, READs) begun; any step … at step number 2^32 − 1"
@@ -40,10 +40,12 @@ isTargetOf k i = ltb i k || eqb i coordinator
 abbrev pub isTarget : Tables → ℕ → Bool
 isTarget t i = isTargetOf (serversOf t) i
 
+-- 3, then 7
+abbrev pub deliverFault : Bool → Bool → Bool → ℕ
+deliverFault absent known last = cond (absent || not known) 3 (cond last 7 0)
+
 abbrev pub deliveryFault : ℕ → ℕ → Tables → ℕ
-deliveryFault q i t =
-    cond (leb (clientsOf t) q || not (isTarget t i)) 3
-    (cond (atLastStep t) 7 0)
+deliveryFault q i t = deliverFault (leb (clientsOf t) q) (isTarget t i) (atLastStep t)
 
 -- 2 "tables not sound" stands ahead of these
 unfoldable pub writeRefusal : ℕ → ℕ → List ℕ → Tables → ℕ

@@ -10,8 +10,11 @@ ghost use Rattle.tables.specs.Layout.{countWords};
 ghost use Rattle.tables.specs.Tables.{tablesOf};
 ghost use Rattle.refusals.specs.Refusals.{isTargetOf, writeFault, readFault, deliveryFault};
 ghost use Rattle.refusals.specs.Cases.{Judged, isSpent};
+use rules::states;
 use tables::clients;
 use tables::counts;
+use tables::links;
+use tables::records;
 
 // Whether a number names a target: a server below their number, or the coordinator.
 pub fn is_target(servers: u32, target: u32) -> bool
@@ -20,7 +23,7 @@ pub fn is_target(servers: u32, target: u32) -> bool
     if target < servers {
         return true;
     }
-    target == 16
+    target == links::COORDINATOR as u32
 }
 
 // A delivery: no such client or target, or the last step.
@@ -34,7 +37,7 @@ pub fn delivery_fault(counts: &[u32], client: u32, target: u32) -> u8
     if !is_target(counts::count_at(counts, counts::SERVERS), target) {
         return 3;
     }
-    if 4294967295 <= counts::count_at(counts, counts::STEP) {
+    if counts::LAST_STEP <= counts::count_at(counts, counts::STEP) {
         return 7;
     }
     0
@@ -64,10 +67,10 @@ fn is_spent(counts: &[u32], kind: usize) -> bool
     requires { ⌜ (countWords ≤ length (now counts)) × (kind < countWords) ⌝ }
     ensures { λ r. ⌜ r ≡ isSpent (now (counts .entry)) kind ⌝ }
 {
-    if 255 <= counts::count_at(counts, kind) {
+    if records::PLACES as u32 <= counts::count_at(counts, kind) {
         return true;
     }
-    4294967295 <= counts::count_at(counts, counts::STEP)
+    counts::LAST_STEP <= counts::count_at(counts, counts::STEP)
 }
 
 // Whether a WRITE has a mask within the servers, and a setpoint for each of them.
@@ -92,7 +95,7 @@ pub fn write_fault(counts: &[u32], clients: &[u32], client: u32, mask: u32, give
     if may_not_write(counts::count_at(counts, counts::METHOD), client) {
         return 4;
     }
-    if clients::client_word(clients, client as usize, clients::STATE) != 0 {
+    if clients::client_word(clients, client as usize, clients::STATE) != states::IDLE {
         return 5;
     }
     if !fits_write(mask, given, counts::count_at(counts, counts::SERVERS)) {
@@ -115,7 +118,7 @@ pub fn read_fault(counts: &[u32], clients: &[u32], client: u32, mask: u32) -> u8
     if may_not_read(counts::count_at(counts, counts::METHOD), client) {
         return 4;
     }
-    if clients::client_word(clients, client as usize, clients::STATE) != 0 {
+    if clients::client_word(clients, client as usize, clients::STATE) != states::IDLE {
         return 5;
     }
     if !keys::mask_within(mask, counts::count_at(counts, counts::SERVERS)) {

@@ -1,20 +1,20 @@
 -- An end of 0 is none.
-use borrow.Author.Tests.{eq-eqb, ne-eqb}
 use native.Mathlib.Omega.{arith}
+use Rattle.printing.specs.TextLaws.{no-end, some-end}
 use borrow.Author.Needs.{needs}
 use Rattle.printing.proofs.print_end.Statement.{statement}
 use Rattle.printing.proofs.print_end.Tie as tie
 
 returns : tie.Need-returns
 returns c = (
-  rw (eq-eqb _ _ (c .before .before .before .before .before .if1 .taken)) (c .before .before .print-bytes .ensures),
+  rw (no-end _ (c .before .before .before .before .before .if1 .taken)) (c .before .before .print-bytes .ensures),
   omega
       (arith, c .before .before .print-bytes .ensures .end),
 )
 
 returns-2 : tie.Need-returns-2
 returns-2 c = (
-  rw (ne-eqb _ _ (c .before .before .before .before .if1 .left))
+  rw (some-end _ (c .before .before .before .before .if1 .left))
       (c .before .before .print-spaced .ensures .0),
   c .before .before .print-spaced .ensures .1,
 )

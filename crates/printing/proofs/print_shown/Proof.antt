@@ -1,21 +1,21 @@
 -- The mask decides whether there is a text.
-use mathlib.Core.Path.{sym, _∙_}
 use native.Mathlib.Omega.{arith}
 use Rattle.printing.specs.PrintedLaws.{printed-none}
+use Rattle.printing.specs.TextLaws.{server-shown, server-passed}
 use borrow.Author.Needs.{needs}
 use Rattle.printing.proofs.print_shown.Statement.{statement}
 use Rattle.printing.proofs.print_shown.Tie as tie
 
 returns : tie.Need-returns
 returns c = (
-  rw (sym (c .before .before .before .before .before .before .has-server .ensures) ∙ c .before .before .before .before .before .if1 .taken)
+  rw (server-shown (c .before .before .before .before .before .before .before .before .before .args .mask) (c .before .before .before .before .before .before .before .before .before .args .setpoints .now) (c .before .before .before .before .before .before .before .before .before .args .server) (c .before .before .before .before .before .before .has-server .ensures) (c .before .before .before .before .before .if1 .taken))
       (c .before .before .print-pair .ensures .0),
   c .before .before .print-pair .ensures .1,
 )
 
 returns-2 : tie.Need-returns-2
 returns-2 c = (
-  rw (sym (c .before .has-server .ensures) ∙ c .if1 .left)
+  rw (server-passed (c .before .before .before .before .args .mask) (c .before .before .before .before .args .setpoints .now) (c .before .before .before .before .args .server) (c .before .has-server .ensures) (c .if1 .left))
       (printed-none (c .before .before .before .before .args .out .now) (c .before .before .before .before .args .at) (omega arith)),
   omega arith,
 )

@@ -1,7 +1,10 @@
 -- `refusals::delivery_fault` meets its contract: each way out is one value of the tests in their order.
-use mathlib.Core.Path.{sym, _∙_}
-use borrow.Author.Tests.{not-true, not-false}
-use Rattle.refusals.specs.Cases.{most, above, least, under}
+use Prim.Native.Nat.{ℕ}
+use mathlib.Core.Path.{sym, ap, _∙_}
+use borrow.Author.Tests.{not-true}
+use Rattle.ranges.specs.Tests.{holds, most, above, least, under}
+use Rattle.refusals.specs.Refusals.{isTargetOf}
+use Rattle.refusals.specs.Cases.{no-step-left, delivers}
 use borrow.Author.Needs.{needs}
 use Rattle.refusals.proofs.delivery_fault.Statement.{statement}
 use Rattle.refusals.proofs.delivery_fault.Tie as tie
@@ -14,10 +17,10 @@ returns-2 : tie.Need-returns-2
 returns-2 c = λ clients links keys values log writes reads. rw (above (c .before .before .before .before .count-at .ensures) (c .before .before .before .if1 .left), ← c .before .before .count-at2 .ensures, sym (c .before .is-target .ensures) ∙ not-true _ (c .if2 .taken))
 
 returns-3 : tie.Need-returns-3
-returns-3 c = λ clients links keys values log writes reads. rw (above (c .before .before .before .before .before .before .count-at .ensures) (c .before .before .before .before .before .if1 .left), ← c .before .before .before .before .count-at2 .ensures, sym (c .before .before .before .is-target .ensures) ∙ not-false _ (c .before .before .if2 .left), least (c .before .count-at3 .ensures) (c .if3 .taken))
+returns-3 c = λ clients links keys values log writes reads. no-step-left (above (c .before .before .before .before .before .before .count-at .ensures) (c .before .before .before .before .before .if1 .left)) (holds (c .before .before .before .is-target .ensures ∙ ap (λ (k : ℕ). isTargetOf k (c .before .before .before .before .before .before .before .before .args .target)) (c .before .before .before .before .count-at2 .ensures)) (c .before .before .if2 .left)) (least (c .before .count-at3 .ensures) (c .if3 .taken))
 
 returns-4 : tie.Need-returns-4
-returns-4 c = λ clients links keys values log writes reads. rw (above (c .before .before .before .before .before .before .count-at .ensures) (c .before .before .before .before .before .if1 .left), ← c .before .before .before .before .count-at2 .ensures, sym (c .before .before .before .is-target .ensures) ∙ not-false _ (c .before .before .if2 .left), under (c .before .count-at3 .ensures) (c .if3 .left))
+returns-4 c = λ clients links keys values log writes reads. delivers (above (c .before .before .before .before .before .before .count-at .ensures) (c .before .before .before .before .before .if1 .left)) (holds (c .before .before .before .is-target .ensures ∙ ap (λ (k : ℕ). isTargetOf k (c .before .before .before .before .before .before .before .before .args .target)) (c .before .before .before .before .count-at2 .ensures)) (c .before .before .if2 .left)) (under (c .before .count-at3 .ensures) (c .if3 .left))
 
 pub delivery-fault-spec : {M : Type 1} → statement M
 delivery-fault-spec =

@@ -11,4 +11,4 @@ returns-2 : tie.Need-returns-2
 returns-2 c = rw (le-ltb _ _ (c .if1 .left))
 
 pub is-target-spec : {M : Type 1} → statement M
-is-target-spec = tie.close (tie.spec returns returns-2)
+is-target-spec = tie.close (tie.spec returns (λ c. search needs) returns-2)

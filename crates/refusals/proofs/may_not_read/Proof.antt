@@ -1,6 +1,5 @@
 -- `refusals::may_not_read` meets its contract: each way out is one value of the first test.
 use borrow.Author.Tests.{eq-eqb, ne-eqb}
-use borrow.Author.Needs.{needs}
 use Rattle.refusals.proofs.may_not_read.Statement.{statement}
 use Rattle.refusals.proofs.may_not_read.Tie as tie
 

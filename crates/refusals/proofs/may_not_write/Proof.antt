@@ -1,6 +1,5 @@
 -- `refusals::may_not_write` meets its contract: each way out is one value of the first test.
 use borrow.Author.Tests.{eq-eqb, ne-eqb}
-use borrow.Author.Needs.{needs}
 use Rattle.refusals.proofs.may_not_write.Statement.{statement}
 use Rattle.refusals.proofs.may_not_write.Tie as tie
 

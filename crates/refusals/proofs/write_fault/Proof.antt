@@ -1,7 +1,12 @@
 -- `refusals::write_fault` meets its contract: each way out is one value of the tests in their order.
-use mathlib.Core.Path.{sym, _∙_}
-use borrow.Author.Tests.{not-true, not-false}
-use Rattle.refusals.specs.Cases.{most, above, is, is-not}
+use Prim.Native.Nat.{ℕ}
+use mathlib.Core.Path.{sym, ap, _∙_}
+use mathlib.Core.Bool.{_&&_}
+use lib.Dec.{eqb}
+use borrow.Author.Tests.{not-true}
+use Rattle.ranges.specs.Tests.{holds, most, above, is, is-not}
+use Rattle.keys.specs.Masks.{maskWithin}
+use Rattle.refusals.specs.Cases.{refused-7, begins}
 use borrow.Author.Needs.{needs}
 use Rattle.refusals.proofs.write_fault.Statement.{statement}
 use Rattle.refusals.proofs.write_fault.Tie as tie
@@ -20,10 +25,10 @@ returns-4 : tie.Need-returns-4
 returns-4 c = λ links keys values log writes reads. rw (above (c .before .before .before .before .before .before .before .before .before .count-at .ensures) (c .before .before .before .before .before .before .before .before .if1 .left), ← c .before .before .before .before .before .before .before .count-at2 .ensures, sym (c .before .before .before .before .before .before .may-not-write .ensures) ∙ c .before .before .before .before .before .if2 .left, is (c .before .before .before .before .client-word .ensures) (c .before .before .before .if3 .left), ← c .before .before .count-at3 .ensures, sym (c .before .fits-write .ensures) ∙ not-true _ (c .if4 .taken))
 
 returns-5 : tie.Need-returns-5
-returns-5 c = λ links keys values log writes reads. rw (above (c .before .before .before .before .before .before .before .before .before .before .before .count-at .ensures) (c .before .before .before .before .before .before .before .before .before .before .if1 .left), ← c .before .before .before .before .before .before .before .before .before .count-at2 .ensures, sym (c .before .before .before .before .before .before .before .before .may-not-write .ensures) ∙ c .before .before .before .before .before .before .before .if2 .left, is (c .before .before .before .before .before .before .client-word .ensures) (c .before .before .before .before .before .if3 .left), ← c .before .before .before .before .count-at3 .ensures, sym (c .before .before .before .fits-write .ensures) ∙ not-false _ (c .before .before .if4 .left), sym (c .before .is-spent .ensures) ∙ c .if5 .taken)
+returns-5 c = λ links keys values log writes reads. let a = c .before .before .before .before .before .before .before .before .before .before .before .before .before .before .args in refused-7 (above (c .before .before .before .before .before .before .before .before .before .before .before .count-at .ensures) (c .before .before .before .before .before .before .before .before .before .before .if1 .left)) (sym (c .before .before .before .before .before .before .before .before .may-not-write .ensures ∙ ap (λ (m : ℕ). eqb m 1 && eqb (a .client) 0) (c .before .before .before .before .before .before .before .before .before .count-at2 .ensures)) ∙ c .before .before .before .before .before .before .before .if2 .left) (is (c .before .before .before .before .before .before .client-word .ensures) (c .before .before .before .before .before .if3 .left)) (holds (c .before .before .before .fits-write .ensures ∙ ap (λ (k : ℕ). maskWithin (a .mask) k && eqb (a .given) k) (c .before .before .before .before .count-at3 .ensures)) (c .before .before .if4 .left)) (sym (c .before .is-spent .ensures) ∙ c .if5 .taken)
 
 returns-6 : tie.Need-returns-6
-returns-6 c = λ links keys values log writes reads. rw (above (c .before .before .before .before .before .before .before .before .before .before .before .count-at .ensures) (c .before .before .before .before .before .before .before .before .before .before .if1 .left), ← c .before .before .before .before .before .before .before .before .before .count-at2 .ensures, sym (c .before .before .before .before .before .before .before .before .may-not-write .ensures) ∙ c .before .before .before .before .before .before .before .if2 .left, is (c .before .before .before .before .before .before .client-word .ensures) (c .before .before .before .before .before .if3 .left), ← c .before .before .before .before .count-at3 .ensures, sym (c .before .before .before .fits-write .ensures) ∙ not-false _ (c .before .before .if4 .left), sym (c .before .is-spent .ensures) ∙ c .if5 .left)
+returns-6 c = λ links keys values log writes reads. let a = c .before .before .before .before .before .before .before .before .before .before .before .before .before .before .args in begins (above (c .before .before .before .before .before .before .before .before .before .before .before .count-at .ensures) (c .before .before .before .before .before .before .before .before .before .before .if1 .left)) (sym (c .before .before .before .before .before .before .before .before .may-not-write .ensures ∙ ap (λ (m : ℕ). eqb m 1 && eqb (a .client) 0) (c .before .before .before .before .before .before .before .before .before .count-at2 .ensures)) ∙ c .before .before .before .before .before .before .before .if2 .left) (is (c .before .before .before .before .before .before .client-word .ensures) (c .before .before .before .before .before .if3 .left)) (holds (c .before .before .before .fits-write .ensures ∙ ap (λ (k : ℕ). maskWithin (a .mask) k && eqb (a .given) k) (c .before .before .before .before .count-at3 .ensures)) (c .before .before .if4 .left)) (sym (c .before .is-spent .ensures) ∙ c .if5 .left)
 
 pub write-fault-spec : {M : Type 1} → statement M
 write-fault-spec =
