@@ -6,7 +6,7 @@ use mathlib.Core.List.{List, [], _∷_, _++_, map}
 use lib.Dec.{eqb}
 use Rattle.ranges.specs.Tests.{by-test}
 use Rattle.listing.specs.Register.{passing}
-use Rattle.listing.specs.Places.{Each}
+use Rattle.ranges.specs.Each.{Each}
 use Rattle.serial.specs.History.{Transaction}
 use Rattle.serial.specs.Row.{readsOf}
 use Rattle.register_order.specs.Order.{Particulars}

@@ -10,7 +10,7 @@ use Rattle.tables.specs.Tables.{Tables}
 use Rattle.rules.specs.declared.Answer.the-variants.{Ok, Refused}
 use Rattle.refusals.specs.Steps.{open′}
 use Rattle.listing.specs.Register.{Line, write, read, register}
-use Rattle.serial.specs.Steps.{Step, Event, opened, begun-write, begun-read, requested, replied, Played, Machine, run}
+use Rattle.serial.specs.Steps.{Step, Event, opened, begun-write, begun-read, requested, replied, Played, Machine, run, leftBy}
 use Rattle.serial.specs.History.{Transaction, openedWith, history}
 use Rattle.serial.specs.Row.{row}
 use Rattle.serial.specs.Consequences.{accepted}
@@ -72,11 +72,6 @@ abbrev pub told : List ℕ → Transaction → Particulars
 told numbers x = particulars (x .isWrite) (x .tag) (x .client) (cond (x .isWrite) 0 (x .mask)) (numberAt numbers (x .begin)) (endNumber numbers (x .end))
 
 -- ---- the claim
-
--- the tables that a list of steps leaves
-abbrev pub leftBy : List Played → Tables → Tables
-leftBy [] t = t
-leftBy (x ∷ xs) t = leftBy xs (x .tables)
 
 -- For every opening that is accepted and every list of steps behind it, "in any order and with any arguments, … refused ones and refused openings too": the
 -- register of the tables then left lists the transactions of the row, all of them and no other, in the row's order, with the same kinds, tags, panels,

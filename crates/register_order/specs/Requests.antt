@@ -33,7 +33,7 @@ use Rattle.keeping.specs.States.{by-state, masked-below, uses-writing, uses-ent
 use Rattle.keeping.specs.Moves.{counted-other, counted-step, counted-length}
 use Rattle.keeping.specs.Requests.{link-row, requestDelivered-kept}
 use Rattle.serial.specs.Steps.{requested, Played}
-use Rattle.serial.specs.History.{reading, History, atHead, after}
+use Rattle.serial.specs.History.{reading, History, atCoordinator, after}
 use Rattle.serial.specs.Consequences.{accepted}
 use Rattle.register_order.specs.Order.{numbered}
 use Rattle.register_order.specs.Agreement.{Activity, Agrees}
@@ -105,7 +105,7 @@ module _ (t : Tables) (h : History) (numbers : List ℕ) (a : Agrees t h numbers
       stored e =
           let x = activity .storing e in
           let server = masked-below (maskOf t q) (serversOf t) i (facts .mask) (rw (e, uses-writing) at used) in
-          let apart : atHead i ≡ false = ne-eqb i coordinator (λ z. omega (arith, a .sound .scalars .press .servers .most)) in
+          let apart : atCoordinator i ≡ false = ne-eqb i coordinator (λ z. omega (arith, a .sound .scalars .press .servers .most)) in
           let b = quiet-passed t left′ h numbers a q client k same-writes same-reads counts (be-storing left′ (more numbers (stepOf t + 1)) q (h .doing q) (state′ ∙ e) (untagged-on t left′ numbers (stepOf t + 1) q place′ (h .doing q) (λ f g. rw same-writes) x)) in
           answers (rw (apart, x .is) b)
 
@@ -115,7 +115,7 @@ module _ (t : Tables) (h : History) (numbers : List ℕ) (a : Agrees t h numbers
           let x = activity .reading e in
           let next = reading (x .mask) (x .begin) (suc (x .deliveries)) in
           let b = quiet-turned t left′ h numbers a q client k same-writes same-reads counts next (be-reading left′ (more numbers (stepOf t + 1)) q next (rw state′ e) (reading-on t left′ numbers (stepOf t + 1) q place′ (h .doing q) (λ f g. rw same-reads) x (suc (x .deliveries)))) in
-          answers (rw (x .is) (either (λ h′. Agrees left′ h′ (more numbers (stepOf t + 1))) (atHead i) b b))
+          answers (rw (x .is) (either (λ h′. Agrees left′ h′ (more numbers (stepOf t + 1))) (atCoordinator i) b b))
 
     module _ (w : Contents) where
       set-answers : stateOf t q ≡ rules.writing → Kept q t (onSet w q i t .tables) → AnswersRequest (onSet w q i t)

@@ -19,11 +19,11 @@ use Rattle.refusals.specs.Refusals.{openRefusal, writeRefusal, readRefusal, del
 use Rattle.refusals.specs.Steps as store
 use Rattle.listing.specs.Register.{placesBelow, passing, inserted, insertedAll, listedTo, register}
 use Rattle.listing.specs.Sample as listing
-use Rattle.serial.specs.Steps.{Played, play, run}
+use Rattle.serial.specs.Steps.{Played, play, run, leftBy}
 use Rattle.serial.specs.History.{changed, openedWith, history}
 use Rattle.serial.specs.Row.{readsOf, rowTo, row}
 use Rattle.serial.specs.Sample.{zeros, start, sample}
-use Rattle.register_order.specs.Order.{Particulars, particulars, described, told, stepNumbers, leftBy}
+use Rattle.register_order.specs.Order.{Particulars, particulars, described, told, stepNumbers}
 
 abbrev played : List Played
 played = run play sample start

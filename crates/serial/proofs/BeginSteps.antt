@@ -1,7 +1,7 @@
 -- Begins, on the tables.
 use Prim.Native.Nat.{ℕ, suc, _+_, _≤_, _<_}
 use mathlib.Core.Path.{_≡_, refl, sym, ap, _∙_, subst}
-use mathlib.Core.Bool.{true, false}
+use mathlib.Core.Bool.{true}
 use mathlib.Core.List.{List, [], _∷_}
 use native.Mathlib.Omega.{arith}
 use native.Mathlib.Numerals.{add-one}
@@ -34,7 +34,7 @@ use Rattle.serial.proofs.Loops.{HasLinks, sent-links, sent-others, loop
 use Rattle.serial.proofs.Ready.{Ready, few, in-range, has-row, has-link, row-at, link-at}
 use Rattle.serial.proofs.Invariant.{Idle, Tied}
 use Rattle.serial.proofs.Kept.{Kept, resting}
-use Rattle.serial.proofs.Links.{come-changed, come-none, sends-come}
+use Rattle.serial.proofs.Links.{come-changed, come-none, no-coordinator, sends-come}
 use Rattle.serial.proofs.Budget.{Budget, no-rest, few-servers}
 use Rattle.serial.proofs.Spending.{write-budget, read-budget}
 use Rattle.serial.proofs.Begins.{write-kept, read-a-kept, read-b-kept, read-c-kept}
@@ -89,9 +89,6 @@ module _ (floor : ℕ → ℕ) (t : Tables) (h : History) (tied : Tied floor (vi
 
   some-masked : 0 < serversIn mask
   some-masked = mask-some mask (serversOf t) (few t q ready) w
-
-  no-head : hasServer mask coordinator ≡ false
-  no-head = no-server mask (serversOf t) coordinator (w .below) (few t q ready)
 
   -- the begin keeps the tie and the budget, and pays what it owes
   abbrev pub Fair : Event → Tables → Type 0
@@ -179,7 +176,7 @@ module _ (floor : ℕ → ℕ) (t : Tables) (h : History) (tied : Tied floor (vi
           (begun-word countField (omega arith) ∙ word-same clientWidth (startedClient rules.writing mask (writesOf t) q (t .clients)) q countField (nextCount t q) has-begun (omega arith) ∙ next-count)
           few-counts),
       subst Budget (sym seen)
-          (write-budget (view t) budget q (in-range t q ready) free begun begun-state (omega (arith, sends-come mask (sets (suc (countIn c))) (λ i. refl) no-head, few-servers mask))),
+          (write-budget (view t) budget q (in-range t q ready) free begun begun-state (omega (arith, sends-come mask (sets (suc (countIn c))) (λ i. refl) (no-coordinator mask (serversOf t) (few t q ready) bound), few-servers mask))),
       ap (λ (v : Press). v .shared .step) seen ∙ add-one (stepOf t),
     )
 
@@ -223,7 +220,7 @@ module _ (floor : ℕ → ℕ) (t : Tables) (h : History) (tied : Tied floor (vi
       (word countField (omega arith) (λ e. omega arith) ∙ count-of askingSetpoints)
       extra state (tag-is ∙ last))
       (read-budget (view t) budget q (in-range t q ready) free asked askingSetpoints state (λ e. omega arith) (λ e. omega arith)
-      (omega (arith, no-rest asked askingSetpoints state (λ e. omega arith) (λ e. omega arith), sends-come mask (gets (rowOf clients′ q tagField)) (λ i. refl) no-head, few-servers mask)))
+      (omega (arith, no-rest asked askingSetpoints state (λ e. omega arith) (λ e. omega arith), sends-come mask (gets (rowOf clients′ q tagField)) (λ i. refl) (no-coordinator mask (serversOf t) (few t q ready) bound), few-servers mask)))
     where
       clients′ : List ℕ
       clients′ = putClientWord (with-state askingSetpoints) q tagField (lastTag t)
@@ -282,7 +279,7 @@ module _ (floor : ℕ → ℕ) (t : Tables) (h : History) (tied : Tied floor (vi
       (word-of askingAll countField (omega arith) (count-of askingAll))
       extra state)
       (read-budget (view t) budget q (in-range t q ready) free asked askingAll state (λ e. omega arith) (λ e. omega arith)
-      (omega (arith, no-rest asked askingAll state (λ e. omega arith) (λ e. omega arith), come-changed (sends mask (λ i. ask)) coordinator ask (omega arith), sends-come mask (λ i. ask) (λ i. refl) no-head, few-servers mask)))
+      (omega (arith, no-rest asked askingAll state (λ e. omega arith) (λ e. omega arith), come-changed (sends mask (λ i. ask)) coordinator ask (omega arith), sends-come mask (λ i. ask) (λ i. refl) (no-coordinator mask (serversOf t) (few t q ready) bound), few-servers mask)))
     where
       asked : Client
       asked = clientOf (rowOf (with-state askingAll) q) (changed (sends mask (λ i. ask)) coordinator ask)

@@ -1,7 +1,7 @@
 -- An accepted begin keeps the tie and pays what it owes.
 use Prim.Native.Nat.{ℕ, suc, _+_, _*_, _≤_, _<_}
 use mathlib.Core.Path.{_≡_, refl, ap, _∙_}
-use mathlib.Core.Bool.{true, false}
+use mathlib.Core.Bool.{true}
 use mathlib.Core.Option.{Option, none, some}
 use mathlib.Core.List.{List}
 use native.Mathlib.Omega.{arith}
@@ -19,7 +19,7 @@ use Rattle.serial.specs.Steps.{begun-write, begun-read}
 use Rattle.serial.specs.History.{changed, writing, reading, History}
 use Rattle.serial.proofs.Places.{changed-same, changed-other, changed-all}
 use Rattle.serial.proofs.Press.{renumbered, Client, clientOf, Press, pressOf, stateIn, countIn, weight, toCome, sends, World, world}
-use Rattle.serial.proofs.Links.{come-changed, sends-masked, sends-other, sends-come}
+use Rattle.serial.proofs.Links.{come-changed, no-coordinator, sends-masked, sends-other, sends-come}
 use Rattle.serial.proofs.Invariant.{AllLink, Idle, at-writing, at-keys, at-getting, at-all, ClientOk, Tied}
 use Rattle.serial.proofs.Kept.{Kept, begun-tied, resting}
 
@@ -42,9 +42,6 @@ module _ (floor : ℕ → ℕ) (p : Press) (h : History) (tied : Tied floor p h)
 
   idling : Idle (h .extra) x (floor q) q old (h .doing q)
   idling = resting (h .extra) x (floor q) q old (h .doing q) rest (okay .activity)
-
-  no-head : hasServer mask coordinator ≡ false
-  no-head = by-test (hasServer mask coordinator) (λ e. let z : ⊥ = omega (arith, bound coordinator e) in absurd z) (λ e. e)
 
   bound′ : (i : ℕ) → hasServer (row maskField) i ≡ true → i < p .shared .servers
   bound′ i m = bound i (rw masked at m)
@@ -113,7 +110,7 @@ module _ (floor : ℕ → ℕ) (p : Press) (h : History) (tied : Tied floor p h)
         gets i = request (latestKey (p .shared .log) i (row tagField)) 0
 
         total : toCome (sends mask gets) ≡ 2 * serversIn mask
-        total = sends-come mask gets (λ i. refl) no-head
+        total = sends-come mask gets (λ i. refl) (no-coordinator mask (p .shared .servers) few bound)
 
     abbrev ask : Content
     ask = request opening 0
@@ -145,8 +142,8 @@ module _ (floor : ℕ → ℕ) (p : Press) (h : History) (tied : Tied floor p h)
     pub read-c-kept : h .extra ≡ 2 → row stateField ≡ askingAll → Kept floor h (begun-read q mask Ok) (begun-press (changed (sends mask asks) coordinator ask))
     read-c-kept two state =
         let total : toCome (changed (sends mask asks) coordinator ask) + weight (sends mask asks coordinator) ≡ toCome (sends mask asks) + 2 = come-changed (sends mask asks) coordinator ask (omega arith) in
-        let head : weight (sends mask asks coordinator) ≡ 0 = ap weight (sends-other mask asks coordinator no-head) in
-        let servers : toCome (sends mask asks) ≡ 2 * serversIn mask = sends-come mask asks (λ i. refl) no-head in (
+        let head : weight (sends mask asks coordinator) ≡ 0 = ap weight (sends-other mask asks coordinator (no-coordinator mask (p .shared .servers) few bound)) in
+        let servers : toCome (sends mask asks) ≡ 2 * serversIn mask = sends-come mask asks (λ i. refl) (no-coordinator mask (p .shared .servers) few bound) in (
           (idling .is, omega arith),
           rw (idling .is) (begun-tied floor p h tied step writes reads q new _ (record {
             latest = latest′;

@@ -7,15 +7,15 @@ use mathlib.Core.List.{List, [], _∷_}
 use native.Mathlib.Omega.{arith}
 use lib.ListN.{getD}
 use Rattle.ranges.specs.Tests.{by-equal}
+use Rattle.ranges.specs.Each.{Each, each-append, each-map}
 use Rattle.rules.specs.declared.Answer.the-variants.{Ok, Refused}
 use Rattle.rules.specs.declared.Arrival.{Arrival}
 use Rattle.rules.specs.declared.Arrival.the-variants as arrival
 use Rattle.serial.specs.Steps.{Event, opened, begun-write, begun-read, requested, replied}
-use Rattle.serial.specs.History.{changed, Transaction, Doing, nothing, writing, tagged, reading, History, historyOf, passed, turned, begun, delivered, writeOf, given, entered, ended, wrote, readOf, showed, arrived, fresh, extraOf, atHead, after}
-use Rattle.serial.specs.Row.{Each}
+use Rattle.serial.specs.History.{changed, Transaction, Doing, nothing, writing, tagged, reading, History, historyOf, passed, turned, begun, delivered, writeOf, given, entered, ended, wrote, readOf, showed, arrived, fresh, extraOf, atCoordinator, after}
 use Rattle.serial.specs.Claim.{EndsAt, Unfinished}
 use Rattle.serial.proofs.Places.{changed-same, changed-other, changed-all, changed-both}
-use Rattle.serial.proofs.Lists.{each-append, each-map, pairs-append}
+use Rattle.serial.proofs.Lists.{pairs-append}
 use Rattle.serial.proofs.Owed.{valueAt, More, OwedRead, OwedArrival, Owed, floorAfter}
 use Rattle.serial.proofs.HistoryOk.{Timed, Rising, DoingOk, Later, Shown, WriteOk, HistoryOk}
 
@@ -253,6 +253,6 @@ after-ok tagsAt floor h ok (begun-write q mask setpoints Ok) owed = rw owed (now
 after-ok tagsAt floor h ok (begun-write q mask setpoints (Refused n)) owed = (now′ tagsAt floor h ok, passed-ok tagsAt floor h ok)
 after-ok tagsAt floor h ok (begun-read q mask Ok) owed = rw (owed .0) (now′ tagsAt floor h ok, begun-ok tagsAt floor h ok q (reading mask (h .clock) 0) (owed .1) (begin-now tagsAt floor h ok (h .clock) refl))
 after-ok tagsAt floor h ok (begun-read q mask (Refused n)) owed = (now′ tagsAt floor h ok, passed-ok tagsAt floor h ok)
-after-ok tagsAt floor h ok (requested q i Ok) owed = requested-ok tagsAt floor h ok q (atHead i) owed
+after-ok tagsAt floor h ok (requested q i Ok) owed = requested-ok tagsAt floor h ok q (atCoordinator i) owed
 after-ok tagsAt floor h ok (requested q i (Refused n)) owed = (now′ tagsAt floor h ok, passed-ok tagsAt floor h ok)
 after-ok tagsAt floor h ok (replied q i d) owed = (now′ tagsAt floor h ok, arrived-ok tagsAt floor h ok q i (d .arrival) (d .setpoints) owed)

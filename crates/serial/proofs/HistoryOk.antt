@@ -9,12 +9,13 @@ use lib.ListN.{getD}
 use lib.Dec.{leb, ltb}
 use borrow.Author.Tests.{leb-true, leb-false, ltb-true, ltb-false}
 use Rattle.ranges.specs.Tests.{by-equal, by-test, not-both}
+use Rattle.ranges.specs.Each.{Each, each-append, each-map, each-at}
 use Rattle.keys.specs.Masks.{hasServer}
 use Rattle.serial.specs.Steps.{Played}
 use Rattle.serial.specs.History.{Transaction, noWrite, Doing, nothing, writing, tagged, reading, History}
-use Rattle.serial.specs.Row.{Each, readsOf, rowTo, row, walked, Walk, at, RealTime}
+use Rattle.serial.specs.Row.{readsOf, rowTo, row, walked, Walk, at, RealTime}
 use Rattle.serial.specs.Claim.{EndsAt, Unfinished, Answers, Claim}
-use Rattle.serial.proofs.Lists.{Pairs, each-append, each-map, each-at, pairs-append, pairs-map, pairs-at, OfTag, reads-each, reads-only, reads-pairs, row-complete}
+use Rattle.serial.proofs.Lists.{Pairs, pairs-append, pairs-map, pairs-at, OfTag, reads-each, reads-only, reads-pairs, row-complete}
 use Rattle.serial.proofs.Owed.{valueAt, valueIn}
 
 -- A transaction in time. `tagsAt c` is the number of WRITEs tagged before step c.

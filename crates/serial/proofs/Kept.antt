@@ -13,6 +13,10 @@ use Rattle.serial.proofs.Invariant.{Idle, Activity, at-rest, at-writing
 abbrev pub Kept : (ℕ → ℕ) → History → Event → Press → Type 0
 Kept floor h event p = Owed floor h event × Tied (floorAfter event h floor) p (after event h)
 
+-- what client q does, of all that the tie says of it
+abbrev pub Does : (ℕ → ℕ) → Press → History → ℕ → (ℕ → World → ℕ → ℕ → Client → Doing → Type 0) → Type 0
+Does floor p h q P = P (h .extra) (world p h) (floor q) q (p .client q) (h .doing q)
+
 module _ (floor : ℕ → ℕ) (p : Press) (h : History) (tied : Tied floor p h) where
   -- a step that the row does not see
   pub passed-tied : Tied floor p (passed h)

@@ -1,5 +1,5 @@
 -- What the links of a client have still to bring, as they change.
-use Prim.Native.Nat.{ℕ, zero, suc, _+_, _*_, _<_}
+use Prim.Native.Nat.{ℕ, zero, suc, _+_, _*_, _≤_, _<_}
 use mathlib.Core.Path.{_≡_, refl, ap, _∙_}
 use mathlib.Core.Bool.{true, false}
 use native.Mathlib.Omega.{arith}
@@ -34,6 +34,10 @@ come-none link e = let z = sum-most (λ i. weight (link i)) 0 targets (λ i l. r
 
 pub come-some : (link : ℕ → Content) (i : ℕ) → i < targets → 0 < weight (link i) → 0 < toCome link
 come-some link i h l = omega (arith, sum-part (λ j. weight (link j)) targets i h)
+
+-- a mask of servers does not name the coordinator
+pub no-coordinator : (mask k : ℕ) → k ≤ coordinator → ((i : ℕ) → hasServer mask i ≡ true → i < k) → hasServer mask coordinator ≡ false
+no-coordinator mask k l bound = by-test (hasServer mask coordinator) (λ e. let z : ⊥ = omega (arith, bound coordinator e) in absurd z) (λ e. e)
 
 module _ (mask : ℕ) (request : ℕ → Content) where
   pub sends-masked : (i : ℕ) → hasServer mask i ≡ true → sends mask request i ≡ request i

@@ -9,27 +9,15 @@ use lib.ListN.{length, getD, length-append}
 use lib.Dec.{eqb, leb}
 use borrow.Author.Tests.{eqb-true, eq-eqb, ne-eqb, leb-true, leb-false, le-leb, lt-leb}
 use Rattle.ranges.specs.Tests.{by-equal, by-test}
+use Rattle.ranges.specs.Each.{Each, each-append, each-map, each-at}
 use Rattle.serial.specs.History.{Transaction, History}
-use Rattle.serial.specs.Row.{Each, readsOf, rowTo, row}
+use Rattle.serial.specs.Row.{readsOf, rowTo, row}
 
 module _ {A : Type 0} where
   -- each with every one behind it
   abbrev pub Pairs : (A → A → Type 0) → List A → Type 0
   Pairs R [] = Unit {0}
   Pairs R (x ∷ xs) = Each (R x) xs × Pairs R xs
-
-  pub each-append : (P : A → Type 0) (xs ys : List A) → Each P xs → Each P ys → Each P (xs ++ ys)
-  each-append P [] ys a b = b
-  each-append P (x ∷ xs) ys a b = (a .0, each-append P xs ys (a .1) b)
-
-  pub each-map : (P Q : A → Type 0) → ((x : A) → P x → Q x) → (xs : List A) → Each P xs → Each Q xs
-  each-map P Q f [] a = tt
-  each-map P Q f (x ∷ xs) a = (f x (a .0), each-map P Q f xs (a .1))
-
-  pub each-at : (P : A → Type 0) (d : A) (xs : List A) → Each P xs → (i : ℕ) → i < length xs → P (getD xs i d)
-  each-at P d [] a i l = let z : ⊥ = omega arith in absurd z
-  each-at P d (x ∷ xs) a zero l = a .0
-  each-at P d (x ∷ xs) a (suc i) l = each-at P d xs (a .1) i (omega arith)
 
   pub pairs-append : (R : A → A → Type 0) (xs ys : List A) → Pairs R xs → Pairs R ys → Each (λ x. Each (R x) ys) xs → Pairs R (xs ++ ys)
   pairs-append R [] ys a b c = b

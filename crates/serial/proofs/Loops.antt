@@ -10,22 +10,19 @@ use borrow.Author.Tests.{ltb-true, ltb-false, not-true, not-false}
 use Rattle.ranges.specs.Tests.{by-test, not-both}
 use Rattle.ranges.specs.All.{any-at, any-of}
 use Rattle.ranges.specs.Sum.{sum-most}
-use Rattle.ranges.specs.Turns.{turns}
+use Rattle.ranges.specs.Turns.{turns, turns-keep-below}
 use Rattle.ranges.specs.Picked.{picked, is-picked, not-picked}
 use Rattle.keys.specs.Masks.{hasServer}
 use Rattle.tables.specs.Layout.{clientWidth, clientWord, putClientWord}
-use Rattle.tables.specs.Links.{targets, linkWidth, linkAt, putLink, isEmpty, ContentFits, link-same, link-other, link-length}
+use Rattle.tables.specs.Links.{targets, linkWidth, putLink, isEmpty, ContentFits, link-same, link-other, link-length}
 use Rattle.tables.specs.declared.links.Content.{Content}
 use Rattle.tables.specs.declared.links.Content.the-variants.{Nothing, Request, Reply}
 use Rattle.tables.specs.declared.links.Link.{Link}
 use Rattle.rules.specs.Common.{pending}
-use Rattle.keeping.specs.Rows.{turns-keep-below, loop-other}
-use Rattle.serial.proofs.Press.{within, rowOf, linksOf, weight, toCome, sends}
+use Rattle.keeping.specs.Rows.{loop-other}
+use Rattle.serial.proofs.Press.{within, rowOf, contentIn, linksOf, weight, toCome, sends}
 use Rattle.serial.proofs.View.{within-at, within-past, within-same, link-put-other}
 use Rattle.serial.proofs.Links.{come-some, sends-masked, sends-other}
-
-abbrev contentIn : List ℕ → ℕ → ℕ → Content
-contentIn links q i = linkAt links q i .content
 
 -- all links of a client in the table
 abbrev pub HasLinks : List ℕ → ℕ → Type 0
@@ -68,7 +65,7 @@ module _ (q : ℕ) (w : ℕ → Content) (fits : (i : ℕ) → ContentFits (w i)
   pub sent-others : (r : ℕ) → (r ≡ q → ⊥) → linksOf sent r ≡ linksOf links r
   sent-others r d =
       turns-keep-below (picked (hasServer mask) send) (λ xs. linksOf xs r ≡ linksOf links r) k
-      (λ i xs l e.
+      (λ i l xs e.
       by-test (hasServer mask i)
       (λ b. rw b (link-put-other xs q i (w i) (omega arith) r d ∙ e))
       (λ b. rw b e)) links refl

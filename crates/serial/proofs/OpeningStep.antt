@@ -10,6 +10,7 @@ use lib.Dec.{ltb}
 use borrow.Author.Tests.{ltb-true, ltb-false, eq-eqb, eqb-true}
 use Rattle.ranges.specs.Tests.{by-test}
 use Rattle.ranges.specs.Sum.{sumBelow, sum-most}
+use Rattle.ranges.specs.Turns.{turns-keep-below}
 use Rattle.keys.specs.Keys.{keyOf, keyAtWord, opening}
 use Rattle.coordinator.specs.Latest.{latestKey, latestTag}
 use Rattle.coordinator.specs.LatestLaws.{latest-within}
@@ -21,7 +22,6 @@ use Rattle.tables.specs.declared.links.Content.the-variants.{Nothing}
 use Rattle.rules.specs.Common.{idle}
 use Rattle.rules.specs.Open.{cleared, holdOne, opened}
 use Rattle.keeping.specs.Accepted.{Openable}
-use Rattle.keeping.specs.Rows.{turns-keep-below}
 use Rattle.keeping.specs.Opening.{Opened, opened-words}
 use Rattle.serial.specs.History.{openedWith}
 use Rattle.serial.proofs.Owed.{valueAt}
@@ -51,7 +51,7 @@ module _ (m k p : ℕ) (setpoints : List ℕ) (t : Tables) (o : Openable m k p s
   none-held i l =
       let first : List ℕ = m ∷ k ∷ p ∷ 1 ∷ 1 ∷ [] in
       turns-keep-below holdOne (λ xs. getD xs (heldField + i) 0 ≡ getD (sets (cleared (t .counts)) 0 first) (heldField + i) 0) k
-      (λ j xs h e. getD-set-other xs (heldField + j) (heldField + i) 1 0 (λ z. omega arith) ∙ e) (sets (cleared (t .counts)) 0 first) refl
+      (λ j h xs e. getD-set-other xs (heldField + j) (heldField + i) 1 0 (λ z. omega arith) ∙ e) (sets (cleared (t .counts)) 0 first) refl
       ∙ sets-behind first (cleared (t .counts)) 0 (heldField + i) (omega arith) ∙ cleared-word (t .counts) (heldField + i)
 
   held-few : (i : ℕ) → heldOf left i ≤ 1

@@ -1,6 +1,6 @@
 -- What a function that plays a list of steps promises: the tables at the end, and the claim of what was played.
 use Prim.Native.Nat.{ℕ, zero, suc, _/_}
-use mathlib.Core.Path.{_≡_, refl, sym, _∙_, ap}
+use mathlib.Core.Path.{_≡_, sym, _∙_, ap}
 use mathlib.Core.Bool.{true, false, true≢false, false≢true}
 use mathlib.Core.List.{List}
 use native.Mathlib.Omega.{arith}
@@ -13,7 +13,8 @@ use Rattle.rules.specs.Answers.{Left, left}
 use Rattle.rules.specs.Open.{opened}
 use Rattle.refusals.specs.Refusals.{openRefusal}
 use Rattle.refusals.specs.Steps.{unless, open′}
-use Rattle.serial.specs.Encoded.{stepWidth, stepAt, leaves, stepsOf, PlayedAll}
+use Rattle.serial.specs.Steps.{play, run, leftBy}
+use Rattle.serial.specs.Encoded.{stepWidth, stepAt, leaves, stepsOf, isOk, PlayedAll, run-ends}
 use Rattle.serial.proofs.Theorem.{theorem}
 
 -- a refused opening leaves the tables
@@ -28,6 +29,7 @@ module _ (method k p : ℕ) (setpoints words pool : List ℕ) (t : Tables) {answ
   unfolding open′
   judged-all {n} r =
       record {
+        accepted = ap isOk (sym r ∙ ap (λ (l : Left). l .answer) e);
         judged = λ f. same-tables (openRefusal method k p setpoints t) x (opened method k p setpoints t) t answer n r e;
         left = λ f. absurd (false≢true f);
         claim = λ f. absurd (false≢true f);
@@ -36,7 +38,8 @@ module _ (method k p : ℕ) (setpoints words pool : List ℕ) (t : Tables) {answ
   pub played-all : {y : Tables} → answer ≡ Ok → y ≡ turns (leaves (stepAt words pool)) (length words / stepWidth) x → PlayedAll method k p setpoints words pool t true y
   played-all r d =
       record {
+        accepted = ap isOk (sym r ∙ ap (λ (l : Left). l .answer) e);
         judged = λ f. absurd (true≢false f);
-        left = λ f. d ∙ ap (λ (l : Left). turns (leaves (stepAt words pool)) (length words / stepWidth) (l .tables)) e;
+        left = λ f. d ∙ sym (run-ends (stepAt words pool) (length words / stepWidth) x) ∙ ap (λ (l : Left). leftBy (run play (stepsOf words pool) (l .tables)) (l .tables)) e;
         claim = λ f. theorem method k p setpoints t (ap (λ (l : Left). l .answer) (sym e) ∙ r) (stepsOf words pool);
       }

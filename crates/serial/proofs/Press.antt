@@ -75,8 +75,11 @@ receivedIn c i = c .row (receivedField + i)
 abbrev pub rowOf : List ℕ → ℕ → ℕ → ℕ
 rowOf clients q = within clientWidth 0 (clientWord clients q)
 
+abbrev pub contentIn : List ℕ → ℕ → ℕ → Content
+contentIn links q i = linkAt links q i .content
+
 abbrev pub linksOf : List ℕ → ℕ → ℕ → Content
-linksOf links q = within targets Nothing (λ i. linkAt links q i .content)
+linksOf links q = within targets Nothing (contentIn links q)
 
 abbrev pub sharedOf : Tables → Shared
 sharedOf t = record { method = methodOf t; servers = serversOf t; step = stepOf t; entries = entriesOf t; writes = writesOf t; reads = readsOf t; held = heldOf t; keys = t .keys; values = t .values; log = t .log }

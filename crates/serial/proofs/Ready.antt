@@ -1,13 +1,15 @@
 -- What a step that no refusal stops finds: sound tables, a client and its row and links.
 use Prim.Native.Nat.{ℕ, _≤_, _<_}
-use mathlib.Core.Path.{_≡_, ap}
+use mathlib.Core.Path.{_≡_, sym, ap, _∙_}
 use native.Mathlib.Omega.{arith}
+use Rattle.ranges.specs.Tests.{by-equal}
 use Rattle.tables.specs.Rows.{HasRow}
 use Rattle.tables.specs.Layout.{clientWidth, clientWord, serverPlaces}
 use Rattle.tables.specs.Links.{targets, linkWidth, linkRow}
 use Rattle.tables.specs.Tables.{Tables, serversOf, clientsOf, contentAt}
 use Rattle.tables.specs.declared.links.Content.{Content}
 use Rattle.tables.specs.declared.links.Content.the-variants.{Nothing}
+use Rattle.rules.specs.Common.{coordinator}
 use Rattle.soundness.specs.Facts.{Sound}
 use Rattle.serial.proofs.Press.{weight, view}
 use Rattle.serial.proofs.View.{within-at}
@@ -45,3 +47,7 @@ link-at t q i l = within-at targets Nothing (contentAt t q) i l
 -- a link that holds something is not empty
 pub not-empty : {A : Type 0} (l : Content) → 0 < weight l → l ≡ Nothing → A
 not-empty l h e = let z : ⊥ = omega (arith, ap weight e) in absurd z
+
+-- where only the coordinator's link holds anything, as in states 2 and 3, a link that holds something is that one
+pub at-coordinator : (link : ℕ → Content) (i : ℕ) → i < targets → {l : Content} → link i ≡ l → 0 < weight l → ((j : ℕ) → j < coordinator → link j ≡ Nothing) → i ≡ coordinator
+at-coordinator link i hi {l} is full others = by-equal i coordinator (λ e. e) (λ d. not-empty l full (sym is ∙ others i (omega arith)))

@@ -1,7 +1,7 @@
 -- The delivery of a reply keeps the tie and pays what it owes.
 use Prim.Native.Nat.{ℕ, suc, _+_, _-_, _*_, _≤_, _<_}
 use mathlib.Core.Path.{_≡_, refl, sym, ap, _∙_}
-use mathlib.Core.Bool.{Bool, true, false, cond}
+use mathlib.Core.Bool.{Bool, true, cond}
 use mathlib.Core.Option.{some, Option·some-injective}
 use mathlib.Core.List.{List}
 use native.Mathlib.Omega.{arith}
@@ -30,7 +30,7 @@ use Rattle.serial.proofs.Owed.{valueAt}
 use Rattle.serial.proofs.HistoryKept.{value-ended}
 use Rattle.serial.proofs.Versions.{found-place, place-found, found-more}
 use Rattle.serial.proofs.Press.{Shared, renumbered, Client, clientOf, Press, pressOf, stateIn, countIn, maskIn, tagIn, setpointIn, receivedIn, weight, toCome, sends, World, worldOf, world}
-use Rattle.serial.proofs.Links.{come-changed, all-empty, sends-masked, sends-other, sends-come}
+use Rattle.serial.proofs.Links.{come-changed, all-empty, no-coordinator, sends-masked, sends-other, sends-come}
 use Rattle.serial.proofs.Invariant.{Holds, WriteLink, Writing, Entering, AskingKeys, GetLink, Getting, Snapshot, AllLink, AskingAll, at-rest, at-writing, at-entering, at-getting, at-all, ClientOk, Tied, Grown, client-frame}
 use Rattle.serial.proofs.Kept.{Kept, turned-tied, moved-tied}
 use Rattle.serial.proofs.Requests.{withLink}
@@ -313,9 +313,7 @@ module _ (floor : ℕ → ℕ) (p : Press) (h : History) (tied : Tied floor p h)
   keys-kept w lk a row state count mask tag =
       let head : (a .deliveries ≡ 1) × (floor q < w .number) × (w .number ≤ suc (h .tags)) = rw lk at (a .head) in
       let gets : ℕ → Content = λ i. request (latestKey (s .log) i (w .number - 1)) 0 in
-      let no-head : hasServer (maskIn c) coordinator ≡ false
-      = by-test (hasServer (maskIn c) coordinator) (λ e. let z : ⊥ = omega (arith, a .bound coordinator e) in absurd z) (λ e. e) in
-      let total : toCome (sends (maskIn c) gets) ≡ 2 * serversIn (maskIn c) = sends-come (maskIn c) gets (λ i. refl) no-head in (
+      let total : toCome (sends (maskIn c) gets) ≡ 2 * serversIn (maskIn c) = sends-come (maskIn c) gets (λ i. refl) (no-coordinator (maskIn c) (s .servers) few (a .bound)) in (
         rw (a .is) (omega (arith, a .two, a .some, head .0)),
         rw (a .is) (turned-tied floor p h tied step writes reads q (clientOf row (sends (maskIn c) gets)) _ (record {
           latest = λ j n v e. omega (arith, okay .latest j n v e, count);

@@ -29,18 +29,18 @@ use Rattle.rules.specs.declared.Delivered.{Delivered}
 use Rattle.rules.specs.declared.Arrival.the-variants as arrival
 use Rattle.keeping.specs.Rows.{loop-other, loop-length, loop-there}
 use Rattle.serial.specs.Steps.{replied}
-use Rattle.serial.specs.History.{changed, Doing, History}
+use Rattle.serial.specs.History.{changed, History}
 use Rattle.serial.specs.Consequences.{numberOfArrival, countedArrival}
 use Rattle.serial.proofs.Places.{changed-same, changed-other}
-use Rattle.serial.proofs.Press.{within, renumbered, Client, clientOf, Press, pressOf, stateIn, countIn, maskIn, tagIn, rowOf, linksOf, sharedOf, view, weight, toCome, sends, World, world}
+use Rattle.serial.proofs.Press.{within, renumbered, Client, clientOf, Press, pressOf, stateIn, countIn, maskIn, tagIn, rowOf, linksOf, sharedOf, view, weight, toCome, sends}
 use Rattle.serial.proofs.View.{within-at, row-put, row-put-other, link-put, link-put-other, view-is, shared-step}
-use Rattle.serial.proofs.Links.{come-changed, all-empty, sends-come}
+use Rattle.serial.proofs.Links.{come-changed, all-empty, no-coordinator, sends-come}
 use Rattle.serial.proofs.Budget.{Budget, no-rest}
 use Rattle.serial.proofs.Spending.{further, done-budget, last-budget}
 use Rattle.serial.proofs.Loops.{HasLinks, sent-links, sent-others, loop-rows, pending-come, none-come}
-use Rattle.serial.proofs.Ready.{Ready, few, in-range, has-row, has-link, row-at, link-at, not-empty}
+use Rattle.serial.proofs.Ready.{Ready, few, in-range, has-row, has-link, row-at, link-at, not-empty, at-coordinator}
 use Rattle.serial.proofs.Invariant.{Writing, Entering, AskingKeys, Getting, AskingAll, Activity, at-rest, at-writing, at-entering, at-keys, at-getting, at-all, Tied}
-use Rattle.serial.proofs.Kept.{Kept, passed-tied}
+use Rattle.serial.proofs.Kept.{Kept, Does, passed-tied}
 use Rattle.serial.proofs.Replies.{done-wait-kept, done-next-kept, got-wait-kept, got-end-kept, told-wait-kept, told-end-kept, entered-kept, keys-kept}
 
 -- the step keeps the tie and the budget, and pays what it owes
@@ -67,12 +67,8 @@ module _ (floor : ℕ → ℕ) (t : Tables) (h : History) (tied : Tied floor (vi
   abbrev Okay : Arrived → Type 0
   Okay = FairReply floor h (stepOf t) q i
 
-  -- the client, and what it does
   abbrev c : Client
   c = view t .client q
-
-  abbrev Does : (ℕ → World → ℕ → ℕ → Client → Doing → Type 0) → Type 0
-  Does P = P (h .extra) (world (view t) h) (floor q) q c (h .doing q)
 
   abbrev gone : ℕ → Content
   gone = changed (c .link) i Nothing
@@ -143,7 +139,7 @@ module _ (floor : ℕ → ℕ) (t : Tables) (h : History) (tied : Tied floor (vi
     gone-budget : (row : ℕ → ℕ) (state : ℕ) → row stateField ≡ state → (state ≡ rules.writing → ⊥) → (state ≡ entering → ⊥) → (state ≡ askingKeys → ⊥) → Budget (movedPress row gone)
     gone-budget row state is a b d = further (view t) budget q (in-range t q ready) (clientOf row gone) state is a b (omega (arith, gone-come, no-rest (clientOf row gone) state is a d))
 
-    done-fair : stateIn c ≡ rules.writing → Does Writing → Okay (onSetDone q i t)
+    done-fair : stateIn c ≡ rules.writing → Does floor (view t) h q Writing → Okay (onSetDone q i t)
     unfolding onSetDone
     done-fair state a =
         by-test (pending (emptied q i t) q)
@@ -175,14 +171,10 @@ module _ (floor : ℕ → ℕ) (t : Tables) (h : History) (tied : Tied floor (vi
         enter-is : enter ≡ request (keyOf (countIn c) q) (maskIn c)
         enter-is = rw (row-at t q countField (omega arith), row-at t q maskField (omega arith))
 
-    -- only the head's link holds anything in states 2 and 3
-    at-head : ((j : ℕ) → j < coordinator → c .link j ≡ Nothing) → i ≡ coordinator
-    at-head others = by-equal i coordinator (λ e. e) (λ d. not-empty (Reply w) (omega arith) (sym link ∙ others i (omega arith)))
-
-    entered-fair : Does Entering → Okay (onEntered w q i t)
+    entered-fair : Does floor (view t) h q Entering → Okay (onEntered w q i t)
     unfolding onEntered
     entered-fair a =
-        let at = at-head (a .others) in
+        let at = at-coordinator (c .link) i hi link (omega arith) (a .others) in
         let there : c .link coordinator ≡ Reply w = ap (c .link) (sym at) ∙ link in
         moved-fair (putClientWord (putClientWord (t .clients) q tagField (w .number)) q stateField idle) (emptied q i t) (endedRecord (recordOf t q) (nextStep t) (t .writes)) (t .reads) (nothingShown (arrival.Write (w .number)))
         (two-words tagField (w .number) stateField idle (omega arith) (omega arith)) (two-others tagField (w .number) stateField idle (omega arith) (omega arith)) gone-links gone-others (λ z. omega arith) refl
@@ -194,10 +186,10 @@ module _ (floor : ℕ → ℕ) (t : Tables) (h : History) (tied : Tied floor (vi
     mask-at = row-at t q maskField (omega arith)
 
     -- B: the keys arrived
-    keys-fair : stateIn c ≡ askingKeys → Does AskingKeys → Okay (onKeys w q i t)
+    keys-fair : stateIn c ≡ askingKeys → Does floor (view t) h q AskingKeys → Okay (onKeys w q i t)
     unfolding onKeys
     keys-fair state a =
-        let at = at-head (a .others) in
+        let at = at-coordinator (c .link) i hi link (omega arith) (a .others) in
         let there : c .link coordinator ≡ Reply w = ap (c .link) (sym at) ∙ link in
         moved-fair (putClientWord (putClientWord (t .clients) q tagField (w .number - 1)) q stateField askingSetpoints) (sentGets q (maskOf t q) (t .log) (w .number - 1) (serversOf t) (emptied q i t)) (t .writes) (t .reads) (nothingShown arrival.Next)
         (two-words tagField (w .number - 1) stateField askingSetpoints (omega arith) (omega arith)) (two-others tagField (w .number - 1) stateField askingSetpoints (omega arith) (omega arith))
@@ -209,7 +201,7 @@ module _ (floor : ℕ → ℕ) (t : Tables) (h : History) (tied : Tied floor (vi
         (left-by tagField (w .number - 1) stateField askingSetpoints maskField (λ e. omega arith) (λ e. omega arith))
         (changed-other (changed (c .row) tagField (w .number - 1)) stateField askingSetpoints tagField (λ e. omega arith) ∙ changed-same (c .row) tagField (w .number - 1)))
         (further (view t) budget q (in-range t q ready) asked askingSetpoints asked-state (λ e. omega arith) (λ e. omega arith)
-        (rw state (omega (arith, no-rest asked askingSetpoints asked-state (λ e. omega arith) (λ e. omega arith), sends-come (maskIn c) gets (λ j. refl) no-head, gone-come))))
+        (rw state (omega (arith, no-rest asked askingSetpoints asked-state (λ e. omega arith) (λ e. omega arith), sends-come (maskIn c) gets (λ j. refl) (no-coordinator (maskIn c) (serversOf t) (few t q ready) (a .bound)), gone-come))))
       where
         gets : ℕ → Content
         gets j = request (latestKey (t .log) j (w .number - 1)) 0
@@ -219,9 +211,6 @@ module _ (floor : ℕ → ℕ) (t : Tables) (h : History) (tied : Tied floor (vi
 
         asked-state : stateIn asked ≡ askingSetpoints
         asked-state = changed-same (changed (c .row) tagField (w .number - 1)) stateField askingSetpoints
-
-        no-head : hasServer (maskIn c) coordinator ≡ false
-        no-head = by-test (hasServer (maskIn c) coordinator) (λ e. let z : ⊥ = omega (arith, a .bound coordinator e, few t q ready) in absurd z) (λ e. e)
 
         bound : (j : ℕ) → hasServer (maskOf t q) j ≡ true → j < serversOf t
         bound j m = a .bound j (rw mask-at m)
@@ -235,7 +224,7 @@ module _ (floor : ℕ → ℕ) (t : Tables) (h : History) (tied : Tied floor (vi
             ∙ by-equal j i (λ e. rw e (changed-same (c .link) i Nothing)) (λ d. changed-other (c .link) i Nothing j d ∙ a .others j (omega arith))
 
     -- a setpoint arrived
-    got-fair : stateIn c ≡ askingSetpoints → Does Getting → Okay (onGot w q i t)
+    got-fair : stateIn c ≡ askingSetpoints → Does floor (view t) h q Getting → Okay (onGot w q i t)
     unfolding onGot
     got-fair state a =
         by-test (pending (emptied q i t) q)
@@ -281,7 +270,7 @@ module _ (floor : ℕ → ℕ) (t : Tables) (h : History) (tied : Tied floor (vi
             ∙ sym (changed-other row stateField idle (setpointsField + j) (λ e. omega arith))
 
     -- C: how much a server or the head holds arrived
-    all-fair : stateIn c ≡ askingAll → Does AskingAll → Okay (onAll w q i t)
+    all-fair : stateIn c ≡ askingAll → Does floor (view t) h q AskingAll → Okay (onAll w q i t)
     unfolding onAll within
     all-fair state a =
         by-test (pending (emptied q i t) q)
@@ -383,7 +372,7 @@ module _ (floor : ℕ → ℕ) (t : Tables) (h : History) (tied : Tied floor (vi
             ∙ concluded-word (setpointsField + j) (omega (arith, few t q ready)) (λ e. omega arith)
             ∙ loop-there q setpointsField (serversOf t) room (hasServer (maskOf t q)) value told j told-has l (rw mask-at at m)
 
-    in-activity : Does Activity → Okay (replyDelivered q i t)
+    in-activity : Does floor (view t) h q Activity → Okay (replyDelivered q i t)
     unfolding onReplyIn
     in-activity (at-rest e a) = not-empty (Reply w) (omega arith) (sym link ∙ a .links i hi)
     in-activity (at-writing e a) = subst (Okay) (sym (in-state rules.writing e)) (done-fair e a)

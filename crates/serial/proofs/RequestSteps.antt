@@ -9,7 +9,6 @@ use lib.ListN.{set, length, length-set}
 use lib.Seq.{getD-set-other}
 use lib.Dec.{eqb}
 use borrow.Author.Tests.{lt-ltb}
-use Rattle.ranges.specs.Tests.{by-equal}
 use Rattle.keys.specs.Keys.{keyWord}
 use Rattle.tables.specs.Layout.{countAt, countWords, heldField, stepField, entriesField, serverPlaces, logPlaces, putVersionWord, putEntry, stateField, tagField}
 use Rattle.tables.specs.Links.{targets, putLink, link-same}
@@ -25,16 +24,16 @@ use Rattle.rules.specs.Common as rules
 use Rattle.rules.specs.Request.{refused, onSet, onEnter, onWhichKeys, onGet, onGetAll, onRequestIn, onRequest, requestDelivered}
 use Rattle.rules.specs.declared.Answer.the-variants.{Ok}
 use Rattle.serial.specs.Steps.{requested}
-use Rattle.serial.specs.History.{changed, Doing, History}
+use Rattle.serial.specs.History.{changed, History}
 use Rattle.serial.specs.Claim.{IsReply, LeavesReply}
-use Rattle.serial.specs.Consequences.{numberOf, counted}
-use Rattle.serial.proofs.Press.{Shared, renumbered, Client, Press, pressOf, stateIn, sharedOf, view, weight, World, world}
+use Rattle.serial.specs.Consequences.{numberOf, countedAnswer}
+use Rattle.serial.proofs.Press.{Shared, renumbered, Client, Press, pressOf, stateIn, sharedOf, view, weight, world}
 use Rattle.serial.proofs.View.{link-put, link-put-other, view-is, sharedIn, shared-step, shared-held, shared-entries}
 use Rattle.serial.proofs.Links.{come-changed}
 use Rattle.serial.proofs.Versions.{found-place}
-use Rattle.serial.proofs.Ready.{Ready, few, in-range, has-link, has-keys, has-values, row-at, link-at, not-empty}
+use Rattle.serial.proofs.Ready.{Ready, few, in-range, has-link, has-keys, has-values, row-at, link-at, not-empty, at-coordinator}
 use Rattle.serial.proofs.Invariant.{Writing, Entering, AskingKeys, Getting, AskingAll, Activity, at-rest, at-writing, at-entering, at-keys, at-getting, at-all, Tied}
-use Rattle.serial.proofs.Kept.{Kept, passed-tied}
+use Rattle.serial.proofs.Kept.{Kept, Does, passed-tied}
 use Rattle.serial.proofs.Budget.{waits, due, Budget, waiting-room, entry-room}
 use Rattle.serial.proofs.Spending.{further, set-budget, enter-budget}
 use Rattle.serial.proofs.Requests.{versionMore, entryMore, withLink, set-kept, enter-kept, which-keys-kept, get-kept, get-all-kept}
@@ -45,7 +44,7 @@ pub record FairRequest (floor : ℕ → ℕ) (h : History) (n q i : ℕ) (x : Le
   pub budget : Budget (view (x .tables))
   pub answers : LeavesReply (x .answer) (contentAt (x .tables) q i)
   pub room : numberOf (x .answer) ≡ 8 → ⊥
-  pub step : stepOf (x .tables) ≡ counted (x .answer) n
+  pub step : stepOf (x .tables) ≡ countedAnswer (x .answer) n
 
 module _ (floor : ℕ → ℕ) (t : Tables) (h : History) (tied : Tied floor (view t) h) (budget : Budget (view t)) (q i : ℕ) where
   pub refused-fair : (n : ℕ) → (n ≡ 8 → ⊥) → FairRequest floor h (stepOf t) q i (refused n t)
@@ -55,12 +54,8 @@ module _ (floor : ℕ → ℕ) (t : Tables) (h : History) (tied : Tied floor (vi
   abbrev Okay : Left → Type 0
   Okay = FairRequest floor h (stepOf t) q i
 
-  -- the client, and what it does
   abbrev c : Client
   c = view t .client q
-
-  abbrev Does : (ℕ → World → ℕ → ℕ → Client → Doing → Type 0) → Type 0
-  Does P = P (h .extra) (world (view t) h) (floor q) q c (h .doing q)
 
   -- the tables when a reply has taken the request's place
   abbrev replied : List ℕ → List ℕ → List ℕ → List ℕ → List ℕ → ℕ → Tables
@@ -115,7 +110,7 @@ module _ (floor : ℕ → ℕ) (t : Tables) (h : History) (tied : Tied floor (vi
     in-state state e = delivered-is ∙ ap (λ (x : ℕ). onRequestIn x w q i t) (sym (row-at t q stateField (omega arith)) ∙ e)
 
     -- a set request finds room
-    set-fair : stateIn c ≡ rules.writing → Does Writing → Okay (onSet w q i t)
+    set-fair : stateIn c ≡ rules.writing → Does floor (view t) h q Writing → Okay (onSet w q i t)
     unfolding onSet appended
     set-fair state a =
         let waiting : waits i c ≡ 1 = rw (state, link) in
@@ -130,7 +125,7 @@ module _ (floor : ℕ → ℕ) (t : Tables) (h : History) (tied : Tied floor (vi
         (set-budget (view t) budget q (in-range t q ready) i hi w link state (keyWord (w .key)) (w .number)))
 
     -- an entry finds room
-    enter-fair : i ≡ coordinator → stateIn c ≡ entering → (a : Does Entering) → Okay (onEnter w q i t)
+    enter-fair : i ≡ coordinator → stateIn c ≡ entering → (a : Does floor (view t) h q Entering) → Okay (onEnter w q i t)
     unfolding onEnter log.entered
     enter-fair at state a =
         let there : c .link coordinator ≡ Request w = ap (c .link) (sym at) ∙ link in
@@ -146,7 +141,7 @@ module _ (floor : ℕ → ℕ) (t : Tables) (h : History) (tied : Tied floor (vi
         (rw at (enter-budget (view t) budget q (in-range t q ready) w there state (w .key) (w .number) (entriesOf t))))
 
     -- the head or a server tells how much it holds
-    which-fair : i ≡ coordinator → stateIn c ≡ askingKeys → Does AskingKeys → Okay (onWhichKeys q i t)
+    which-fair : i ≡ coordinator → stateIn c ≡ askingKeys → Does floor (view t) h q AskingKeys → Okay (onWhichKeys q i t)
     unfolding onWhichKeys
     which-fair at state a =
         let there : c .link coordinator ≡ Request w = ap (c .link) (sym at) ∙ link in
@@ -154,7 +149,7 @@ module _ (floor : ℕ → ℕ) (t : Tables) (h : History) (tied : Tied floor (vi
         (rw at (which-keys-kept floor (view t) h tied (few t q ready) q (in-range t q ready) (stepOf t + 1) (writesOf t) (readsOf t) w there state a))
         (read-further (entriesOf t) w link askingKeys state (λ e. omega arith) (λ e. omega arith))
 
-    all-fair : stateIn c ≡ askingAll → Does AskingAll → Okay (onGetAll q i t)
+    all-fair : stateIn c ≡ askingAll → Does floor (view t) h q AskingAll → Okay (onGetAll q i t)
     unfolding onGetAll
     all-fair state a =
         replied-fair (t .counts) (t .keys) (t .values) (t .log) (t .writes) (cond (eqb i coordinator) (entriesOf t) (heldOf t i)) counts-long refl (sharedOf t) refl
@@ -162,7 +157,7 @@ module _ (floor : ℕ → ℕ) (t : Tables) (h : History) (tied : Tied floor (vi
         (read-further _ w link askingAll state (λ e. omega arith) (λ e. omega arith))
 
     -- a get request finds its key
-    get-fair : stateIn c ≡ askingSetpoints → Does Getting → Okay (onGet w q i t)
+    get-fair : stateIn c ≡ askingSetpoints → Does floor (view t) h q Getting → Okay (onGet w q i t)
     unfolding onGet
     get-fair state a =
         let v = world (view t) h .value (c .row tagField) i in
@@ -172,16 +167,12 @@ module _ (floor : ℕ → ℕ) (t : Tables) (h : History) (tied : Tied floor (vi
         (get-kept floor (view t) h tied (few t q ready) q (in-range t q ready) (stepOf t + 1) (writesOf t) (readsOf t) i hi w link state a)
         (read-further v w link askingSetpoints state (λ e. omega arith) (λ e. omega arith)))
 
-    -- only the head's link holds anything in states 2 and 3
-    at-head : ((j : ℕ) → j < coordinator → c .link j ≡ Nothing) → i ≡ coordinator
-    at-head others = by-equal i coordinator (λ e. e) (λ d. not-empty (Request w) (omega arith) (sym link ∙ others i (omega arith)))
-
-    in-activity : Does Activity → Okay (requestDelivered q i t)
+    in-activity : Does floor (view t) h q Activity → Okay (requestDelivered q i t)
     unfolding onRequestIn
     in-activity (at-rest e a) = not-empty (Request w) (omega arith) (sym link ∙ a .links i hi)
     in-activity (at-writing e a) = subst (Okay) (sym (in-state rules.writing e)) (set-fair e a)
-    in-activity (at-entering e a) = subst (Okay) (sym (in-state entering e)) (enter-fair (at-head (a .others)) e a)
-    in-activity (at-keys e a) = subst (Okay) (sym (in-state askingKeys e)) (which-fair (at-head (a .others)) e a)
+    in-activity (at-entering e a) = subst (Okay) (sym (in-state entering e)) (enter-fair (at-coordinator (c .link) i hi link (omega arith) (a .others)) e a)
+    in-activity (at-keys e a) = subst (Okay) (sym (in-state askingKeys e)) (which-fair (at-coordinator (c .link) i hi link (omega arith) (a .others)) e a)
     in-activity (at-getting e a) = subst (Okay) (sym (in-state askingSetpoints e)) (get-fair e a)
     in-activity (at-all e a) = subst (Okay) (sym (in-state askingAll e)) (all-fair e a)
 

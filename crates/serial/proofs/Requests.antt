@@ -24,7 +24,7 @@ use Rattle.rules.specs.Common.{entering, askingKeys, askingSetpoints, askingAll
 use Rattle.rules.specs.Common as rules
 use Rattle.rules.specs.declared.Answer.the-variants.{Ok}
 use Rattle.serial.specs.Steps.{requested}
-use Rattle.serial.specs.History.{atHead, changed, Transaction, writeOf, writing, tagged, reading, History}
+use Rattle.serial.specs.History.{atCoordinator, changed, Transaction, writeOf, writing, tagged, reading, History}
 use Rattle.serial.specs.Claim.{enough}
 use Rattle.serial.proofs.Places.{changed-same, changed-other, changed-all, changed-both}
 use Rattle.serial.proofs.Owed.{valueAt, valueIn}
@@ -156,7 +156,7 @@ module _ (floor : ℕ → ℕ) (p : Press) (h : History) (tied : Tied floor p h)
 
     pub set-kept : Kept floor h (requested q i Ok) (pressOf (renumbered step writes reads s′) (changed (p .client) q (withLink c i (reply 0))))
     set-kept =
-        let quiet : atHead i ≡ false = ne-eqb i coordinator (λ e. omega (arith, link .2)) in (
+        let quiet : atCoordinator i ≡ false = ne-eqb i coordinator (λ e. omega (arith, link .2)) in (
           rw (a .is) tt,
           rw (quiet, a .is) record {
             method = tied .method;
@@ -264,7 +264,7 @@ module _ (floor : ℕ → ℕ) (p : Press) (h : History) (tied : Tied floor p h)
     read-kept more ok =
         let t = turned-tied floor p h tied step writes reads q (withLink c i (reply n)) (reading mask begin (suc deliveries)) ok in (
           rw is more,
-          by-test (atHead i) (λ e. rw (e, is) t) (λ e. rw (e, is) t),
+          by-test (atCoordinator i) (λ e. rw (e, is) t) (λ e. rw (e, is) t),
         )
 
   -- B's head answers with the number of its entries.

@@ -1,27 +1,27 @@
 -- Demand 3: the one theorem, over every list of steps behind every accepted opening, and what follows beside it.
-use Prim.Native.Nat.{ℕ, zero, suc, _<_}
+use Prim.Native.Nat.{ℕ, _<_}
 use mathlib.Core.Path.{_≡_, refl}
 use mathlib.Core.List.{List, [], _∷_}
 use native.Mathlib.Omega.{arith}
+use Rattle.ranges.specs.Each.{Each}
 use Rattle.tables.specs.Tables.{Tables, clientsOf, stepOf}
-use Rattle.rules.specs.Answers.{Left, left, Arrived}
+use Rattle.rules.specs.Answers.{Left, left}
 use Rattle.rules.specs.Open.{opened}
 use Rattle.rules.specs.Begin.{begunWrite, begunRead}
-use Rattle.rules.specs.Request.{refused, requestDelivered}
-use Rattle.rules.specs.Reply.{said, replyDelivered}
+use Rattle.rules.specs.Request.{requestDelivered}
+use Rattle.rules.specs.Reply.{replyDelivered}
 use Rattle.rules.specs.declared.Answer.{Answer}
 use Rattle.rules.specs.declared.Answer.the-variants.{Ok}
-use Rattle.rules.specs.declared.Arrival.the-variants as arrival
 use Rattle.refusals.specs.Refusals.{openRefusal, writeRefusal, readRefusal, deliveryRefusal}
 use Rattle.soundness.specs.Facts.{Sound, facts-sound}
 use Rattle.keeping.specs.Accepted.{openable, writable, readable, deliverable, target-below}
 use Rattle.keeping.specs.Opening.{opened-words, opened-sound}
 use Rattle.keeping.specs.Steps.{open-keeps, beginWrite-sound, beginRead-sound, deliverRequest-sound, deliverReply-sound}
-use Rattle.refusals.specs.Steps.{unless, unlessArrived, open′, beginWrite, beginRead, deliverRequest, deliverReply}
+use Rattle.refusals.specs.Steps.{open′, beginWrite, beginRead, deliverRequest, deliverReply}
+use Rattle.refusals.specs.Either.{by-refusal, by-refusal-arrived, unstopped}
 use Rattle.serial.specs.Steps.{Step, opening, beginning-write, beginning-read, request, reply, begun-write, begun-read, Played, play, run}
 use Rattle.serial.specs.Steps as event
 use Rattle.serial.specs.History.{History, passed, openedWith, after, history}
-use Rattle.serial.specs.Row.{Each}
 use Rattle.serial.specs.Claim.{Answers, Demand3}
 use Rattle.serial.specs.Consequences.{number, accepted, Consequences}
 use Rattle.serial.proofs.Owed.{floorAfter}
@@ -37,15 +37,6 @@ use Rattle.serial.proofs.OpeningStep.{opened-tied, opened-budget}
 use Rattle.serial.proofs.BeginSteps.{write-fair, read-fair}
 use Rattle.serial.proofs.RequestSteps.{FairRequest, request-fair, refused-fair}
 use Rattle.serial.proofs.ReplySteps.{FairReply, reply-fair, refused-reply}
-
--- a step that a number stops, or that none does
-by-refusal : (P : Left → Type 0) (n : ℕ) (x : Left) (t : Tables) → ((m : ℕ) → n ≡ m → P (refused m t)) → (n ≡ 0 → P x) → P (unless n x t)
-by-refusal P zero x t no′ yes′ = yes′ refl
-by-refusal P (suc n) x t no′ yes′ = no′ (suc n) refl
-
-by-refusal-arrived : (P : Arrived → Type 0) (n : ℕ) (x : Arrived) (t : Tables) → ((m : ℕ) → n ≡ m → P (said (arrival.Refused m) t)) → (n ≡ 0 → P x) → P (unlessArrived n x t)
-by-refusal-arrived P zero x t no′ yes′ = yes′ refl
-by-refusal-arrived P (suc n) x t no′ yes′ = no′ (suc n) refl
 
 -- Every step keeps the tie and the budget, pays what it owes, answers a request, and finds room.
 pub record Fair (floor : ℕ → ℕ) (h : History) (n : ℕ) (x : Played) : Type 0 where
@@ -133,11 +124,6 @@ run-ok (step ∷ steps) tagsAt floor t h sound tied budget ok =
         sound = (facts-sound (x .tables) kept, rest .consequences .sound);
       };
     }
-
--- an accepted opening was stopped by no number
-unstopped : (n : ℕ) (x t : Tables) → unless n (left Ok x) t .answer ≡ Ok → n ≡ 0
-unstopped zero x t e = refl
-unstopped (suc n) x t e = let z : _≡_ {A = ℕ} 0 1 = cc in let w : ⊥ = omega arith in absurd w
 
 module _ (method k p : ℕ) (setpoints : List ℕ) (t : Tables) (steps : List Step) where
   abbrev from : Tables → List Played

@@ -10,14 +10,14 @@ use borrow.Author.Tests.{lt-ltb, le-ltb, ltb-true, ltb-false}
 use Rattle.ranges.specs.Tests.{by-test}
 use Rattle.tables.specs.Rows.{HasRow, word-same, word-other}
 use Rattle.tables.specs.Layout.{countAt, countWords, methodField, serversField, stepField, entriesField, writesField, readsField, heldField, clientWidth, clientWord, putClientWord}
-use Rattle.tables.specs.Links.{targets, linkWidth, linkRow, linkAt, putLink, ContentFits, link-same, link-other}
+use Rattle.tables.specs.Links.{targets, linkWidth, linkRow, putLink, ContentFits, link-same, link-other}
 use Rattle.tables.specs.Tables.{Tables}
 use Rattle.tables.specs.declared.links.Content.{Content}
 use Rattle.tables.specs.declared.links.Content.the-variants.{Nothing}
 use Rattle.tables.specs.declared.links.Link.{Link}
 use Rattle.serial.specs.History.{changed}
 use Rattle.serial.proofs.Places.{changed-all}
-use Rattle.serial.proofs.Press.{within, Shared, renumbered, clientOf, pressOf, rowOf, linksOf, sharedOf, view}
+use Rattle.serial.proofs.Press.{within, Shared, renumbered, clientOf, pressOf, rowOf, contentIn, linksOf, sharedOf, view}
 
 module _ {A : Type 0} (n : ℕ) (default : A) where
   pub within-at : (f : ℕ → A) (i : ℕ) → i < n → within n default f i ≡ f i
@@ -59,9 +59,6 @@ module _ (clients : List ℕ) (q f v : ℕ) (hf : f < clientWidth) where
       (λ g l. word-other clientWidth clients q f v r g hf l (λ e. d (e .0)))
 
 -- a content put on a client's link
-abbrev contentIn : List ℕ → ℕ → ℕ → Content
-contentIn links q i = linkAt links q i .content
-
 module _ (links : List ℕ) (q i : ℕ) (content : Content) (hi : i < targets) where
   pub link-put : HasRow linkWidth links (linkRow q i) → ContentFits content → linksOf (putLink links q i content) q ≡ changed (linksOf links q) i content
   link-put h fits =

@@ -5,6 +5,7 @@ use mathlib.Core.Bool.{false}
 use mathlib.Core.Option.{some}
 use mathlib.Core.List.{List}
 use lib.ListN.{length}
+use Rattle.ranges.specs.Each.{Each}
 use Rattle.keys.specs.Masks.{serversIn}
 use Rattle.tables.specs.declared.links.Content.{Content}
 use Rattle.tables.specs.declared.links.Content.the-variants.{Nothing, Request, Reply}
@@ -14,7 +15,7 @@ use Rattle.rules.specs.declared.Answer.the-variants.{Ok, Refused}
 use Rattle.refusals.specs.Steps.{open′}
 use Rattle.serial.specs.Steps.{Step, Event, opened, begun-write, begun-read, requested, replied, Played, Machine, run}
 use Rattle.serial.specs.History.{Transaction, Doing, nothing, writing, tagged, reading, History, openedWith, history}
-use Rattle.serial.specs.Row.{Each, row, Walk, RealTime}
+use Rattle.serial.specs.Row.{row, Walk, RealTime}
 
 -- the number of deliveries at which a READ of a mask ends: two for each of its stations, and what the method adds
 abbrev pub enough : ℕ → ℕ → ℕ

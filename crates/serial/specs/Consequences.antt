@@ -3,13 +3,13 @@ use Prim.Native.Nat.{ℕ, suc, _≤_}
 use mathlib.Core.Path.{_≡_}
 use mathlib.Core.Bool.{true}
 use mathlib.Core.List.{List, [], _∷_}
+use Rattle.ranges.specs.Each.{Each}
 use Rattle.rules.specs.declared.Answer.{Answer}
 use Rattle.rules.specs.declared.Answer.the-variants as answer
 use Rattle.rules.specs.declared.Arrival.{Arrival}
 use Rattle.rules.specs.declared.Arrival.the-variants as arrival
 use Rattle.soundness.specs.Sound.{sound}
 use Rattle.serial.specs.Steps.{Event, opened, begun-write, begun-read, requested, replied, Played}
-use Rattle.serial.specs.Row.{Each}
 
 -- the number by which a step was refused; 0 where it was accepted
 abbrev pub numberOf : Answer → ℕ
@@ -31,9 +31,9 @@ number (requested q i a) = numberOf a
 number (replied q i d) = numberOfArrival (d .arrival)
 
 -- "The opening is step 1; each accepted step adds 1": the accepted steps behind the last accepted opening, and that opening
-abbrev pub counted : Answer → ℕ → ℕ
-counted answer.Ok n = suc n
-counted (answer.Refused m) n = n
+abbrev pub countedAnswer : Answer → ℕ → ℕ
+countedAnswer answer.Ok n = suc n
+countedAnswer (answer.Refused m) n = n
 
 abbrev pub countedArrival : Arrival → ℕ → ℕ
 countedArrival arrival.Wait n = suc n
@@ -45,9 +45,9 @@ countedArrival (arrival.Refused m) n = n
 abbrev pub accepted : Event → ℕ → ℕ
 accepted (opened method k p setpoints answer.Ok) n = 1
 accepted (opened method k p setpoints (answer.Refused m)) n = n
-accepted (begun-write q mask setpoints a) n = counted a n
-accepted (begun-read q mask a) n = counted a n
-accepted (requested q i a) n = counted a n
+accepted (begun-write q mask setpoints a) n = countedAnswer a n
+accepted (begun-read q mask a) n = countedAnswer a n
+accepted (requested q i a) n = countedAnswer a n
 accepted (replied q i d) n = countedArrival (d .arrival) n
 
 abbrev pub acceptedSteps : List Played → ℕ → ℕ

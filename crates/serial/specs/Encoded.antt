@@ -1,19 +1,20 @@
 -- A list of steps as words: six a step (kind, three numbers, and where its setpoints stand in a lent pool), so that a function can play it.
-use Prim.Native.Nat.{ℕ, zero, suc, _+_, _*_, _/_}
-use mathlib.Core.Path.{_≡_, refl, sym, _∙_, ap}
+use Prim.Native.Nat.{ℕ, zero, suc, _+_, _/_}
+use mathlib.Core.Path.{_≡_, refl, sym, _∙_, ap, fun-ext}
 use mathlib.Core.Bool.{Bool, true, false, cond}
 use native.Mathlib.Omega.{arith}
 use mathlib.Core.List.{List, [], _∷_}
-use native.Mathlib.Numerals.{add-one}
-use lib.ListN.{length, take, drop, getD}
+use lib.ListN.{length, take, drop}
 use lib.Dec.{eqb, leb}
 use borrow.Author.Tests.{eq-eqb, ne-eqb}
 use Rattle.ranges.specs.Turns.{turns}
 use Rattle.tables.specs.Rows.{wordAt}
 use Rattle.tables.specs.Tables.{Tables}
+use Rattle.rules.specs.declared.Answer.{Answer}
+use Rattle.rules.specs.declared.Answer.the-variants.{Ok, Refused}
 use Rattle.rules.specs.Answers.{Left, Arrived}
 use Rattle.refusals.specs.Steps.{open′, beginWrite, beginRead, deliverRequest, deliverReply}
-use Rattle.serial.specs.Steps.{Step, opening, beginning-write, beginning-read, request, reply, Played, play, run}
+use Rattle.serial.specs.Steps.{Step, opening, beginning-write, beginning-read, request, reply, Played, play, run, leftBy}
 use Rattle.serial.specs.History.{openedWith, history}
 use Rattle.serial.specs.Claim.{Claim}
 
@@ -29,6 +30,7 @@ stepBy kind a b c setpoints =
 abbrev pub partOf : List ℕ → ℕ → ℕ → List ℕ
 partOf pool from count = cond (leb (from + count) (length pool)) (take count (drop from pool)) []
 
+-- the code's STEP_WIDTH
 abbrev pub stepWidth : ℕ
 stepWidth = 6
 
@@ -51,31 +53,41 @@ leaves step n t = play (step n) t .tables
 abbrev pub stepsOf : List ℕ → List ℕ → List Step
 stepsOf words pool = stepsFrom (stepAt words pool) 0 (length words / stepWidth)
 
--- What playing a list behind an opening leaves and tells: refused, all is as before; else the tables are those that the last step left, and the history that
--- the steps and answers tell has the claim.
-pub record PlayedAll (method k p : ℕ) (setpoints words pool : List ℕ) (t : Tables) (opened : Bool) (t′ : Tables) : Type 0 where
-  pub judged : opened ≡ false → t′ ≡ t
-  pub left : opened ≡ true → t′ ≡ turns (leaves (stepAt words pool)) (length words / stepWidth) (open′ method k p setpoints t .tables)
-  pub claim : opened ≡ true →
-      let played = run play (stepsOf words pool) (open′ method k p setpoints t .tables) in
-      Claim played (history played (openedWith method setpoints))
+-- whether an opening was accepted
+abbrev pub isOk : Answer → Bool
+isOk Ok = true
+isOk (Refused n) = false
 
--- the tables that the last step left, of a list that was played
-unfoldable pub endOf : List Played → Tables → Tables
-endOf [] t = t
-endOf (x ∷ xs) t = endOf xs (x .tables)
+-- What playing a list behind an opening answers, leaves and tells. The answer is whether the opening was accepted: a player that refuses every opening is ruled
+-- out by `accepted`. Refused, all is as before; else the tables are those that the last step left, and the history that the steps and answers tell has the claim.
+module _ (method k p : ℕ) (setpoints words pool : List ℕ) (t : Tables) where
+  -- the tables that the opening left, and the steps played behind it
+  abbrev pub start : Tables
+  start = open′ method k p setpoints t .tables
 
--- the loop's tables are those at the end of the run
+  abbrev pub played : List Played
+  played = run play (stepsOf words pool) start
+
+  pub record PlayedAll (opened : Bool) (t′ : Tables) : Type 0 where
+    pub accepted : opened ≡ isOk (open′ method k p setpoints t .answer)
+    pub judged : opened ≡ false → t′ ≡ t
+    pub left : opened ≡ true → t′ ≡ leftBy played start
+    pub claim : opened ≡ true → Claim played (history played (openedWith method setpoints))
+
+-- the loop's tables are those that the run leaves
 module _ (step : ℕ → Step) where
   shifted-turns : (n at : ℕ) (t : Tables) → turns (λ m. leaves step (at + m)) (suc n) t ≡ turns (λ m. leaves step (suc at + m)) n (leaves step at t)
   unfolding turns
   shifted-turns zero at t = let e : at + 0 ≡ at = omega arith in rw e
   shifted-turns (suc n) at t = let e : at + suc n ≡ suc at + n = omega arith in rw e (ap (leaves step (suc at + n)) (shifted-turns n at t))
 
-  pub run-ends : (n at : ℕ) (t : Tables) → endOf (run play (stepsFrom step at n) t) t ≡ turns (λ m. leaves step (at + m)) n t
-  unfolding endOf stepsFrom turns
-  run-ends zero at t = refl
-  run-ends (suc n) at t = run-ends n (suc at) (leaves step at t) ∙ sym (shifted-turns n at t)
+  run-from : (n at : ℕ) (t : Tables) → leftBy (run play (stepsFrom step at n) t) t ≡ turns (λ m. leaves step (at + m)) n t
+  unfolding stepsFrom turns
+  run-from zero at t = refl
+  run-from (suc n) at t = run-from n (suc at) (leaves step at t) ∙ sym (shifted-turns n at t)
+
+  pub run-ends : (n : ℕ) (t : Tables) → leftBy (run play (stepsFrom step 0 n) t) t ≡ turns (leaves step) n t
+  run-ends n t = run-from n 0 t ∙ ap (λ (f : ℕ → Tables → Tables). turns f n t) (fun-ext (λ m. let e : 0 + m ≡ m = omega arith in ap (leaves step) e))
 
 -- the cases of a step, as the code meets them; x is what the call told
 module _ (a b c : ℕ) (setpoints : List ℕ) (t : Tables) {kind : ℕ} where

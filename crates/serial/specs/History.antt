@@ -147,8 +147,8 @@ abbrev pub openedWith : ℕ → List ℕ → History
 openedWith method setpoints = fresh (λ i. getD setpoints i 0) (extraOf method)
 
 -- "their requests at target 16"
-abbrev pub atHead : ℕ → Bool
-atHead i = eqb i coordinator
+abbrev pub atCoordinator : ℕ → Bool
+atCoordinator i = eqb i coordinator
 
 -- one event more; an accepted opening starts anew
 abbrev pub after : Event → History → History
@@ -158,7 +158,7 @@ after (begun-write q mask setpoints Ok) h = begun (h .doing q) q (writing mask s
 after (begun-write q mask setpoints (Refused n)) h = passed h
 after (begun-read q mask Ok) h = begun (h .doing q) q (reading mask (h .clock) 0) h
 after (begun-read q mask (Refused n)) h = passed h
-after (requested q i Ok) h = cond (atHead i) (entered (h .doing q) q h) (delivered (h .doing q) q h)
+after (requested q i Ok) h = cond (atCoordinator i) (entered (h .doing q) q h) (delivered (h .doing q) q h)
 after (requested q i (Refused n)) h = passed h
 after (replied q i d) h = arrived (d .arrival) (d .setpoints) q h
 

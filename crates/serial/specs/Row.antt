@@ -9,11 +9,6 @@ use lib.Dec.{eqb}
 use Rattle.keys.specs.Masks.{hasServer}
 use Rattle.serial.specs.History.{Transaction, noWrite, History}
 
--- each of a list
-abbrev pub Each : {A : Type 0} → (A → Type 0) → List A → Type 0
-Each P [] = Unit {0}
-Each P (x ∷ xs) = P x × Each P xs
-
 -- the READs of a tag, by end
 unfoldable pub readsOf : ℕ → List Transaction → List Transaction
 readsOf tag [] = []

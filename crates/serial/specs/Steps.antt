@@ -50,3 +50,8 @@ Machine = Step → Tables → Played
 abbrev pub run : Machine → List Step → Tables → List Played
 run machine [] t = []
 run machine (step ∷ steps) t = let x = machine step t in x ∷ run machine steps (x .tables)
+
+-- the tables that a list of played steps leaves: those of the last, or those that it began with
+abbrev pub leftBy : List Played → Tables → Tables
+leftBy [] t = t
+leftBy (x ∷ xs) t = leftBy xs (x .tables)

@@ -5,20 +5,12 @@ ghost use lib.ListN.{length};
 ghost use Rattle.ranges.specs.Turns.{turns};
 ghost use Rattle.tables.specs.Rows.{HasRow};
 ghost use Rattle.tables.specs.Tables.{tablesOf};
-ghost use Rattle.serial.specs.History.{extraOf};
 ghost use Rattle.serial.specs.Steps.{play};
 ghost use Rattle.serial.specs.Encoded.{stepBy, partOf, stepWidth, stepAt, leaves, PlayedAll};
 use rules::Answer;
 
-// How many deliveries a READ takes beyond two for each of its servers.
-pub fn extra_deliveries(method: u32) -> u32
-    ensures { λ r. ⌜ r ≡ extraOf method ⌝ }
-{
-    if method == 1 {
-        return 0;
-    }
-    2
-}
+// The words of a step: kind, three numbers, and where its setpoints begin in the pool and how many they are.
+const STEP_WIDTH: usize = 6;
 
 // One step of a list, by its kind: 1 an opening, 2 a begin of a WRITE, 3 a begin of a READ, 4 the delivery of a request, any other that of a reply.
 fn play_one(
@@ -147,7 +139,7 @@ fn play_word(
     ensures { λ _. ⌜ tablesOf (now (counts .exit)) (now (clients .exit)) (now (links .exit)) (now (keys .exit)) (now (values .exit)) (now (log .exit)) (now (writes .exit)) (now (reads .exit))
         ≡ leaves (stepAt (now (words .entry)) (now (pool .entry))) at (tablesOf (now (counts .entry)) (now (clients .entry)) (now (links .entry)) (now (keys .entry)) (now (values .entry)) (now (log .entry)) (now (writes .entry)) (now (reads .entry))) ⌝ }
 {
-    let row = 6 * at;
+    let row = STEP_WIDTH * at;
     let setpoints = part(pool, words[row + 4], words[row + 5]);
     play_one(
         counts,
@@ -182,7 +174,7 @@ fn play_words(
     ensures { λ _. ⌜ tablesOf (now (counts .exit)) (now (clients .exit)) (now (links .exit)) (now (keys .exit)) (now (values .exit)) (now (log .exit)) (now (writes .exit)) (now (reads .exit))
         ≡ turns (leaves (stepAt (now (words .entry)) (now (pool .entry)))) (length (now (words .entry)) / stepWidth) (tablesOf (now (counts .entry)) (now (clients .entry)) (now (links .entry)) (now (keys .entry)) (now (values .entry)) (now (log .entry)) (now (writes .entry)) (now (reads .entry))) ⌝ }
 {
-    let steps = words.len() / 6;
+    let steps = words.len() / STEP_WIDTH;
     let mut at = 0;
     while at < steps {
         play_word(
@@ -202,7 +194,7 @@ fn play_words(
     }
 }
 
-// Opens a store and plays a list of steps on it, with every step judged. What the list tells has the claim of demand 3.
+// Opens a store and plays a list of steps on it, with every step judged; answers whether the opening was accepted. What the list tells has the claim of demand 3.
 pub fn play_all(
     counts: &mut [u32],
     clients: &mut [u32],

@@ -1,6 +1,6 @@
 -- `serial::play_words` meets its contract: the loop has played the steps it has passed. The context is large, so the needs on numbers name their facts.
 use Prim.Native.Nat.{_≤_, _-_, _/_}
-use mathlib.Core.Path.{_≡_, refl, sym}
+use mathlib.Core.Path.{_≡_}
 use native.Mathlib.Omega.{arith}
 use lib.ListN.{length}
 use Rattle.ranges.specs.Turns.{turns, turns-none, turns-more}
