@@ -1,17 +1,15 @@
 -- The cases of the beginnings, as the code meets them.
-use Prim.Native.Nat.{ℕ, _+_, _-_}
+use Prim.Native.Nat.{ℕ, _+_}
 use mathlib.Core.Path.{_≡_}
-use mathlib.Core.Bool.{cond}
 use mathlib.Core.List.{List}
 use lib.ListN.{length}
-use lib.Dec.{eqb}
 use borrow.Author.Tests.{eq-eqb, ne-eqb}
 use Rattle.keys.specs.declared.Key.{Key}
 use Rattle.keys.specs.Keys.{keyOf}
-use Rattle.tables.specs.Layout.{countAt, countField, methodField, serversField, entriesField, writesField, readsField, tagField, clientWord, putClientWord}
-use Rattle.tables.specs.Tables.{Tables, tablesOf, methodOf, serversOf, entriesOf, writesOf, readsOf, countOf}
-use Rattle.rules.specs.Common.{writing, coordinator, startedClient, begunCounts, begunRecords}
-use Rattle.rules.specs.Begin.{storedSetpoints, sentSets, sentGets, sentAsks, sendAsk, begunWrite, Asking, asking, askingByA, askingByB, askingByC, askingBy, begunRead, begunReadWith}
+use Rattle.tables.specs.Layout.{countField, writesField, readsField, putClientWord}
+use Rattle.tables.specs.Tables.{Tables, tablesOf, methodOf, serversOf, writesOf, countOf}
+use Rattle.rules.specs.Common.{writing, startedClient, begunCounts, begunRecords}
+use Rattle.rules.specs.Begin.{storedSetpoints, sentSets, begunWrite, Asking, asking, askingByA, askingByB, askingByC, askingBy, begunRead}
 
 -- what a WRITE leaves in the client's row
 abbrev pub startedWrite : ℕ → ℕ → ℕ → ℕ → List ℕ → ℕ → List ℕ → List ℕ

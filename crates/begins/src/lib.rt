@@ -15,6 +15,7 @@ ghost use Rattle.history.specs.Ready.{BeginReady};
 ghost use Rattle.begins.specs.Ready.{HasLinks, AskReady, WriteReady};
 ghost use Rattle.begins.specs.Cases.{startedWrite};
 use keys::Key;
+use rules::states;
 use tables::clients;
 use tables::counts;
 use tables::links;
@@ -132,7 +133,7 @@ fn send_asks(links: &mut [u32], client: usize, mask: u32, servers: usize)
     }
 }
 
-// A WRITE's client: state 1, its mask, count and setpoints.
+// A WRITE's client: its state, mask, count and setpoints.
 fn start_write(
     clients: &mut [u32],
     client: usize,
@@ -144,7 +145,7 @@ fn start_write(
     requires { ⌜ (HasRow clientWidth (now clients) client) × (length (now setpoints) ≤ 16) ⌝ }
     ensures { λ _. ⌜ now (clients .exit) ≡ startedWrite client mask place count (now (setpoints .entry)) (length (now (setpoints .entry))) (now (clients .entry)) ⌝ }
 {
-    start_client(clients, client, 1, mask, place);
+    start_client(clients, client, states::WRITING, mask, place);
     clients::put_client_word(clients, client, clients::COUNT, count);
     store_setpoints(clients, client, setpoints);
 }
@@ -195,7 +196,7 @@ fn ask_by_a(
     start_client(
         clients,
         client,
-        4,
+        states::ASKING_SETPOINTS,
         mask,
         counts::count_at(counts, counts::READS),
     );
@@ -212,7 +213,7 @@ fn ask_by_b(counts: &[u32], clients: &mut [u32], links: &mut [u32], client: usiz
     start_client(
         clients,
         client,
-        3,
+        states::ASKING_KEYS,
         mask,
         counts::count_at(counts, counts::READS),
     );
@@ -230,7 +231,7 @@ fn ask_by_c(counts: &[u32], clients: &mut [u32], links: &mut [u32], client: usiz
     start_client(
         clients,
         client,
-        5,
+        states::ASKING_ALL,
         mask,
         counts::count_at(counts, counts::READS),
     );

@@ -1,6 +1,5 @@
-// The register's records, kept as transactions begin, are tagged and end.
+// The register's records: a transaction's begin, and a READ's end. A WRITE's tag and its end are one word each, put by `requests` and `replies`.
 ghost use mathlib.Core.Path.{_≡_};
-ghost use Prim.Native.Nat.{_<_};
 ghost use Rattle.rules.specs.Common.{begunCounts, begunRecords, endedRecord, taggedRecord};
 ghost use Rattle.tables.specs.Rows.{HasRow};
 ghost use Rattle.tables.specs.Layout.{recordWidth};

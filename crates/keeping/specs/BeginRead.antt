@@ -19,7 +19,7 @@ use Rattle.tables.specs.Tables.{Tables, methodOf, serversOf, clientsOf, stepOf,
 use Rattle.tables.specs.declared.links.Content.{Content}
 use Rattle.rules.specs.Common.{askingKeys, askingSetpoints, askingAll, coordinator, request}
 use Rattle.rules.specs.Begin.{lastTag, sentGets, sendAsk, sentAsks, asking, begunReadWith, begunRead}
-use Rattle.soundness.specs.Sound.{isWriting, isReading, uses, sound}
+use Rattle.soundness.specs.Sound.{isWriting, isReading, uses}
 use Rattle.soundness.specs.Facts.{ClientFacts, ReadFacts, RecordsFacts, Sound}
 use Rattle.refusals.specs.Refusals.{readRefusal}
 use Rattle.keeping.specs.Accepted.{neither, Beginnable, readable}
@@ -300,6 +300,3 @@ module _ (q mask : ℕ) (t : Tables) (s : Sound t) (b : Beginnable q mask t) (fe
 module _ (q mask : ℕ) (t : Tables) (s : Sound t) (e : readRefusal q mask t ≡ 0) where
   pub begunRead-kept : Kept q t (begunRead q mask t)
   begunRead-kept = let a = readable q mask t e in begun-read q mask t s (a .begin) (a .few) (a .part)
-
-  pub begunRead-sound : Sound (begunRead q mask t)
-  begunRead-sound = begunRead-kept .sound

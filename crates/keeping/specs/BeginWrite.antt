@@ -183,6 +183,3 @@ module _ (q mask : ℕ) (setpoints : List ℕ) (t : Tables) (s : Sound t) (e : w
   pub begunWrite-kept : Kept q t (begunWrite q mask setpoints t)
   unfolding begunWrite
   begunWrite-kept = let a = writable q mask setpoints t e in begun-write q mask setpoints t s (a .begin) (a .few) (a .part)
-
-  pub begunWrite-sound : Sound (begunWrite q mask setpoints t)
-  begunWrite-sound = begunWrite-kept .sound

@@ -10,7 +10,7 @@ use borrow.Author.Tests.{ne-eqb, eqb-true}
 use Rattle.ranges.specs.Tests.{by-equal}
 use Rattle.keys.specs.Masks.{Within}
 use Rattle.tables.specs.Rows.{HasRow}
-use Rattle.tables.specs.Layout.{clientWidth, clientWord, countField, maskField, recordField, stateField, tagField, setpointsField}
+use Rattle.tables.specs.Layout.{lastStep, clientWidth, clientWord, countField, maskField, recordField, stateField, tagField, setpointsField}
 use Rattle.tables.specs.Links.{targets, linkWidth, link-length}
 use Rattle.tables.specs.Tables.{Tables, serversOf, clientsOf, stepOf, stateOf, maskOf, receivedOf}
 use Rattle.tables.specs.declared.links.Content.the-variants.{Nothing}
@@ -31,7 +31,7 @@ pub record Came (q i : ℕ) (t : Tables) : Type 0 where
   pub sound : Sound t
   pub client : q < clientsOf t
   pub target : i < targets
-  pub early : stepOf t < 4294967295
+  pub early : stepOf t < lastStep
   pub kind : kindOn t q i ≡ 2
 
 module _ {q i : ℕ} {t : Tables} (a : Came q i t) where

@@ -10,7 +10,7 @@ use borrow.Author.Tests.{eq-eqb, ne-eqb, ltb-true, ltb-false, lt-ltb}
 use Rattle.ranges.specs.Tests.{by-test, by-equal, both, both-left, both-right}
 use Rattle.ranges.specs.Sum.{sumBelow}
 use Rattle.tables.specs.Rows.{wordAt}
-use Rattle.tables.specs.Layout.{clientWidth, clientWord, serverPlaces, logPlaces, recordPlaces, entryWidth, versionWord, recordWord, clientOfRecord, numberOfRecord, tagOfRecord, countField, maskField, stateField, tagField}
+use Rattle.tables.specs.Layout.{lastStep, clientWidth, clientWord, serverPlaces, logPlaces, recordPlaces, entryWidth, versionWord, recordWord, clientOfRecord, numberOfRecord, tagOfRecord, countField, maskField, stateField, tagField}
 use Rattle.tables.specs.Links.{targets, linkWidth, isEmpty}
 use Rattle.tables.specs.Tables.{Tables, methodOf, serversOf, clientsOf, stepOf, entriesOf, writesOf, readsOf, heldOf, stateOf, countOf, maskOf, tagOf, receivedOf, contentAt}
 use Rattle.rules.specs.Common.{entering, askingKeys, askingAll, coordinator}
@@ -119,7 +119,7 @@ pub record Grows (q : ℕ) (t t′ : Tables) : Type 0 where
 
 -- What a step of client q proves anew: the scalars, what was appended, the client itself, the records.
 pub record Renewed (q : ℕ) (t t′ : Tables) : Type 0 where
-  pub step : Between 1 (stepOf t′) 4294967295
+  pub step : Between 1 (stepOf t′) lastStep
   pub entries : entriesOf t′ ≤ logPlaces
   pub writes : writesOf t′ ≤ recordPlaces
   pub reads : readsOf t′ ≤ recordPlaces

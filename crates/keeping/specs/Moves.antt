@@ -8,7 +8,7 @@ use lib.ListN.{length, length-set}
 use lib.Seq.{getD-set-same, getD-set-other}
 use Rattle.ranges.specs.Sum.{sumBelow}
 use Rattle.tables.specs.Rows.{wordAt}
-use Rattle.tables.specs.Layout.{countWords, countAt, stepField, writesField, readsField, heldField, recordPlaces, clientWidth, clientWord, versionWord, entryWidth, clientsField, entriesField, methodField, serversField}
+use Rattle.tables.specs.Layout.{lastStep, countWords, countAt, stepField, writesField, readsField, heldField, recordPlaces, clientWidth, clientWord, versionWord, entryWidth, clientsField, entriesField, methodField, serversField}
 use Rattle.tables.specs.Links.{targets, linkWidth}
 use Rattle.tables.specs.Tables.{Tables, clientsOf, stepOf, entriesOf, writesOf, readsOf, heldOf, countOf}
 use Rattle.rules.specs.Common.{counted}
@@ -60,7 +60,7 @@ module _ (q : ℕ) (t t′ : Tables) (m : Moves q t t′) where
 
 -- What such a step proves anew.
 pub record Anew (q : ℕ) (t t′ : Tables) : Type 0 where
-  pub step : Between 1 (stepOf t′) 4294967295
+  pub step : Between 1 (stepOf t′) lastStep
   pub writes : writesOf t′ ≤ recordPlaces
   pub reads : readsOf t′ ≤ recordPlaces
   pub client : ClientFacts t′ q

@@ -8,7 +8,7 @@ use lib.ListN.{length, length-set}
 use Rattle.ranges.specs.Tests.{by-equal}
 use Rattle.ranges.specs.Sum.{sum-same}
 use Rattle.tables.specs.Rows.{HasRow}
-use Rattle.tables.specs.Layout.{writesField, readsField, stateField, recordField, clientWidth, clientWord, recordWidth, recordWord, clientOfRecord, numberOfRecord, tagOfRecord, endOfRecord, countField}
+use Rattle.tables.specs.Layout.{lastStep, writesField, readsField, stateField, recordField, clientWidth, clientWord, recordWidth, recordWord, clientOfRecord, numberOfRecord, tagOfRecord, endOfRecord, countField}
 use Rattle.tables.specs.Links.{targets, linkWidth}
 use Rattle.tables.specs.Tables.{Tables, tablesOf, clientsOf, stepOf, entriesOf, writesOf, readsOf, stateOf, countOf, recordOf}
 use Rattle.rules.specs.Common.{idle, nextStep, counted, endedRecord, taggedRecord}
@@ -37,7 +37,7 @@ module _ {q : ℕ} {clients′ links′ : List ℕ} {t : Tables} (v : Moving q c
   place-stays : (p : ℕ) → (p ≡ q → ⊥) → clientWord clients′ p recordField ≡ recordOf t p
   place-stays p d = v .row p recordField d (omega arith)
 
-module _ (q : ℕ) (clients′ links′ writes′ reads′ : List ℕ) (t : Tables) (s : Sound t) (client : q < clientsOf t) (early : stepOf t < 4294967295)
+module _ (q : ℕ) (clients′ links′ writes′ reads′ : List ℕ) (t : Tables) (s : Sound t) (client : q < clientsOf t) (early : stepOf t < lastStep)
     (v : Moving q clients′ links′ t) (writes-long : length writes′ ≡ length (t .writes)) (reads-long : length reads′ ≡ length (t .reads)) where
   abbrev after : Tables
   after = repliedTables clients′ links′ writes′ reads′ t
@@ -84,7 +84,7 @@ module _ (q : ℕ) (clients′ links′ writes′ reads′ : List ℕ) (t : Tabl
   read-stays e n h = read-kept t after (moves-numbers q t after replied-moves) n (rw e) (rw e) (rw (e, same-entries q t after replied-moves) (s .read n h .tag)) (s .read n h)
 
 -- No record ends: the client goes on with what it is doing.
-module _ (q : ℕ) (clients′ links′ : List ℕ) (t : Tables) (s : Sound t) (client : q < clientsOf t) (early : stepOf t < 4294967295) (v : Moving q clients′ links′ t) where
+module _ (q : ℕ) (clients′ links′ : List ℕ) (t : Tables) (s : Sound t) (client : q < clientsOf t) (early : stepOf t < lastStep) (v : Moving q clients′ links′ t) where
   abbrev going : Tables
   going = repliedTables clients′ links′ (t .writes) (t .reads) t
 
@@ -101,7 +101,7 @@ module _ (q : ℕ) (clients′ links′ : List ℕ) (t : Tables) (s : Sound t) (
       (records-same isReading q t going (t .reads) (readsOf t) (state-stays v) (place-stays v) (λ x g. s .records x g .read) r place)
 
 -- "The tag's arrival ends the WRITE": its record gets its end, and the client is idle.
-module _ (q : ℕ) (clients′ links′ : List ℕ) (t : Tables) (s : Sound t) (client : q < clientsOf t) (early : stepOf t < 4294967295) (v : Moving q clients′ links′ t)
+module _ (q : ℕ) (clients′ links′ : List ℕ) (t : Tables) (s : Sound t) (client : q < clientsOf t) (early : stepOf t < lastStep) (v : Moving q clients′ links′ t)
     (was : isWriting (stateOf t q) ≡ true) (not-other : isReading (stateOf t q) ≡ false) where
   abbrev wrote′ : List ℕ
   wrote′ = endedRecord (recordOf t q) (nextStep t) (t .writes)
@@ -136,7 +136,7 @@ module _ (q : ℕ) (clients′ links′ : List ℕ) (t : Tables) (s : Sound t) (
       (records-idle isReading q t ended (t .reads) (readsOf t) (state-stays v) (place-stays v) (λ x g. s .records x g .read) not-other (rw state))
 
 -- A READ ends: its record gets its tag and its end, and the client is idle.
-module _ (q tag : ℕ) (clients′ links′ : List ℕ) (t : Tables) (s : Sound t) (client : q < clientsOf t) (early : stepOf t < 4294967295) (v : Moving q clients′ links′ t)
+module _ (q tag : ℕ) (clients′ links′ : List ℕ) (t : Tables) (s : Sound t) (client : q < clientsOf t) (early : stepOf t < lastStep) (v : Moving q clients′ links′ t)
     (was : isReading (stateOf t q) ≡ true) (not-other : isWriting (stateOf t q) ≡ false) (within : tag < entriesOf t) where
   abbrev tagged′ : List ℕ
   tagged′ = taggedRecord (recordOf t q) tag (t .reads)

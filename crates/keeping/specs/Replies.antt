@@ -46,6 +46,3 @@ module _ (q i : ℕ) (t : Tables) (s : Sound t) (e : deliveryRefusal q i t ≡ 0
   pub replyDelivered-kept : Kept q t (replyDelivered q i t .tables)
   unfolding replyDelivered
   replyDelivered-kept = by-content (contentAt t q i) refl
-
-  pub replyDelivered-sound : Sound (replyDelivered q i t .tables)
-  replyDelivered-sound = replyDelivered-kept .sound

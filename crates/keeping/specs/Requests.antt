@@ -11,7 +11,7 @@ use Rattle.ranges.specs.Tests.{by-test, by-equal, both, both-left, both-right}
 use Rattle.keys.specs.Keys.{keyWord, keyAtWord, key-back}
 use Rattle.keys.specs.Masks.{maskWithin, within-true}
 use Rattle.tables.specs.Rows.{HasRow}
-use Rattle.tables.specs.Layout.{countAt, stepField, entriesField, serverPlaces, logPlaces, putEntry, methodField, readsField, serversField, writesField}
+use Rattle.tables.specs.Layout.{lastStep, countAt, stepField, entriesField, serverPlaces, logPlaces, putEntry, methodField, readsField, serversField, writesField}
 use Rattle.tables.specs.Links.{targets, linkWidth, linkRow, link-length, contentsOf}
 use Rattle.tables.specs.Tables.{Tables, serversOf, clientsOf, stepOf, entriesOf, heldOf, stateOf, maskOf, contentAt}
 use Rattle.server.specs.Held.{stored, appended, firstBearing}
@@ -36,7 +36,7 @@ pub link-row : (t : Tables) (q i : ℕ) → Sound t → q < clientsOf t → i < 
 link-row t q i s h l = omega (arith, s .long .links)
 
 -- The reply takes the request's place.
-module _ (q i number : ℕ) (t : Tables) (s : Sound t) (client : q < clientsOf t) (target : i < targets) (early : stepOf t < 4294967295)
+module _ (q i number : ℕ) (t : Tables) (s : Sound t) (client : q < clientsOf t) (target : i < targets) (early : stepOf t < lastStep)
     (asked : kindOn t q i ≡ 1) (good : replySound (stateOf t q) i number t ≡ true) where
   abbrev after : Tables
   after = answered q i number t .tables
@@ -215,6 +215,3 @@ module _ (q i : ℕ) (t : Tables) (s : Sound t) (e : deliveryRefusal q i t ≡ 0
   pub requestDelivered-kept : Kept q t (requestDelivered q i t .tables)
   unfolding requestDelivered
   requestDelivered-kept = by-content (contentAt t q i) refl
-
-  pub requestDelivered-sound : Sound (requestDelivered q i t .tables)
-  requestDelivered-sound = requestDelivered-kept .sound

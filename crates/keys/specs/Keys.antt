@@ -1,10 +1,10 @@
 -- "A key is (count, panel)." A panel is a client here.
 use Prim.Native.Nat.{ℕ, _+_, _*_, _/_, _%_, _<_}
-use mathlib.Core.Path.{_≡_, refl, ap}
-use mathlib.Core.Bool.{Bool, true, false, cond, _&&_}
+use mathlib.Core.Path.{_≡_, refl}
+use mathlib.Core.Bool.{Bool, true, false, _&&_}
 use native.Mathlib.Omega.{arith}
 use lib.Dec.{eqb}
-use borrow.Author.Tests.{eq-eqb, ne-eqb, eqb-true, eqb-false}
+use borrow.Author.Tests.{eq-eqb, ne-eqb, eqb-true}
 use Rattle.ranges.specs.Tests.{both-left, both-right}
 use Rattle.keys.specs.declared.Key.{Key}
 
@@ -42,9 +42,6 @@ key-back w h = omega arith
 
 pub at-word-fits : (w : ℕ) → FitsByte (keyAtWord w)
 at-word-fits w = record { count = omega arith; client = omega arith }
-
-pub word-below : (k : Key) → FitsByte k → keyWord k < 65536
-word-below k f = omega arith
 
 -- equality of keys is equality of their numbers
 pub word-one : (k l : Key) → FitsByte k → FitsByte l → keyWord k ≡ keyWord l → k ≡ l

@@ -1,8 +1,8 @@
 // Keys and masks by value.
 ghost use mathlib.Core.Path.{_≡_};
 ghost use Prim.Native.Nat.{_≤_, _<_};
-ghost use Rattle.keys.specs.Keys.{keyOf, opening, sameKey, keyWord, keyAtWord};
-ghost use Rattle.keys.specs.Masks.{hasServer, serversIn, maskWithin};
+ghost use Rattle.keys.specs.Keys.{keyOf, sameKey, keyWord, keyAtWord};
+ghost use Rattle.keys.specs.Masks.{hasServer, maskWithin};
 
 // A key names a WRITE: the count of the client's WRITEs so far, this one included, and the client.
 pub struct Key {
@@ -24,13 +24,6 @@ impl Key {
             count: count,
             client: client,
         }
-    }
-
-    // The opening's key as a value, for those that cannot name a constant.
-    pub fn opening() -> Key
-        ensures { λ r. ⌜ r ≡ opening ⌝ }
-    {
-        Key::OPENING
     }
 
     pub fn same(self, other: Key) -> bool
@@ -65,21 +58,6 @@ pub fn has_server(mask: u32, server: usize) -> bool
     ensures { λ r. ⌜ r ≡ hasServer mask server ⌝ }
 {
     (mask >> server) % 2 == 1
-}
-
-// How many of the 16 servers a mask has.
-pub fn servers_in(mask: u32) -> u32
-    ensures { λ r. ⌜ r ≡ serversIn mask ⌝ }
-{
-    let mut n = 0;
-    let mut server: usize = 0;
-    while server < 16 {
-        if has_server(mask, server) {
-            n += 1;
-        }
-        server += 1;
-    }
-    n
 }
 
 // Whether a mask is not zero and within the first servers.

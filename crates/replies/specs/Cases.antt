@@ -1,25 +1,23 @@
 -- The cases of a reply's delivery, as the code meets them.
-use Prim.Native.Nat.{ℕ, _+_, _-_, _≤_, _<_}
-use mathlib.Core.Path.{_≡_, refl, sym, _∙_, ap}
+use Prim.Native.Nat.{ℕ, _-_}
+use mathlib.Core.Path.{_≡_, sym, _∙_, ap}
 use mathlib.Core.Bool.{Bool, true, false}
 use mathlib.Core.List.{List}
-use lib.Dec.{eqb}
 use borrow.Author.Tests.{eq-eqb, ne-eqb}
-use Rattle.keys.specs.declared.Key.{Key}
 use Rattle.keys.specs.Keys.{keyOf}
-use Rattle.tables.specs.Layout.{putClientWord, clientWord, stateField, tagField, countField, maskField, setpointsField, receivedField}
+use Rattle.tables.specs.Layout.{putClientWord, stateField, tagField}
 use Rattle.tables.specs.Links.{putLink, linkAt}
-use Rattle.tables.specs.Tables.{Tables, tablesOf, stepOf, serversOf, stateOf, countOf, maskOf, tagOf, recordOf, contentAt}
+use Rattle.tables.specs.Tables.{Tables, tablesOf, serversOf, stateOf, countOf, maskOf, tagOf, recordOf}
 use Rattle.tables.specs.declared.links.Contents.{Contents}
 use Rattle.tables.specs.declared.links.Content.{Content}
 use Rattle.tables.specs.declared.links.Content.the-variants.{Nothing, Request, Reply}
 use Rattle.tables.specs.declared.links.Link.{Link}
-use Rattle.rules.specs.declared.Arrival.the-variants.{Wait, Next, Write, Read, Refused}
+use Rattle.rules.specs.declared.Arrival.the-variants.{Wait, Next, Write, Refused}
 use Rattle.rules.specs.declared.Delivered.{Delivered}
 use Rattle.rules.specs.Answers.{Arrived, arrived, nothingShown}
 use Rattle.rules.specs.Common.{idle, writing, entering, askingKeys, askingSetpoints, coordinator, request, pending, endedRecord, taggedRecord}
 use Rattle.rules.specs.Begin.{sentGets}
-use Rattle.rules.specs.Reply.{said, moved, emptied, readShown, onSetDone, onEntered, onKeys, gotSetpoint, onGot, gotNumber, tagChosen, concluded, onAll, onReplyIn, onReply, replyDelivered}
+use Rattle.rules.specs.Reply.{emptied, readShown, onSetDone, onEntered, onKeys, gotSetpoint, onGot, gotNumber, tagChosen, concluded, onAll, onReplyIn, onReply, replyDelivered}
 use Rattle.replies.specs.Ready.{Settled, FinishedByC, tagFrom, concludedRow}
 
 -- s is what `settle` left, b whether a link is pending then

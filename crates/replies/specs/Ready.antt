@@ -4,7 +4,7 @@ use mathlib.Core.Path.{_≡_, sym, _∙_}
 use mathlib.Core.List.{List}
 use lib.ListN.{length}
 use Rattle.tables.specs.Rows.{HasRow}
-use Rattle.tables.specs.Layout.{countAt, countWords, stepField, serversField, clientWidth, clientWord, putClientWord, stateField, countField, recordField, recordWidth, entryWidth, logPlaces, tagField, maskField, receivedField}
+use Rattle.tables.specs.Layout.{countAt, stepField, serversField, clientWidth, clientWord, putClientWord, stateField, countField, recordField, recordWidth, entryWidth, logPlaces, tagField, maskField, receivedField}
 use Rattle.tables.specs.Links.{linkAt, putLink, targets}
 use Rattle.tables.specs.declared.links.Contents.{Contents}
 use Rattle.tables.specs.declared.links.Content.the-variants.{Nothing, Reply}

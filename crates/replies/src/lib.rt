@@ -1,17 +1,16 @@
 // The delivery of a reply, on tables known to be sound: the client goes on, waits or ends.
 ghost use mathlib.Core.Path.{_≡_};
 ghost use mathlib.Core.List.{List};
-ghost use Prim.Native.Nat.{ℕ, _+_, _≤_, _<_};
-ghost use lib.ListN.{length};
+ghost use Prim.Native.Nat.{ℕ, _+_, _<_};
 ghost use Rattle.tables.specs.Tables.{tablesOf};
 ghost use Rattle.tables.specs.Rows.{HasRow};
-ghost use Rattle.tables.specs.Layout.{clientWidth, entryWidth};
-ghost use Rattle.tables.specs.Links.{targets, putLink};
+ghost use Rattle.tables.specs.Layout.{clientWidth};
+ghost use Rattle.tables.specs.Links.{putLink};
 ghost use Rattle.tables.specs.Layout.{stateField, countField, maskField, recordWidth, putClientWord, clientWord};
 ghost use Rattle.keys.specs.Keys.{keyOf};
 ghost use Rattle.rules.specs.Answers.{arrived};
-ghost use Rattle.rules.specs.Common.{entering, idle, coordinator, request, pending, endedRecord, taggedRecord};
-ghost use Rattle.rules.specs.Reply.{shownSetpoints, readShown, onSetDone, onEntered, onKeys, onGot, onAll, onReplyIn, replyDelivered};
+ghost use Rattle.rules.specs.Common.{entering, coordinator, request};
+ghost use Rattle.rules.specs.Reply.{shownSetpoints, onSetDone, onEntered, onKeys, onGot, onAll, onReplyIn, replyDelivered};
 ghost use Rattle.replies.specs.Ready.{Settled, CountFits, GotReady, KeysReady, Finished, Concludable, FinishedByC, AllReady, Brings, ReplyReady};
 ghost use Rattle.choice.specs.Ready.{ChoiceReady};
 ghost use Rattle.requests.specs.Ready.{Answerable};
@@ -19,26 +18,12 @@ ghost use Rattle.begins.specs.Ready.{HasLinks};
 use keys::Key;
 use rules::Arrival;
 use rules::Delivered;
+use rules::states;
 use tables::clients;
 use tables::counts;
 use tables::links;
 use tables::links::Contents;
 use tables::records;
-
-// Whether some link of a client holds a request or a reply.
-fn is_pending(links: &[u32], client: usize) -> bool
-    requires { ⌜ HasLinks (now links) client ⌝ }
-    ensures { λ r. ⌜ r ≡ pending (now (links .entry)) client ⌝ }
-{
-    let mut target = 0;
-    while target < links::TARGETS {
-        if !links::is_empty(links, client, target) {
-            return true;
-        }
-        target += 1;
-    }
-    false
-}
 
 // The link holds nothing now, and the step counts. The answer is the step's number.
 fn settle(counts: &mut [u32], links: &mut [u32], client: usize, target: usize) -> u32
@@ -84,7 +69,7 @@ fn send_entry(clients: &mut [u32], links: &mut [u32], client: usize)
 {
     let count = clients::client_word(clients, client, clients::COUNT);
     let mask = clients::client_word(clients, client, clients::MASK);
-    clients::put_client_word(clients, client, clients::STATE, 2);
+    clients::put_client_word(clients, client, clients::STATE, states::ENTERING);
     begins::send(
         links,
         client,
@@ -110,7 +95,7 @@ fn set_done(
         ≡ onSetDone client target (tablesOf (now (counts .entry)) (now (clients .entry)) (now (links .entry)) keys values log writes reads)) ⌝ }
 {
     settle(counts, links, client, target);
-    if is_pending(&*links, client) {
+    if rules::is_pending(&*links, client) {
         return rules::showing_nothing(Arrival::Wait);
     }
     send_entry(clients, links, client);
@@ -136,7 +121,7 @@ fn entered(
     let step = settle(counts, links, client, target);
     let place = clients::client_word(clients, client, clients::RECORD);
     clients::put_client_word(clients, client, clients::TAG, contents.number);
-    clients::put_client_word(clients, client, clients::STATE, 0);
+    clients::put_client_word(clients, client, clients::STATE, states::IDLE);
     records::put_record_word(writes, place as usize, records::END, step);
     rules::showing_nothing(Arrival::Write(contents.number))
 }
@@ -163,7 +148,7 @@ fn keys_told(
     let tag = contents.number - 1;
     settle(counts, links, client, target);
     clients::put_client_word(clients, client, clients::TAG, tag);
-    clients::put_client_word(clients, client, clients::STATE, 4);
+    clients::put_client_word(clients, client, clients::STATE, states::ASKING_SETPOINTS);
     begins::send_gets(links, log, client, mask, tag as usize, servers as usize);
     rules::showing_nothing(Arrival::Next)
 }
@@ -182,7 +167,7 @@ fn finish(
     ensures { λ r. ⌜ Finished (now (clients .entry)) (now (reads .entry)) client mask place tag step r (now (clients .exit)) (now (reads .exit)) ⌝ }
 {
     let shown = shown_setpoints(&*clients, client, mask);
-    clients::put_client_word(clients, client, clients::STATE, 0);
+    clients::put_client_word(clients, client, clients::STATE, states::IDLE);
     history::end_read(reads, place as usize, tag, step);
     Delivered {
         arrival: Arrival::Read(tag),
@@ -217,7 +202,7 @@ fn got(
         clients::SETPOINTS + target,
         contents.number,
     );
-    if is_pending(&*links, client) {
+    if rules::is_pending(&*links, client) {
         return rules::showing_nothing(Arrival::Wait);
     }
     finish(clients, reads, client, mask, place, tag, step)
@@ -278,7 +263,7 @@ fn all_told(
     let place = clients::client_word(clients, client, clients::RECORD);
     let step = settle(counts, links, client, target);
     clients::put_client_word(clients, client, clients::RECEIVED + target, contents.number);
-    if is_pending(&*links, client) {
+    if rules::is_pending(&*links, client) {
         return rules::showing_nothing(Arrival::Wait);
     }
     finish_by_c(
@@ -317,16 +302,16 @@ fn reply_in_state(
         (tablesOf (now (counts .entry)) (now (clients .entry)) (now (links .entry)) (now (keys .entry)) (now (values .entry)) (now (log .entry)) (now (writes .entry)) (now (reads .entry))) ⌝ }
 {
     let state = clients::client_word(clients, client, clients::STATE);
-    if state == 1 {
+    if state == states::WRITING {
         return set_done(counts, clients, links, client, target);
     }
-    if state == 2 {
+    if state == states::ENTERING {
         return entered(counts, clients, links, writes, client, target, contents);
     }
-    if state == 3 {
+    if state == states::ASKING_KEYS {
         return keys_told(counts, clients, links, log, client, target, contents);
     }
-    if state == 4 {
+    if state == states::ASKING_SETPOINTS {
         return got(counts, clients, links, reads, client, target, contents);
     }
     all_told(

@@ -1,17 +1,15 @@
 -- The cases of a request's delivery, as the code meets them.
-use Prim.Native.Nat.{ℕ, _+_, _≤_, _<_}
+use Prim.Native.Nat.{ℕ, _≤_, _<_}
 use mathlib.Core.Path.{_≡_, refl, sym, _∙_, ap}
 use mathlib.Core.Bool.{Bool, true, false}
 use mathlib.Core.List.{List}
 use native.Mathlib.Omega.{arith}
-use lib.Dec.{eqb, ltb}
 use borrow.Author.Tests.{eq-eqb, ne-eqb, lt-ltb, le-ltb}
-use Rattle.keys.specs.declared.Key.{Key}
 use Rattle.server.specs.Held.{appended, appendLeft, Appended, append-kept, append-count, firstBearing}
 use Rattle.coordinator.specs.Log.{entered, enterLeft, Entered, enter-kept, enter-count}
-use Rattle.tables.specs.Layout.{countAt, stepField, entriesField, heldField, versionWord}
+use Rattle.tables.specs.Layout.{countAt, stepField, versionWord}
 use Rattle.tables.specs.Links.{putLink, linkAt}
-use Rattle.tables.specs.Tables.{Tables, tablesOf, entriesOf, heldOf, stateOf, recordOf, contentAt}
+use Rattle.tables.specs.Tables.{Tables, tablesOf, entriesOf, heldOf, stateOf, recordOf}
 use Rattle.tables.specs.declared.links.Contents.{Contents}
 use Rattle.tables.specs.declared.links.Content.{Content}
 use Rattle.tables.specs.declared.links.Content.the-variants.{Nothing, Request, Reply}
@@ -20,7 +18,7 @@ use Rattle.rules.specs.declared.Answer.{Answer}
 use Rattle.rules.specs.declared.Answer.the-variants.{Ok, Refused}
 use Rattle.rules.specs.Answers.{Left, left}
 use Rattle.rules.specs.Common.{writing, entering, askingKeys, askingSetpoints, coordinator, reply, counted, taggedRecord}
-use Rattle.rules.specs.Request.{answered, refused, onSet, onEnter, onWhichKeys, onGet, onGetAll, onRequestIn, onRequest, requestDelivered}
+use Rattle.rules.specs.Request.{refused, onSet, onEnter, onWhichKeys, onGet, onGetAll, onRequestIn, onRequest, requestDelivered}
 
 -- what `answered` leaves
 pub record Answered (counts links : List ℕ) (q i number : ℕ) (answer : Answer) (counts′ links′ : List ℕ) : Type 0 where

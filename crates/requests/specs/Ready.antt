@@ -1,21 +1,21 @@
 -- What the delivery of a request relies on. Sound tables have all of it.
-use Prim.Native.Nat.{ℕ, _+_, _*_, _≤_, _<_}
+use Prim.Native.Nat.{ℕ, _≤_, _<_}
 use mathlib.Core.Path.{_≡_}
 use mathlib.Core.List.{List}
 use lib.ListN.{length}
 use Rattle.server.specs.Held.{Room, heldBy}
 use Rattle.coordinator.specs.Log.{LogRoom}
 use Rattle.tables.specs.Rows.{HasRow}
-use Rattle.tables.specs.Layout.{countAt, countWords, stepField, clientWidth, clientWord, stateField, recordField, serverPlaces, recordWidth}
+use Rattle.tables.specs.Layout.{lastStep, countAt, countWords, stepField, clientWidth, clientWord, stateField, recordField, serverPlaces, recordWidth}
 use Rattle.tables.specs.Links.{targets, linkWidth, linkRow, linkAt}
 use Rattle.tables.specs.declared.links.Contents.{Contents}
 use Rattle.tables.specs.declared.links.Content.the-variants.{Request}
-use Rattle.rules.specs.Common.{writing, entering, askingSetpoints, coordinator}
+use Rattle.rules.specs.Common.{writing, entering, askingSetpoints}
 
 -- a reply can be put and the step counted
 pub record Answerable (counts links : List ℕ) (q i : ℕ) : Type 0 where
   pub counted : countWords ≤ length counts
-  pub stepped : countAt counts stepField < 4294967295
+  pub stepped : countAt counts stepField < lastStep
   pub linked : HasRow linkWidth links (linkRow q i)
 
 -- the target is a server with all its places

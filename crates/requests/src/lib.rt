@@ -12,6 +12,7 @@ ghost use Rattle.requests.specs.Ready.{Answerable, AtServer, Enterable, 
 ghost use Rattle.requests.specs.Cases.{Answered};
 use keys::Key;
 use rules::Answer;
+use rules::states;
 use tables::clients;
 use tables::counts;
 use tables::links;
@@ -172,10 +173,10 @@ fn answer_in_state(
         (tablesOf (now (counts .entry)) (now (clients .entry)) (now (links .entry)) (now (keys .entry)) (now (values .entry)) (now (log .entry)) (now (writes .entry)) reads)) ⌝ }
 {
     let state = clients::client_word(clients, client, clients::STATE);
-    if state == 1 {
+    if state == states::WRITING {
         return set(counts, links, keys, values, client, target, contents);
     }
-    if state == 2 {
+    if state == states::ENTERING {
         return enter(
             counts,
             clients,
@@ -187,10 +188,10 @@ fn answer_in_state(
             contents,
         );
     }
-    if state == 3 {
+    if state == states::ASKING_KEYS {
         return which_keys(counts, links, client, target);
     }
-    if state == 4 {
+    if state == states::ASKING_SETPOINTS {
         return get(counts, links, &*keys, &*values, client, target, contents);
     }
     get_all(counts, links, client, target)

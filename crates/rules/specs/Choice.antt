@@ -20,6 +20,6 @@ hasVersion keys log received t i = ltb (versionAt keys log i t (received i)) (re
 abbrev pub qualifies : List ℕ → List ℕ → ℕ → (ℕ → ℕ) → ℕ → ℕ → Bool
 qualifies keys log mask received k t = allBelow (λ i. cond (hasServer mask i) (hasVersion keys log received t i) true) k
 
--- among the first n entries of the log
+-- among the first n entries of the log; 0 where none qualifies: on sound tables tag 0 does
 abbrev pub chosenTag : List ℕ → List ℕ → ℕ → (ℕ → ℕ) → ℕ → ℕ → ℕ
 chosenTag keys log mask received k n = lastBelow (qualifies keys log mask received k) n

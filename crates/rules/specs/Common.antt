@@ -1,16 +1,16 @@
 -- What several steps share.
 use Prim.Native.Nat.{ℕ, _+_}
-use mathlib.Core.Bool.{Bool, true, false, not}
-use mathlib.Core.List.{List, [], _∷_}
+use mathlib.Core.Bool.{Bool, not}
+use mathlib.Core.List.{List}
 use lib.ListN.{set}
 use Rattle.ranges.specs.All.{anyBelow}
 use Rattle.keys.specs.declared.Key.{Key}
 use Rattle.keys.specs.Keys.{opening}
 use Rattle.tables.specs.Layout.{stepField, countAt, putClientWord, stateField, maskField, recordField, putRecordWord, tagOfRecord, endOfRecord, putBegun}
-use Rattle.tables.specs.Links.{targets, linkAt, putLink, isEmpty}
-use Rattle.tables.specs.Tables.{Tables, withCounts, stepOf}
+use Rattle.tables.specs.Links.{targets, linkAt, isEmpty}
+use Rattle.tables.specs.Tables.{Tables, stepOf}
 use Rattle.tables.specs.declared.links.Content.{Content}
-use Rattle.tables.specs.declared.links.Content.the-variants.{Nothing, Request, Reply}
+use Rattle.tables.specs.declared.links.Content.the-variants.{Request, Reply}
 
 -- "States: 0 idle, 1 writing setpoints, 2 waiting for its tag, 3 (B only) asking the head, 4 (A, B) asking for setpoints, 5 (C only) asking all."
 abbrev pub idle : ℕ

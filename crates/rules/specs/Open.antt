@@ -11,10 +11,11 @@ use Rattle.tables.specs.Tables.{Tables, tablesOf}
 abbrev pub cleared : List ℕ → List ℕ
 cleared words = replicate (length words) 0
 
--- step 1, one log entry, no WRITE and no READ; each of the k servers holds one version
+-- a server holds one version
 abbrev pub holdOne : ℕ → List ℕ → List ℕ
 holdOne i counts = set counts (heldField + i) 1
 
+-- method, k, p, step 1 and one log entry, in the order of their fields; no WRITE and no READ; each of the k servers holds one version
 abbrev pub openedCounts : ℕ → ℕ → ℕ → List ℕ → List ℕ
 openedCounts method k p counts = turns holdOne k (sets (cleared counts) 0 (method ∷ k ∷ p ∷ 1 ∷ 1 ∷ []))
 

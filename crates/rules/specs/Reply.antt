@@ -10,7 +10,7 @@ use Rattle.keys.specs.Keys.{keyOf}
 use Rattle.keys.specs.Masks.{hasServer}
 use Rattle.tables.specs.Layout.{putClientWord, clientWord, stateField, tagField, setpointsField, receivedField, versionWord}
 use Rattle.tables.specs.Links.{targets, putLink}
-use Rattle.tables.specs.Tables.{Tables, withCounts, withClients, withLinks, withWrites, withReads, serversOf, stateOf, countOf, maskOf, tagOf, recordOf, receivedOf, contentAt}
+use Rattle.tables.specs.Tables.{Tables, withCounts, withClients, withLinks, withWrites, withReads, serversOf, stateOf, countOf, maskOf, tagOf, recordOf, contentAt}
 use Rattle.tables.specs.declared.links.Contents.{Contents}
 use Rattle.tables.specs.declared.links.Content.{Content}
 use Rattle.tables.specs.declared.links.Content.the-variants.{Nothing, Request, Reply}
@@ -117,6 +117,7 @@ onAll w q i t =
     (said Wait (moved (gotNumber w q i t) (emptied q i t) t))
     (endedByC (tagChosen (gotNumber w q i t) q t) (gotNumber w q i t) q (emptied q i t) t)
 
+-- what comes behind the four is state 5: on sound tables the links of an idle client hold nothing
 unfoldable pub onReplyIn : ℕ → Contents → ℕ → ℕ → Tables → Arrived
 onReplyIn state w q i t =
     cond (eqb state writing) (onSetDone q i t)

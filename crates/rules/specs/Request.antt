@@ -1,7 +1,6 @@
 -- The delivery of a request: "request to reply". What it changes goes by the state of the client; 8 where a table is full or a key is not held, 9 where the link has no request.
-use Prim.Native.Nat.{ℕ, _+_}
+use Prim.Native.Nat.{ℕ}
 use mathlib.Core.Bool.{cond}
-use mathlib.Core.List.{List}
 use lib.Dec.{eqb, ltb}
 use Rattle.server.specs.Held.{appended, Appended, firstBearing}
 use Rattle.coordinator.specs.Log.{entered, Entered}
@@ -54,6 +53,7 @@ onGet w q i t =
 unfoldable pub onGetAll : ℕ → ℕ → Tables → Left
 onGetAll q i t = answered q i (cond (eqb i coordinator) (entriesOf t) (heldOf t i)) t
 
+-- what comes behind the four is state 5: on sound tables the links of an idle client hold nothing
 unfoldable pub onRequestIn : ℕ → Contents → ℕ → ℕ → Tables → Left
 onRequestIn state w q i t =
     cond (eqb state writing) (onSet w q i t)

@@ -1,6 +1,14 @@
-// The rules of the steps: what each accepted step changes and answers, as definitions in specs/. The answers are declared here.
+// The rules of the steps: what each accepted step changes and answers, as definitions in specs/. The answers and the states are declared here.
 ghost use mathlib.Core.Path.{_≡_};
+ghost use Prim.Native.Nat.{_*_, _≤_};
+ghost use lib.ListN.{length};
+ghost use Rattle.tables.specs.Links.{linkWidth, linkRow, targets};
 ghost use Rattle.rules.specs.Answers.{nothingShown};
+ghost use Rattle.rules.specs.Common.{pending};
+
+pub mod states;
+
+use tables::links;
 
 // What an opening, a begin and a delivered request answer.
 pub enum Answer {
@@ -31,4 +39,19 @@ pub fn showing_nothing(arrival: Arrival) -> Delivered
         arrival: arrival,
         setpoints: [0; 16],
     }
+}
+
+// Whether some link of a client holds a request or a reply.
+pub fn is_pending(links: &[u32], client: usize) -> bool
+    requires { ⌜ linkWidth * linkRow client targets ≤ length (now links) ⌝ }
+    ensures { λ r. ⌜ r ≡ pending (now (links .entry)) client ⌝ }
+{
+    let mut target = 0;
+    while target < links::TARGETS {
+        if !links::is_empty(links, client, target) {
+            return true;
+        }
+        target += 1;
+    }
+    false
 }

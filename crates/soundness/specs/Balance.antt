@@ -1,35 +1,23 @@
 -- "READs begun … equal to those finished plus those in progress": on sound tables this follows from the records, by counting the unfinished ones by client.
-use Prim.Native.Nat.{ℕ, zero, suc, _+_, _*_, _≤_, _<_}
+use Prim.Native.Nat.{ℕ, zero, suc, _+_, _<_}
 use mathlib.Core.Path.{_≡_, refl, sym}
 use mathlib.Core.Bool.{Bool, true, false, not, _&&_}
 use mathlib.Core.List.{List}
 use native.Mathlib.Omega.{arith}
 use lib.Dec.{eqb}
 use borrow.Author.Tests.{eq-eqb, ne-eqb, eqb-true}
-use Rattle.ranges.specs.Tests.{by-test, both-left}
-use Rattle.ranges.specs.Sum.{sumBelow, countBelow, one, sum-same, sum-set, sum-most}
+use Rattle.ranges.specs.Tests.{both-left}
+use Rattle.ranges.specs.Sum.{sumBelow, countBelow, one, sum-same, sum-add, sum-nothing, sum-set, count-both}
 use Rattle.tables.specs.Layout.{recordWord, clientOfRecord, endOfRecord}
 use Rattle.tables.specs.Tables.{Tables, clientsOf, readsOf, stateOf, recordOf}
 use Rattle.soundness.specs.Sound.{isReading, isOpen, openSound}
 use Rattle.soundness.specs.Facts.{Sound}
 
--- a sum taken in two parts
-sum-plus : (f g : ℕ → ℕ) (n : ℕ) → sumBelow (λ i. f i + g i) n ≡ sumBelow f n + sumBelow g n
-unfolding sumBelow
-sum-plus f g zero = refl
-sum-plus f g (suc n) = omega (arith, sum-plus f g n)
-
--- what passes and what fails are all
-count-both : (p : ℕ → Bool) (n : ℕ) → countBelow (λ i. not (p i)) n + countBelow p n ≡ n
-unfolding sumBelow
-count-both p zero = refl
-count-both p (suc n) = by-test (p n) (λ e. rw e (omega (arith, count-both p n))) (λ e. rw e (omega (arith, count-both p n)))
-
 -- one of the numbers below p is c: a test of it counts once
 count-one : (c : ℕ) (b : Bool) (p : ℕ) → c < p → sumBelow (λ q. one (eqb c q && b)) p ≡ one b
 count-one c b p h =
     let s = sum-set (λ q. one (eqb c q && b)) (λ q. 0) p c h (λ q l d. rw (ne-eqb c q (λ e. d (sym e)))) in
-    let z : sumBelow (λ q. 0) p ≤ p * 0 = sum-most (λ q. 0) 0 p (λ q l. omega arith) in
+    let z : sumBelow (λ q. 0) p ≡ 0 = sum-nothing (λ q. 0) p (λ q l. refl) in
     let o : one (eqb c c && b) ≡ one b = rw (eq-eqb c c refl) in
     omega arith
 
@@ -37,11 +25,11 @@ count-one c b p h =
 module _ (client : ℕ → ℕ) (test : ℕ → Bool) (p : ℕ) where
   count-by-client : (n : ℕ) → ((m : ℕ) → m < n → client m < p) → sumBelow (λ q. countBelow (λ m. eqb (client m) q && test m) n) p ≡ countBelow test n
   unfolding sumBelow
-  count-by-client zero h = omega (arith, sum-most (λ q. 0) 0 p (λ q l. omega arith))
+  count-by-client zero h = omega (arith, sum-nothing (λ q. 0) p (λ q l. refl))
   count-by-client (suc n) h =
       omega (
         arith,
-        sum-plus (λ q. countBelow (λ m. eqb (client m) q && test m) n) (λ q. one (eqb (client n) q && test n)) p,
+        sum-add (λ q. countBelow (λ m. eqb (client m) q && test m) n) (λ q. one (eqb (client n) q && test n)) _ p (λ q l. refl),
         count-by-client n (λ m l. h m (omega arith)),
         count-one (client n) (test n) p (h n (omega arith)),
       )

@@ -12,12 +12,12 @@ use Rattle.ranges.specs.All.{allBelow, all-at, all-of}
 use Rattle.ranges.specs.Sum.{sumBelow}
 use Rattle.keys.specs.Masks.{maskWithin, Within, within-true, within-test}
 use Rattle.tables.specs.Rows.{wordAt}
-use Rattle.tables.specs.Layout.{countWords, clientWidth, serverPlaces, logPlaces, entryWidth, recordPlaces, recordWidth, versionWord, entryMask, recordWord, clientOfRecord, numberOfRecord, tagOfRecord}
+use Rattle.tables.specs.Layout.{countWords, lastStep, clientWidth, serverPlaces, logPlaces, entryWidth, recordPlaces, recordWidth, versionWord, entryMask, recordWord, clientOfRecord, numberOfRecord, tagOfRecord}
 use Rattle.tables.specs.Links.{targets, linkWidth, linkRow}
 use Rattle.tables.specs.Tables.{Tables, methodOf, serversOf, clientsOf, stepOf, entriesOf, writesOf, readsOf, heldOf, stateOf, countOf, maskOf, tagOf, recordOf, contentAt}
 use Rattle.rules.specs.Common.{idle, pending}
 use Rattle.rules.specs.Open.{allServers}
-use Rattle.soundness.specs.Every.{passed, every-passed}
+use Rattle.ranges.specs.Every.{passed, every-passed}
 use Rattle.soundness.specs.Sound.{longEnough, between, pressFits, scalarsSound, keyInRange, serverSound, entrySound, logSound, isWriting, isReading, stateAllowed, contentSound, linkSound, receivedSound, clientSound, writeSound, readSound, openSound, recordsSound, sound}
 
 pub record Between (low n high : ℕ) : Type 0 where
@@ -100,7 +100,7 @@ module _ (method k p : ℕ) where
 
 pub record Scalars (t : Tables) : Type 0 where
   pub press : Press (methodOf t) (serversOf t) (clientsOf t)
-  pub step : Between 1 (stepOf t) 4294967295
+  pub step : Between 1 (stepOf t) lastStep
   pub entries : Between 1 (entriesOf t) logPlaces
   pub writes : writesOf t ≤ recordPlaces
   pub reads : readsOf t ≤ recordPlaces
@@ -109,7 +109,7 @@ module _ (t : Tables) where
   abbrev scalarTests : List Bool
   scalarTests =
       pressFits (methodOf t) (serversOf t) (clientsOf t)
-      ∷ between 1 (stepOf t) 4294967295
+      ∷ between 1 (stepOf t) lastStep
       ∷ between 1 (entriesOf t) logPlaces
       ∷ leb (writesOf t) recordPlaces
       ∷ leb (readsOf t) recordPlaces

@@ -9,13 +9,12 @@ use lib.Seq.{getD-set-same, getD-set-other}
 use lib.Dec.{eqb}
 use borrow.Author.Tests.{eq-eqb, ne-eqb}
 use Rattle.ranges.specs.Tests.{by-equal}
-use Rattle.ranges.specs.All.{allBelow}
+use Rattle.ranges.specs.All.{allBelow, all-both}
 use Rattle.ranges.specs.Sum.{countBelow, count-zero, count-here, count-past}
 use Rattle.tables.specs.Layout.{recordWord, clientOfRecord, endOfRecord}
 use Rattle.tables.specs.Tables.{Tables}
 use Rattle.soundness.specs.Sound.{isOpen, recordsSound}
 use Rattle.soundness.specs.Parts.{writeOpenSound, readOpenSound}
-use Rattle.soundness.specs.Loops.{all-both}
 
 pub record OpenCounts (records : List ℕ) (n : ℕ) (found : List ℕ) : Type 0 where
   pub whole : length found ≡ 16

@@ -1,46 +1,27 @@
--- Runs of conditions of `Sound` as one function of the check decides them, and what a check that failed or passed tells.
-use Prim.Native.Nat.{ℕ, _^_, _≤_}
-use mathlib.Core.Path.{_≡_, sym, _∙_}
-use mathlib.Core.Bool.{Bool, true, false, cond, not, _&&_}
+-- Runs of conditions of `Sound` as one function of the check decides them.
+use Prim.Native.Nat.{ℕ, _^_}
+use mathlib.Core.Bool.{Bool, cond, _&&_}
 use mathlib.Core.List.{List}
 use lib.Dec.{eqb, leb, ltb}
-use borrow.Author.Tests.{not-true, not-false, leb-true}
-use Rattle.ranges.specs.Tests.{both-left, both-right}
 use Rattle.ranges.specs.All.{allBelow}
 use Rattle.ranges.specs.Sum.{sumBelow}
 use Rattle.keys.specs.Keys.{keyWord, opening}
 use Rattle.keys.specs.Masks.{maskWithin}
 use Rattle.tables.specs.Rows.{wordAt}
-use Rattle.tables.specs.Layout.{logPlaces, recordPlaces, entryWidth, entryMask}
+use Rattle.tables.specs.Layout.{lastStep, logPlaces, recordPlaces, entryWidth, entryMask}
 use Rattle.tables.specs.Links.{linkWidth, linkRow, isEmpty}
 use Rattle.tables.specs.Tables.{Tables, withVersions, methodOf, serversOf, clientsOf, stepOf, entriesOf, writesOf, readsOf, stateOf, countOf, maskOf, tagOf, recordOf, contentAt}
 use Rattle.rules.specs.Common.{idle, askingAll}
 use Rattle.rules.specs.Open.{allServers}
 use Rattle.soundness.specs.Sound.{between, serverSound, logSound, isWriting, isReading, stateAllowed, uses, clientSound, openSound, writeSound, readSound, recordsSound}
 
--- a check answered no, or yes: so does its definition
-module _ {r a : Bool} where
-  pub fails : r ≡ a → not r ≡ true → a ≡ false
-  fails d e = sym d ∙ not-true r e
-
-  pub holds : r ≡ a → not r ≡ false → a ≡ true
-  holds d e = sym d ∙ not-false r e
-
 -- the keys alone; no condition is on the setpoints of versions
 abbrev pub withKeys : List ℕ → Tables → Tables
 withKeys keys t = withVersions keys (t .values) t
 
--- what a number between two others has
-pub record Between (low n high : ℕ) : Type 0 where
-  pub least : low ≤ n
-  pub most : n ≤ high
-
-pub between-true : (low n high : ℕ) → between low n high ≡ true → Between low n high
-between-true low n high e = record { least = leb-true low n (both-left (leb low n) (leb n high) e); most = leb-true n high (both-right (leb low n) (leb n high) e) }
-
 -- the scalars behind `pressFits`
 abbrev pub progressSound : Tables → Bool
-progressSound t = between 1 (stepOf t) 4294967295 && between 1 (entriesOf t) logPlaces && leb (writesOf t) recordPlaces && leb (readsOf t) recordPlaces
+progressSound t = between 1 (stepOf t) lastStep && between 1 (entriesOf t) logPlaces && leb (writesOf t) recordPlaces && leb (readsOf t) recordPlaces
 
 -- what stands at tag 0
 abbrev pub firstEntrySound : Tables → Bool

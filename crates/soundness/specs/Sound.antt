@@ -1,6 +1,6 @@
 -- "Sound tables", condition by condition, in document 01's order. A station is a server, a panel a client, the head the coordinator.
-use Prim.Native.Nat.{ℕ, _+_, _*_, _%_, _^_}
-use mathlib.Core.Bool.{Bool, true, false, cond, not, _&&_, _||_}
+use Prim.Native.Nat.{ℕ, _*_, _%_, _^_}
+use mathlib.Core.Bool.{Bool, true, false, cond, _&&_, _||_}
 use mathlib.Core.List.{List}
 use lib.ListN.{length}
 use lib.Dec.{eqb, leb, ltb}
@@ -9,7 +9,7 @@ use Rattle.ranges.specs.Sum.{sumBelow, countBelow}
 use Rattle.keys.specs.Keys.{keyWord, opening}
 use Rattle.keys.specs.Masks.{hasServer, maskWithin}
 use Rattle.tables.specs.Rows.{wordAt}
-use Rattle.tables.specs.Layout.{countWords, clientWidth, serverPlaces, logPlaces, entryWidth, recordPlaces, recordWidth, versionWord, entryMask, recordWord, clientOfRecord, numberOfRecord, tagOfRecord, endOfRecord}
+use Rattle.tables.specs.Layout.{lastStep, countWords, clientWidth, serverPlaces, logPlaces, entryWidth, recordPlaces, recordWidth, versionWord, entryMask, recordWord, clientOfRecord, numberOfRecord, tagOfRecord, endOfRecord}
 use Rattle.tables.specs.Links.{targets, linkWidth, linkRow, isEmpty}
 use Rattle.tables.specs.Tables.{Tables, methodOf, serversOf, clientsOf, stepOf, entriesOf, writesOf, readsOf, heldOf, stateOf, countOf, maskOf, tagOf, recordOf, receivedOf, contentAt}
 use Rattle.tables.specs.declared.links.Content.{Content}
@@ -40,7 +40,7 @@ pressFits method k p = between 1 method 3 && between 1 k 16 && between (cond (eq
 unfoldable pub scalarsSound : Tables → Bool
 scalarsSound t =
     pressFits (methodOf t) (serversOf t) (clientsOf t)
-    && between 1 (stepOf t) 4294967295
+    && between 1 (stepOf t) lastStep
     && between 1 (entriesOf t) logPlaces
     && leb (writesOf t) recordPlaces
     && leb (readsOf t) recordPlaces
@@ -56,10 +56,11 @@ serverSound t i =
     && eqb (versionWord (t .keys) i 0) (keyWord opening)
     && allBelow (λ place. keyInRange (clientsOf t) (versionWord (t .keys) i place)) (heldOf t i)
 
--- "tag 0 holds it with all k stations"
+-- an entry of the log: "every number in its range"
 unfoldable pub entrySound : Tables → ℕ → Bool
 entrySound t tag = keyInRange (clientsOf t) (wordAt entryWidth (t .log) tag 0) && maskWithin (entryMask (t .log) tag) (serversOf t)
 
+-- "tag 0 holds it with all k stations"
 unfoldable pub logSound : Tables → Bool
 logSound t =
     eqb (wordAt entryWidth (t .log) 0 0) (keyWord opening)

@@ -46,7 +46,7 @@ fn mask_sound(counts: &[u32], clients: &[u32], client: usize) -> bool
 {
     let mask = clients::client_word(clients, client, clients::MASK);
     let state = clients::client_word(clients, client, clients::STATE);
-    if state == states::IDLE {
+    if state == rules::states::IDLE {
         if mask == 0 {
             return true;
         }
@@ -95,10 +95,10 @@ fn client_sound(counts: &[u32], clients: &[u32], links: &[u32], client: usize) -
     if !links::all_received_sound(counts, clients, links, client) {
         return false;
     }
-    if clients::client_word(clients, client, clients::STATE) == states::IDLE {
+    if clients::client_word(clients, client, clients::STATE) == rules::states::IDLE {
         return true;
     }
-    links::pending(links, client)
+    rules::is_pending(links, client)
 }
 
 pub fn clients_sound(counts: &[u32], clients: &[u32], links: &[u32]) -> bool

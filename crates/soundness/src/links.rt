@@ -1,12 +1,10 @@
 // The links of a client: each holds only what its state sends or gets back, and what has been received stands beside them.
 ghost use mathlib.Core.Path.{_≡_};
-ghost use Prim.Native.Nat.{_*_, _≤_, _<_};
-ghost use lib.ListN.{length};
+ghost use Prim.Native.Nat.{_<_};
 ghost use Rattle.ranges.specs.All.{allBelow};
 ghost use Rattle.tables.specs.Rows.{HasRow};
 ghost use Rattle.tables.specs.Links.{linkWidth, linkRow, targets};
 ghost use Rattle.tables.specs.Tables.{Tables, withCounts, withClients, withLinks};
-ghost use Rattle.rules.specs.Common.{pending};
 ghost use Rattle.soundness.specs.Sound.{keyOn, requestSound, replySound, linkSound, receivedSound};
 ghost use Rattle.soundness.specs.Parts.{numberOn, expects};
 ghost use Rattle.soundness.specs.Asked.{Counted, LinkThere, ClientThere};
@@ -79,7 +77,7 @@ fn expects(clients: &[u32], links: &[u32], client: usize, target: usize) -> bool
     ensures { λ r. ⌜ ((t : Tables) → r ≡ expects (withLinks (now (links .entry)) (withClients (now (clients .entry)) t)) client target) ⌝ }
 {
     let state = clients::client_word(clients, client, clients::STATE);
-    if state != states::ASKING_ALL {
+    if state != rules::states::ASKING_ALL {
         return false;
     }
     let mask = clients::client_word(clients, client, clients::MASK);
@@ -120,19 +118,4 @@ pub fn all_received_sound(counts: &[u32], clients: &[u32], links: &[u32], client
         target += 1;
     }
     true
-}
-
-// Whether some link of a client holds a request or a reply.
-pub fn pending(links: &[u32], client: usize) -> bool
-    requires { ⌜ linkWidth * linkRow client targets ≤ length (now links) ⌝ }
-    ensures { λ r. ⌜ r ≡ pending (now (links .entry)) client ⌝ }
-{
-    let mut target = 0;
-    while target < links::TARGETS {
-        if !links::is_empty(links, client, target) {
-            return true;
-        }
-        target += 1;
-    }
-    false
 }

@@ -5,7 +5,7 @@ ghost use Rattle.tables.specs.Tables.{Tables, withCounts};
 ghost use Rattle.soundness.specs.Sound.{holding, ownKey, requestSound, replySound};
 ghost use Rattle.soundness.specs.Asked.{Counted};
 use super::scalars;
-use super::states;
+use rules::states;
 use tables::counts;
 use tables::links;
 

@@ -8,6 +8,8 @@ ghost use Rattle.soundness.specs.Sound.{pressFits, scalarsSound};
 ghost use Rattle.soundness.specs.Parts.{progressSound};
 use super::scalars;
 use tables::counts;
+use tables::log;
+use tables::records;
 
 // Whether the counts are those of a press.
 fn press_sound(counts: &[u32]) -> bool
@@ -25,16 +27,20 @@ fn progress_sound(counts: &[u32]) -> bool
     requires { ⌜ countWords ≤ length (now counts) ⌝ }
     ensures { λ r. ⌜ ((t : Tables) → r ≡ progressSound (withCounts (now (counts .entry)) t)) ⌝ }
 {
-    if !scalars::between(1, counts::count_at(counts, counts::STEP), 4294967295) {
+    if !scalars::between(1, counts::count_at(counts, counts::STEP), counts::LAST_STEP) {
         return false;
     }
-    if !scalars::between(1, counts::count_at(counts, counts::ENTRIES), 256) {
+    if !scalars::between(
+        1,
+        counts::count_at(counts, counts::ENTRIES),
+        log::PLACES as u32,
+    ) {
         return false;
     }
-    if counts::count_at(counts, counts::WRITES) > 255 {
+    if counts::count_at(counts, counts::WRITES) > records::PLACES as u32 {
         return false;
     }
-    counts::count_at(counts, counts::READS) <= 255
+    counts::count_at(counts, counts::READS) <= records::PLACES as u32
 }
 
 pub fn scalars_sound(counts: &[u32]) -> bool

@@ -33,7 +33,7 @@ fn server_sound(counts: &[u32], keys: &[u32], server: usize) -> bool
     ensures { λ r. ⌜ ((t : Tables) → r ≡ serverSound (withKeys (now (keys .entry)) (withCounts (now (counts .entry)) t)) server) ⌝ }
 {
     let held = counts::count_at(counts, counts::HELD + server);
-    if !scalars::between(1, held, 256) {
+    if !scalars::between(1, held, versions::PLACES as u32) {
         return false;
     }
     if versions::key_word(keys, server, 0) != 0 {

@@ -3,46 +3,35 @@ ghost use mathlib.Core.Path.{_≡_};
 ghost use Prim.Native.Nat.{_<_};
 ghost use Rattle.soundness.specs.Sound.{isWriting, isReading, stateAllowed, uses};
 use super::scalars;
+use rules::states;
 use tables::links;
-
-pub const IDLE: u32 = 0;
-
-pub const WRITING: u32 = 1;
-
-pub const ENTERING: u32 = 2;
-
-pub const ASKING_KEYS: u32 = 3;
-
-pub const ASKING_SETPOINTS: u32 = 4;
-
-pub const ASKING_ALL: u32 = 5;
 
 // A WRITE is in progress.
 pub fn is_writing(state: u32) -> bool
     ensures { λ r. ⌜ r ≡ isWriting state ⌝ }
 {
-    if state == WRITING {
+    if state == states::WRITING {
         return true;
     }
-    state == ENTERING
+    state == states::ENTERING
 }
 
 // A READ is in progress.
 pub fn is_reading(state: u32) -> bool
     ensures { λ r. ⌜ r ≡ isReading state ⌝ }
 {
-    scalars::between(ASKING_KEYS, state, ASKING_ALL)
+    scalars::between(states::ASKING_KEYS, state, states::ASKING_ALL)
 }
 
 pub fn state_allowed(method: u32, client: usize, state: u32) -> bool
     ensures { λ r. ⌜ r ≡ stateAllowed method client state ⌝ }
 {
-    if state == IDLE {
+    if state == states::IDLE {
         return true;
     }
     if method == 1 {
         if client == 0 {
-            return state == ASKING_SETPOINTS;
+            return state == states::ASKING_SETPOINTS;
         }
         return is_writing(state);
     }
@@ -50,15 +39,15 @@ pub fn state_allowed(method: u32, client: usize, state: u32) -> bool
         if is_writing(state) {
             return true;
         }
-        if state == ASKING_KEYS {
+        if state == states::ASKING_KEYS {
             return true;
         }
-        return state == ASKING_SETPOINTS;
+        return state == states::ASKING_SETPOINTS;
     }
     if is_writing(state) {
         return true;
     }
-    state == ASKING_ALL
+    state == states::ASKING_ALL
 }
 
 // Whether a client in a state may have something on the link to a target.
@@ -67,11 +56,11 @@ pub fn uses(state: u32, mask: u32, target: usize) -> bool
     ensures { λ r. ⌜ r ≡ uses state mask target ⌝ }
 {
     match state {
-        WRITING => keys::has_server(mask, target),
-        ASKING_SETPOINTS => keys::has_server(mask, target),
-        ENTERING => target == links::COORDINATOR,
-        ASKING_KEYS => target == links::COORDINATOR,
-        ASKING_ALL => {
+        states::WRITING => keys::has_server(mask, target),
+        states::ASKING_SETPOINTS => keys::has_server(mask, target),
+        states::ENTERING => target == links::COORDINATOR,
+        states::ASKING_KEYS => target == links::COORDINATOR,
+        states::ASKING_ALL => {
             if keys::has_server(mask, target) {
                 return true;
             }

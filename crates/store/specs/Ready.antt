@@ -1,28 +1,26 @@
 -- Sound tables are ready for an opening, the begins and the delivery of a request.
-use Prim.Native.Nat.{ℕ, _+_, _*_, _≤_, _<_}
-use mathlib.Core.Path.{_≡_, refl, sym, _∙_, ap}
-use mathlib.Core.Bool.{Bool, true, false, cond, _&&_, _||_}
+use Prim.Native.Nat.{ℕ, _≤_, _<_}
+use mathlib.Core.Path.{_≡_, sym, _∙_}
+use mathlib.Core.Bool.{true, _&&_}
 use mathlib.Core.List.{List}
 use native.Mathlib.Omega.{arith}
-use lib.ListN.{length}
-use lib.Dec.{eqb, ltb, leb}
-use borrow.Author.Tests.{ltb-true, eqb-true, eq-eqb}
+use lib.Dec.{eqb, ltb}
+use borrow.Author.Tests.{ltb-true, eqb-true}
 use Rattle.ranges.specs.Tests.{by-test, both-left, both-right}
 use Rattle.ranges.specs.Sum.{countBelow, sum-part}
 use Rattle.keys.specs.Masks.{hasServer}
 use Rattle.tables.specs.Rows.{HasRow}
-use Rattle.tables.specs.Layout.{clientWidth, recordWidth, writesField, readsField}
+use Rattle.tables.specs.Layout.{clientWidth, recordWidth, readsField}
 use Rattle.tables.specs.Links.{targets, linkWidth, linkRow}
-use Rattle.tables.specs.Tables.{Tables, methodOf, serversOf, clientsOf, stepOf, entriesOf, writesOf, readsOf, heldOf, stateOf, countOf, maskOf, recordOf, contentAt}
+use Rattle.tables.specs.Tables.{Tables, serversOf, clientsOf, writesOf, readsOf, stateOf, countOf, maskOf, recordOf, contentAt}
 use Rattle.tables.specs.declared.links.Contents.{Contents}
-use Rattle.tables.specs.declared.links.Content.{Content}
-use Rattle.tables.specs.declared.links.Content.the-variants.{Nothing, Request, Reply}
-use Rattle.rules.specs.Common.{writing, entering, askingKeys, askingSetpoints, askingAll, coordinator}
-use Rattle.soundness.specs.Sound.{between, isWriting, isReading, uses, requestSound, replySound, keyOn, contentSound, isOpen, openSound}
+use Rattle.tables.specs.declared.links.Content.the-variants.{Request, Reply}
+use Rattle.rules.specs.Common.{coordinator}
+use Rattle.soundness.specs.Sound.{isWriting, isReading, uses, requestSound, replySound, keyOn, contentSound, isOpen, openSound}
 use Rattle.soundness.specs.Facts.{Sound}
 use Rattle.history.specs.Ready.{BeginReady}
 use Rattle.begins.specs.Ready.{HasLinks, AskReady, WriteReady}
-use Rattle.requests.specs.Ready.{Answerable, AtServer, Enterable, Asks, RequestReady}
+use Rattle.requests.specs.Ready.{Answerable, AtServer, Asks, RequestReady}
 use Rattle.opening.specs.Ready.{OpenReady}
 use Rattle.keeping.specs.Accepted.{Openable, Writable, Readable, Deliverable}
 use Rattle.keeping.specs.States.{uses-writing, uses-setpoints, masked-below}

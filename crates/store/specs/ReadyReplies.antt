@@ -1,36 +1,35 @@
 -- Sound tables are ready for the delivery of a reply.
 use Prim.Native.Nat.{ℕ, _+_, _*_, _≤_, _<_}
-use mathlib.Core.Path.{_≡_, refl, sym, _∙_, ap}
-use mathlib.Core.Bool.{Bool, true, false, cond, not, _&&_, _||_, or-true}
+use mathlib.Core.Path.{_≡_, sym, _∙_}
+use mathlib.Core.Bool.{Bool, true, false, not, _&&_, or-true}
 use mathlib.Core.List.{List}
 use native.Mathlib.Omega.{arith}
 use lib.ListN.{length, length-set}
-use lib.Dec.{eqb, ltb, leb}
-use borrow.Author.Tests.{ltb-true, lt-ltb, leb-true, eqb-true, eq-eqb, ne-eqb}
-use Rattle.ranges.specs.Tests.{by-test, by-equal, not-both, both, both-left, both-right}
-use Rattle.ranges.specs.All.{anyBelow, any-at, all-of}
+use lib.Dec.{eqb}
+use borrow.Author.Tests.{lt-ltb, eq-eqb, ne-eqb}
+use Rattle.ranges.specs.Tests.{by-test, by-equal, not-both, both}
+use Rattle.ranges.specs.All.{any-at, all-of}
 use Rattle.ranges.specs.First.{firstBelow, first-found}
 use Rattle.keys.specs.Masks.{hasServer}
 use Rattle.tables.specs.Rows.{HasRow, word-same, word-other}
-use Rattle.tables.specs.Layout.{clientWidth, clientWord, receivedField, serverPlaces}
+use Rattle.tables.specs.Layout.{clientWidth, receivedField, serverPlaces}
 use Rattle.tables.specs.Links.{targets, isEmpty, linkAt, putLink, link-other}
-use Rattle.tables.specs.Tables.{Tables, serversOf, clientsOf, entriesOf, heldOf, stateOf, maskOf, recordOf, receivedOf, contentAt}
-use Rattle.tables.specs.declared.links.Link.{Link}
+use Rattle.tables.specs.Tables.{Tables, serversOf, entriesOf, heldOf, stateOf, maskOf, recordOf, receivedOf, contentAt}
 use Rattle.tables.specs.declared.links.Contents.{Contents}
-use Rattle.tables.specs.declared.links.Content.the-variants.{Nothing, Request, Reply}
+use Rattle.tables.specs.declared.links.Content.the-variants.{Nothing, Reply}
 use Rattle.coordinator.specs.Latest.{latestTag, latestKey}
 use Rattle.coordinator.specs.LatestLaws.{latest-within}
 use Rattle.server.specs.Held.{firstBearing, bears}
-use Rattle.rules.specs.Common.{writing, entering, askingKeys, askingSetpoints, askingAll, coordinator, pending}
-use Rattle.rules.specs.Choice.{hasVersion, qualifies}
+use Rattle.rules.specs.Common.{askingKeys, askingSetpoints, askingAll, coordinator, pending}
+use Rattle.rules.specs.Choice.{qualifies}
 use Rattle.rules.specs.Reply.{receivedIn}
-use Rattle.soundness.specs.Sound.{uses, holding, between}
+use Rattle.soundness.specs.Sound.{uses, holding}
 use Rattle.soundness.specs.Facts.{Sound, Between, between-facts}
-use Rattle.choice.specs.Ready.{Received, ChoiceReady}
+use Rattle.choice.specs.Ready.{ChoiceReady}
 use Rattle.choice.specs.Cases.{serves}
-use Rattle.replies.specs.Ready.{CountFits, KeysReady, GotReady, Concludable, toldRow, AllReady, Brings, ReplyReady}
+use Rattle.replies.specs.Ready.{KeysReady, Concludable, toldRow, AllReady, Brings, ReplyReady}
 use Rattle.keeping.specs.Accepted.{Deliverable}
-use Rattle.keeping.specs.States.{uses-keys, uses-setpoints, uses-all, by-state, arrived, received-none, received-some, reply-entering, reply-keys, reply-all}
+use Rattle.keeping.specs.States.{uses-keys, uses-setpoints, uses-all, by-state, arrived, received-none, received-some, reply-keys, reply-all}
 use Rattle.store.specs.Ready.{few-servers, few-clients, client-row, client-links, write-record, read-record, target-below, answerable, reply-used, reply-sound, masked-server}
 
 -- the first number that passes is below n where 0 passes
@@ -53,7 +52,7 @@ module _ (t : Tables) (s : Sound t) where
         let r = s .client q (d .client) .received j l in
         by-test (arrived t q j) (λ b. received-some t q j b r .most) (λ b. omega (arith, received-none t q j b r))
 
-    -- states 2 and 3: the number is that of entries
+    -- state 3: the number is that of entries
     keys-told : stateOf t q ≡ askingKeys → KeysReady (t .counts) (t .clients) (t .log) q (w .number)
     keys-told z =
         let h : eqb i coordinator ≡ true = sym (uses-keys (maskOf t q) i) ∙ (rw z at (reply-used t s q i d w e)) in

@@ -75,7 +75,7 @@ pub fn open(
     Answer::Ok
 }
 
-// Begins a WRITE: refused by 2 to 7. On tables known to be sound.
+// Begins a WRITE on tables known to be sound: refused by 3 to 7.
 pub fn begin_write_sound(
     counts: &mut [u32],
     clients: &mut [u32],
@@ -153,7 +153,7 @@ pub fn begin_write(
     )
 }
 
-// Begins a READ: refused by 2 to 7. On tables known to be sound.
+// Begins a READ on tables known to be sound: refused by 3 to 7.
 pub fn begin_read_sound(
     counts: &mut [u32],
     clients: &mut [u32],
@@ -220,7 +220,7 @@ pub fn begin_read(
     )
 }
 
-// Delivers a request: refused by 2, 3, 7, 8 or 9. On tables known to be sound.
+// Delivers a request on tables known to be sound: refused by 3, 7, 8 or 9.
 pub fn deliver_request_sound(
     counts: &mut [u32],
     clients: &[u32],
@@ -296,7 +296,7 @@ pub fn deliver_request(
     )
 }
 
-// Delivers a reply: refused by 2, 3, 7 or 9. On tables known to be sound.
+// Delivers a reply on tables known to be sound: refused by 3, 7 or 9.
 pub fn deliver_reply_sound(
     counts: &mut [u32],
     clients: &mut [u32],

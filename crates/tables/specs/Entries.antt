@@ -1,12 +1,11 @@
 -- Laws of the log's entries: what is put is read back, every other entry stays.
-use Prim.Native.Nat.{ℕ, _<_}
+use Prim.Native.Nat.{ℕ}
 use mathlib.Core.Path.{_≡_}
 use mathlib.Core.List.{List, [], _∷_}
 use native.Mathlib.Omega.{arith}
-use lib.ListN.{length}
 use Rattle.keys.specs.declared.Key.{Key}
 use Rattle.keys.specs.Keys.{keyWord, word-back, FitsByte}
-use Rattle.tables.specs.Rows.{HasRow, row-same, row-other, row-length}
+use Rattle.tables.specs.Rows.{HasRow, row-same, row-other}
 use Rattle.tables.specs.Layout.{entryWidth, entryKey, entryMask, putEntry}
 
 module _ (log : List ℕ) (tag : ℕ) (key : Key) (mask : ℕ) where
@@ -24,6 +23,3 @@ module _ (log : List ℕ) (tag : ℕ) (key : Key) (mask : ℕ) where
 
   pub entry-mask-other : (t : ℕ) → (t ≡ tag → ⊥) → entryMask (putEntry log tag key mask) t ≡ entryMask log t
   entry-mask-other t d = row-other entryWidth log tag row t 1 (omega arith) (omega arith) d
-
-  pub entry-length : length (putEntry log tag key mask) ≡ length log
-  entry-length = row-length entryWidth log tag row

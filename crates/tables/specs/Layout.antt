@@ -1,5 +1,5 @@
 -- Which words each table has: "Parts of a press", and the register's records. A station is a server, a panel a client, target 16 the coordinator.
-use Prim.Native.Nat.{ℕ, _+_, _*_}
+use Prim.Native.Nat.{ℕ}
 use mathlib.Core.List.{List, [], _∷_}
 use lib.ListN.{getD}
 use Rattle.tables.specs.Rows.{wordAt, putWord, putRow}
@@ -33,6 +33,10 @@ heldField = 7
 
 abbrev pub countWords : ℕ
 countWords = 23
+
+-- "any step but an opening at step number 2^32 − 1" is refused
+abbrev pub lastStep : ℕ
+lastStep = 4294967295
 
 abbrev pub countAt : List ℕ → ℕ → ℕ
 countAt counts field = getD counts field 0

@@ -1,7 +1,7 @@
 -- All tables as one record, a setter for each, and the words that definitions speak of by name.
 use Prim.Native.Nat.{ℕ, _+_}
 use mathlib.Core.List.{List}
-use Rattle.tables.specs.Layout.{countAt, methodField, serversField, clientsField, stepField, entriesField, writesField, readsField, heldField, clientWord, stateField, countField, maskField, tagField, recordField, setpointsField, receivedField}
+use Rattle.tables.specs.Layout.{countAt, methodField, serversField, clientsField, stepField, entriesField, writesField, readsField, heldField, clientWord, stateField, countField, maskField, tagField, recordField, receivedField}
 use Rattle.tables.specs.Links.{linkAt}
 use Rattle.tables.specs.declared.links.Content.{Content}
 
@@ -81,9 +81,6 @@ tagOf t q = clientWord (t .clients) q tagField
 -- the place of the record of its transaction in progress
 abbrev pub recordOf : Tables → ℕ → ℕ
 recordOf t q = clientWord (t .clients) q recordField
-
-abbrev pub setpointOf : Tables → ℕ → ℕ → ℕ
-setpointOf t q i = clientWord (t .clients) q (setpointsField + i)
 
 abbrev pub receivedOf : Tables → ℕ → ℕ → ℕ
 receivedOf t q i = clientWord (t .clients) q (receivedField + i)

@@ -21,6 +21,8 @@ pub const READS: usize = 6;
 pub const HELD: usize = 7;
 
 pub const WORDS: usize = 23;
+// The step number at which only an opening is accepted.
+pub const LAST_STEP: u32 = 4294967295;
 
 pub fn count_at(counts: &[u32], field: usize) -> u32
     requires { ⌜ field < length (now counts) ⌝ }

@@ -75,9 +75,9 @@ fn put_words(links: &mut [u32], at: usize, kind: u32, key: u32, number: u32)
     requires { ⌜ at + 2 < length (now links) ⌝ }
     ensures { λ _. ⌜ now (links .exit) ≡ sets (now (links .entry)) at (kind ∷ key ∷ number ∷ []) ⌝ }
 {
-    links[at] = kind;
-    links[at + 1] = key;
-    links[at + 2] = number;
+    links[at + KIND] = kind;
+    links[at + KEY] = key;
+    links[at + NUMBER] = number;
 }
 
 pub fn put_link(links: &mut [u32], client: usize, target: usize, link: Link)

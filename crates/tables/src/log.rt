@@ -39,6 +39,6 @@ pub fn put_entry(log: &mut [u32], tag: usize, key: Key, mask: u32)
     ensures { λ _. ⌜ now (log .exit) ≡ putEntry (now (log .entry)) tag key mask ⌝ }
 {
     let at = WIDTH * tag;
-    log[at] = key.word();
-    log[at + 1] = mask;
+    log[at + KEY] = key.word();
+    log[at + MASK] = mask;
 }

@@ -40,9 +40,9 @@ pub fn put_begun(records: &mut [u32], place: usize, client: u32, number: u32, be
     ensures { λ _. ⌜ now (records .exit) ≡ putBegun (now (records .entry)) place client number begin ⌝ }
 {
     let at = WIDTH * place;
-    records[at] = client;
-    records[at + 1] = number;
-    records[at + 2] = 0;
-    records[at + 3] = begin;
-    records[at + 4] = 0;
+    records[at + CLIENT] = client;
+    records[at + NUMBER] = number;
+    records[at + TAG] = 0;
+    records[at + BEGIN] = begin;
+    records[at + END] = 0;
 }

@@ -2,7 +2,7 @@
 ghost use mathlib.Core.Path.{_≡_};
 ghost use Prim.Native.Nat.{_+_, _*_, _<_};
 ghost use lib.ListN.{length};
-ghost use Rattle.keys.specs.Keys.{keyWord, keyAtWord};
+ghost use Rattle.keys.specs.Keys.{keyWord};
 ghost use Rattle.tables.specs.Layout.{serverPlaces, versionWord, putVersionWord};
 use keys::Key;
 
@@ -14,13 +14,6 @@ pub fn first_place(server: usize) -> usize
     ensures { λ r. ⌜ r ≡ serverPlaces * server ⌝ }
 {
     PLACES * server
-}
-
-pub fn version_key(keys: &[u32], server: usize, place: usize) -> Key
-    requires { ⌜ serverPlaces * server + place < length (now keys) ⌝ }
-    ensures { λ r. ⌜ r ≡ keyAtWord (versionWord (now (keys .entry)) server place) ⌝ }
-{
-    Key::at_word(keys[PLACES * server + place])
 }
 
 // The word of a key as it stands, for those who ask whether it is in its range.

@@ -1,6 +1,4 @@
 -- `requests::set` meets its contract: stored or full, each a case law of `onSet`.
-use mathlib.Core.Path.{sym}
-use native.Mathlib.Omega.{arith}
 use Rattle.tables.specs.Tables.{tablesOf}
 use Rattle.requests.specs.Cases.{set-step, set-stored, set-full}
 use borrow.Author.Needs.{needs}

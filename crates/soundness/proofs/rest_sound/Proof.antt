@@ -1,6 +1,6 @@
 -- `soundness::rest_sound` meets its contract: versions and log, then the clients, then the records.
+use Rattle.ranges.specs.Tests.{fails, holds}
 use Rattle.tables.specs.Tables.{tablesOf}
-use Rattle.soundness.specs.Parts.{fails, holds}
 use borrow.Author.Needs.{needs}
 use Rattle.soundness.proofs.rest_sound.Statement.{statement}
 use Rattle.soundness.proofs.rest_sound.Tie as tie

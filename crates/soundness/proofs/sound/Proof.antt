@@ -1,7 +1,8 @@
 -- `soundness::sound` meets its contract: the lengths and the scalars, which let the rest be read; then the rest.
+use Rattle.ranges.specs.Tests.{fails, holds}
 use Rattle.tables.specs.Tables.{tablesOf, serversOf, clientsOf}
-use Rattle.soundness.specs.Parts.{fails, holds}
-use Rattle.soundness.specs.There.{long-true, tables-there}
+use Rattle.soundness.specs.Facts.{long-facts}
+use Rattle.soundness.specs.There.{tables-there}
 use Rattle.soundness.specs.Sound.{sound}
 use borrow.Author.Needs.{needs}
 use Rattle.soundness.proofs.sound.Statement.{statement}
@@ -14,7 +15,7 @@ returns c = rw (fails (c .before .tables-long .ensures) (c .if1 .taken))
 scalars-sound-requires : tie.Need-scalars-sound-requires
 scalars-sound-requires c κs = let a = c .before .before .before .before .before .before .before .before .before .before .args in
     let u = tablesOf (a .counts .now) (a .clients .now) (a .links .now) (a .keys .now) (a .values .now) (a .log .now) (a .writes .now) (a .reads .now) in
-    long-true (serversOf u) (clientsOf u) u (holds (c .before .tables-long .ensures) (c .if1 .left)) .counted
+    long-facts (serversOf u) (clientsOf u) u (holds (c .before .tables-long .ensures) (c .if1 .left)) .counts
 
 returns-2 : tie.Need-returns-2
 unfolding sound

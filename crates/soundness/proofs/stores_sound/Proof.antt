@@ -1,6 +1,7 @@
 -- `soundness::stores_sound` meets its contract: the servers, then the log.
+use Rattle.ranges.specs.Tests.{fails, holds}
 use Rattle.tables.specs.Tables.{withLog}
-use Rattle.soundness.specs.Parts.{fails, holds, withKeys}
+use Rattle.soundness.specs.Parts.{withKeys}
 use borrow.Author.Needs.{needs}
 use Rattle.soundness.proofs.stores_sound.Statement.{statement}
 use Rattle.soundness.proofs.stores_sound.Tie as tie

@@ -1,6 +1,7 @@
 -- `soundness::clients::client_sound` meets its contract: each way out is one more test passed.
-use borrow.Author.Tests.{eq-eqb, ne-eqb}
-use Rattle.soundness.specs.Parts.{fails, holds}
+use mathlib.Core.Path.{sym}
+use Rattle.ranges.specs.Tests.{and-stops, and-goes-on, or-stops, or-goes-on, is, is-not, fails, holds}
+use Rattle.rules.specs.Common.{idle}
 use Rattle.soundness.specs.Sound.{clientSound}
 use borrow.Author.Needs.{needs}
 use Rattle.soundness.proofs.clients.client_sound.Statement.{statement}
@@ -8,42 +9,29 @@ use Rattle.soundness.proofs.clients.client_sound.Tie as tie
 
 returns : tie.Need-returns
 unfolding clientSound
-returns c = λ t. rw (fails (c .before .row-sound .ensures t) (c .if1 .taken))
+returns c = λ t. sym (and-stops _ (and-stops _ (and-stops _ (fails (c .before .row-sound .ensures t) (c .if1 .taken)))))
 
 returns-2 : tie.Need-returns-2
 unfolding clientSound
-returns-2 c = λ t. rw (
-  holds (c .before .before .before .row-sound .ensures t) (c .before .before .if1 .left),
-  fails (c .before .links-sound .ensures t) (c .if2 .taken),
-)
+returns-2 c = λ t. sym (and-stops _ (and-stops _ (and-goes-on _ (holds (c .before .before .before .row-sound .ensures t) (c .before .before .if1 .left)) (fails (c .before .links-sound .ensures t) (c .if2 .taken)))))
 
 returns-3 : tie.Need-returns-3
 unfolding clientSound
-returns-3 c = λ t. rw (
-  holds (c .before .before .before .before .before .row-sound .ensures t) (c .before .before .before .before .if1 .left),
-  holds (c .before .before .before .links-sound .ensures t) (c .before .before .if2 .left),
-  fails (c .before .all-received-sound .ensures t) (c .if3 .taken),
-)
+returns-3 c = λ t. sym (and-stops _ (and-goes-on _
+    (and-goes-on _ (holds (c .before .before .before .before .before .row-sound .ensures t) (c .before .before .before .before .if1 .left)) (holds (c .before .before .before .links-sound .ensures t) (c .before .before .if2 .left)))
+    (fails (c .before .all-received-sound .ensures t) (c .if3 .taken))))
 
 returns-4 : tie.Need-returns-4
 unfolding clientSound
-returns-4 c = λ t. rw (
-  holds (c .before .before .before .before .before .before .before .row-sound .ensures t) (c .before .before .before .before .before .before .if1 .left),
-  holds (c .before .before .before .before .before .links-sound .ensures t) (c .before .before .before .before .if2 .left),
-  holds (c .before .before .before .all-received-sound .ensures t) (c .before .before .if3 .left),
-  ← (c .before .client-word .ensures),
-  eq-eqb _ _ (c .if4 .taken),
-)
+returns-4 c = λ t. sym (and-goes-on _
+    (and-goes-on _ (and-goes-on _ (holds (c .before .before .before .before .before .before .before .row-sound .ensures t) (c .before .before .before .before .before .before .if1 .left)) (holds (c .before .before .before .before .before .links-sound .ensures t) (c .before .before .before .before .if2 .left))) (holds (c .before .before .before .all-received-sound .ensures t) (c .before .before .if3 .left)))
+    (or-stops _ (is {v = idle} (c .before .client-word .ensures) (c .if4 .taken))))
 
 returns-5 : tie.Need-returns-5
 unfolding clientSound
-returns-5 c = λ t. rw (
-  holds (c .before .before .before .before .before .before .before .before .row-sound .ensures t) (c .before .before .before .before .before .before .before .if1 .left),
-  holds (c .before .before .before .before .before .before .links-sound .ensures t) (c .before .before .before .before .before .if2 .left),
-  holds (c .before .before .before .before .all-received-sound .ensures t) (c .before .before .before .if3 .left),
-  ← (c .before .before .client-word .ensures),
-  ne-eqb _ _ (c .before .if4 .left),
-) (c .pending .ensures)
+returns-5 c = λ t. sym (and-goes-on _
+    (and-goes-on _ (and-goes-on _ (holds (c .before .before .before .before .before .before .before .before .row-sound .ensures t) (c .before .before .before .before .before .before .before .if1 .left)) (holds (c .before .before .before .before .before .before .links-sound .ensures t) (c .before .before .before .before .before .if2 .left))) (holds (c .before .before .before .before .all-received-sound .ensures t) (c .before .before .before .if3 .left)))
+    (or-goes-on _ (is-not {v = idle} (c .before .before .client-word .ensures) (c .before .if4 .left)) (sym (c .is-pending .ensures))))
 
 pub client-sound-spec : {M : Type 1} → statement M
 client-sound-spec =

@@ -1,6 +1,6 @@
 -- `soundness::clients::row_sound` meets its contract: each way out is one more test passed.
-use Rattle.soundness.specs.Parts.{fails, holds}
 use borrow.Author.Needs.{needs}
+use Rattle.ranges.specs.Tests.{fails, holds}
 use Rattle.soundness.proofs.clients.row_sound.Statement.{statement}
 use Rattle.soundness.proofs.clients.row_sound.Tie as tie
 

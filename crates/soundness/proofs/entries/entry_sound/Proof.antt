@@ -1,5 +1,5 @@
 -- `soundness::entries::entry_sound` meets its contract: the key, then the mask.
-use Rattle.soundness.specs.Parts.{fails, holds}
+use Rattle.ranges.specs.Tests.{fails, holds}
 use Rattle.soundness.specs.Sound.{entrySound}
 use borrow.Author.Needs.{needs}
 use Rattle.soundness.proofs.entries.entry_sound.Statement.{statement}

@@ -1,5 +1,5 @@
 -- `soundness::entries::log_sound` meets its contract: the first entry, then every entry.
-use Rattle.soundness.specs.Parts.{fails, holds}
+use Rattle.ranges.specs.Tests.{fails, holds}
 use Rattle.soundness.specs.Sound.{logSound}
 use borrow.Author.Needs.{needs}
 use Rattle.soundness.proofs.entries.log_sound.Statement.{statement}

@@ -1,7 +1,7 @@
 -- `soundness::links::expects` meets its contract: each way out is one more test passed.
 use borrow.Author.Tests.{eq-eqb, ne-eqb}
-use Rattle.soundness.specs.Parts.{fails, holds}
 use borrow.Author.Needs.{needs}
+use Rattle.ranges.specs.Tests.{fails, holds}
 use Rattle.soundness.proofs.links.expects.Statement.{statement}
 use Rattle.soundness.proofs.links.expects.Tie as tie
 

@@ -1,7 +1,7 @@
 -- `soundness::links::link_sound` meets its contract: each kind is a case law of `linkSound`.
+use Rattle.ranges.specs.Tests.{fails, holds}
 use Rattle.tables.specs.Tables.{withCounts, withClients, withLinks}
 use Rattle.soundness.specs.Kinds.{nothing-sound, kind-beyond, request-sound, reply-sound, not-used}
-use Rattle.soundness.specs.Parts.{fails, holds}
 use borrow.Author.Needs.{needs}
 use Rattle.soundness.proofs.links.link_sound.Statement.{statement}
 use Rattle.soundness.proofs.links.link_sound.Tie as tie

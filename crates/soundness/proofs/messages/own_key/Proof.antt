@@ -1,6 +1,6 @@
 -- `soundness::messages::own_key` meets its contract: a count in its range, then the client.
-use Rattle.soundness.specs.Parts.{fails, holds}
 use borrow.Author.Needs.{needs}
+use Rattle.ranges.specs.Tests.{fails, holds}
 use Rattle.soundness.proofs.messages.own_key.Statement.{statement}
 use Rattle.soundness.proofs.messages.own_key.Tie as tie
 

@@ -1,6 +1,6 @@
 -- `soundness::messages::request_sound` meets its contract: each state is one case of the definition.
 use borrow.Author.Tests.{ne-eqb}
-use Rattle.soundness.specs.Parts.{fails, holds}
+use Rattle.ranges.specs.Tests.{fails, holds}
 use Rattle.soundness.specs.Sound.{requestSound}
 use borrow.Author.Needs.{needs}
 use Rattle.soundness.proofs.messages.request_sound.Statement.{statement}

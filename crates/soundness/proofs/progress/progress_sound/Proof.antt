@@ -1,7 +1,7 @@
 -- `soundness::progress::progress_sound` meets its contract: each way out is one more test passed.
 use borrow.Author.Tests.{le-leb, lt-leb}
-use Rattle.soundness.specs.Parts.{fails, holds}
 use borrow.Author.Needs.{needs}
+use Rattle.ranges.specs.Tests.{fails, holds}
 use Rattle.soundness.proofs.progress.progress_sound.Statement.{statement}
 use Rattle.soundness.proofs.progress.progress_sound.Tie as tie
 
@@ -40,4 +40,4 @@ returns-4 c = λ t. rw (
 pub progress-sound-spec : {M : Type 1} → statement M
 progress-sound-spec =
     tie.close
-    (tie.spec (λ c κs. search needs) (λ c κs. search needs) returns (λ c κs. search needs) (λ c κs. search needs) returns-2 (λ c κs. search needs) returns-3 (λ c κs. search needs) returns-4)
+    (tie.spec (λ c κs. search needs) (λ c κs. search needs) returns (λ c κs. search needs) (λ c. search needs) (λ c κs. search needs) returns-2 (λ c κs. search needs) (λ c. search needs) returns-3 (λ c κs. search needs) (λ c. search needs) returns-4)

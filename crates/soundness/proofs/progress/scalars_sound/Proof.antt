@@ -1,5 +1,5 @@
 -- `soundness::progress::scalars_sound` meets its contract: the press, then what has been done.
-use Rattle.soundness.specs.Parts.{fails, holds}
+use Rattle.ranges.specs.Tests.{fails, holds}
 use Rattle.soundness.specs.Sound.{scalarsSound}
 use borrow.Author.Needs.{needs}
 use Rattle.soundness.proofs.progress.scalars_sound.Statement.{statement}

@@ -1,6 +1,6 @@
 -- `soundness::records::all_records_sound` meets its contract: the WRITE records of all clients, then their READ records.
+use Rattle.ranges.specs.Tests.{fails, holds}
 use Rattle.tables.specs.Tables.{withCounts, withClients, withWrites, withReads, clientsOf}
-use Rattle.soundness.specs.Parts.{fails, holds}
 use Rattle.soundness.specs.Opens.{records-both}
 use borrow.Author.Needs.{needs}
 use Rattle.soundness.proofs.records.all_records_sound.Statement.{statement}

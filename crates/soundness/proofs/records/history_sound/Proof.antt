@@ -1,6 +1,6 @@
 -- `soundness::records::history_sound` meets its contract: each way out is one more test passed.
+use Rattle.ranges.specs.Tests.{fails, holds}
 use Rattle.tables.specs.Tables.{withCounts, withClients, withWrites, withReads}
-use Rattle.soundness.specs.Parts.{fails, holds}
 use borrow.Author.Needs.{needs}
 use Rattle.soundness.proofs.records.history_sound.Statement.{statement}
 use Rattle.soundness.proofs.records.history_sound.Tie as tie

@@ -1,6 +1,6 @@
 -- `soundness::records::read_sound` meets its contract: each way out is one more test passed.
 use borrow.Author.Tests.{lt-ltb, le-ltb}
-use Rattle.soundness.specs.Parts.{fails, holds}
+use Rattle.ranges.specs.Tests.{fails, holds}
 use Rattle.soundness.specs.Sound.{readSound}
 use borrow.Author.Needs.{needs}
 use Rattle.soundness.proofs.records.read_sound.Statement.{statement}

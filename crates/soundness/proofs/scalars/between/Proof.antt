@@ -1,6 +1,5 @@
 -- `soundness::scalars::between` meets its contract: each way out is one value of the first test.
 use borrow.Author.Tests.{le-leb, lt-leb}
-use borrow.Author.Needs.{needs}
 use Rattle.soundness.proofs.scalars.between.Statement.{statement}
 use Rattle.soundness.proofs.scalars.between.Tie as tie
 

@@ -1,6 +1,6 @@
 -- `soundness::scalars::key_in_range` meets its contract: 0, or both tests.
 use borrow.Author.Tests.{eq-eqb, ne-eqb}
-use Rattle.soundness.specs.Parts.{fails, holds}
+use Rattle.ranges.specs.Tests.{fails, holds}
 use Rattle.soundness.specs.Sound.{keyInRange}
 use borrow.Author.Needs.{needs}
 use Rattle.soundness.proofs.scalars.key_in_range.Statement.{statement}

@@ -1,6 +1,6 @@
 -- `soundness::scalars::press_fits` meets its contract: each way out is one more test passed.
 use borrow.Author.Tests.{eq-eqb, ne-eqb}
-use Rattle.soundness.specs.Parts.{fails, holds}
+use Rattle.ranges.specs.Tests.{fails, holds}
 use Rattle.soundness.specs.Sound.{pressFits}
 use borrow.Author.Needs.{needs}
 use Rattle.soundness.proofs.scalars.press_fits.Statement.{statement}

@@ -1,6 +1,5 @@
 -- `soundness::states::is_writing` meets its contract: one state or the other.
 use borrow.Author.Tests.{eq-eqb, ne-eqb}
-use borrow.Author.Needs.{needs}
 use Rattle.soundness.proofs.states.is_writing.Statement.{statement}
 use Rattle.soundness.proofs.states.is_writing.Tie as tie
 

@@ -24,4 +24,4 @@ returns c = simp towards-suc
 pub put-begun-spec : {M : Type 1} → statement M
 put-begun-spec =
     tie.close
-    (tie.spec (λ c. search needs) (λ c. search needs) (λ c. search needs) (λ c. search needs) (λ c. search needs) slice-write-records-2 (λ c. search needs) (λ c. search needs) slice-write-records-3 (λ c. search needs) (λ c. search needs) slice-write-records-4 (λ c. search needs) (λ c. search needs) slice-write-records-5 (λ c. search needs) returns)
+    (tie.spec (λ c. search needs) (λ c. search needs) (λ c. search needs) (λ c. search needs) (λ c. search needs) (λ c. search needs) slice-write-records-2 (λ c. search needs) (λ c. search needs) slice-write-records-3 (λ c. search needs) (λ c. search needs) slice-write-records-4 (λ c. search needs) (λ c. search needs) slice-write-records-5 (λ c. search needs) returns)
