@@ -1,7 +1,7 @@
 -- Document 01's starred cards, one checked table: each with its sentence.
 use Prim.Native.Nat.{ℕ}
 use mathlib.Core.Path.{_≡_, refl}
-use mathlib.Core.List.{List, [], _∷_}
+use mathlib.Core.List.{[], _∷_}
 use lib.ListN.{replicate}
 use Rattle.ranges.specs.All.{allBelow, anyBelow}
 use Rattle.ranges.specs.Sum.{sumBelow}
