@@ -13,7 +13,7 @@ use Rattle.formats.specs.declared.state.State.{State}
 use Rattle.formats.specs.Grammar.{Grammar, end}
 use Rattle.formats.specs.Table.{manyPlace, entryPlace, numberPlace, kinds, sorts, leasts, mosts, sortAt, bitsOf, leastOf, mostOf, mostEntries, entriesIn}
 use Rattle.formats.specs.TableLaws.{rowOf, row-first, row-at, sort-small, entries-most, few-entries}
-use Rattle.formats.specs.Format.{entryFields, mostValues, sortOf, widthOf, fieldOf, within, allowed, leftAfter, placeAfter, nextOf, one, entries, fixed, start, format}
+use Rattle.formats.specs.Format.{entryFields, mostValues, sortOf, fieldOf, within, allowed, leftAfter, placeAfter, nextOf, one, entries, fixed, start, format}
 
 module _ (place : ℕ) where
   pub place-last : place ≡ numberPlace → placeAfter place ≡ entryPlace

@@ -71,10 +71,6 @@ module _ (vs : List ℕ) where
   walk-kind (suc (suc i)) h =
       next-kind (stateAt vs (suc i)) _ (λ e. place-some (suc i) (omega arith) (sym (walk-place (suc i)) ∙ e)) ∙ walk-kind (suc i) (omega arith)
 
-  pub walk-before : (i : ℕ) → (stateAt vs (suc i)) .before ≡ getD vs i 0
-  unfolding stateAt nextOf
-  walk-before i = refl
-
   -- how many entries the values say there are
   abbrev pub entriesSaid : ℕ
   entriesSaid = entriesIn (getD vs 0 0) (getD vs manyPlace 0)

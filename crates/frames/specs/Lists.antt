@@ -48,6 +48,28 @@ module _ (f : ℕ → ℕ) where
       ∙ sym (append-snoc (built f n) (f n) (drop (suc n) row))
       ∙ ap (λ (k : ℕ). built f k ++ drop k row) (sym (add-one n))
 
+-- A loop that stores f at the first n places of a row, one by one, as the code meets it: i places are done.
+pub record Laying (f : ℕ → ℕ) (n : ℕ) (row : List ℕ) (i : ℕ) (now′ : List ℕ) : Type 0 where
+  pub within : i ≤ n
+  pub stored : now′ ≡ laid f i row
+
+module _ (f : ℕ → ℕ) (n : ℕ) (row : List ℕ) (room : n ≤ length row) where
+  pub laying-none : Laying f n row 0 row
+  laying-none = record { within = omega arith; stored = laid-none f row }
+
+  module _ {i : ℕ} {now′ : List ℕ} (l : Laying f n row i now′) where
+    pub laying-length : length now′ ≡ length row
+    laying-length = ap length (l .stored) ∙ laid-length f i row (omega (arith, l .within))
+
+    pub laying-room : i < n → i < length now′
+    laying-room h = omega (arith, laying-length)
+
+    pub laying-more : {v : ℕ} → i < n → v ≡ f i → Laying f n row (i + 1) (set now′ i v)
+    laying-more {v} h e = record { within = omega arith; stored = ap (λ (r : List ℕ). set r i v) (l .stored) ∙ laid-more f i row (omega arith) e }
+
+    pub laying-all : n ≤ i → now′ ≡ laid f n row
+    laying-all h = let e : i ≡ n = omega (arith, l .within) in l .stored ∙ ap (λ (k : ℕ). laid f k row) e
+
 -- two lists that are given by the same
 pub built-same : (f g : ℕ → ℕ) (n : ℕ) → ((i : ℕ) → i < n → f i ≡ g i) → built f n ≡ built g n
 unfolding built

@@ -9,13 +9,11 @@ pub mod entries; // entries.rt: the entries as values, and back
 ghost use mathlib.Core.Path.{_≡_};
 ghost use mathlib.Core.Bool.{true};
 ghost use Prim.Native.Nat.{_≤_, _+_, _-_, _*_};
-ghost use lib.ListN.{length, take};
+ghost use lib.ListN.{length};
 ghost use Rattle.formats.specs.Grammar.{got, good};
 ghost use Rattle.formats.specs.Format.{format};
 ghost use Rattle.formats.specs.Writing.{wroteOf, bytesAfter};
-ghost use Rattle.frames.specs.Lists.{built};
-ghost use Rattle.frames.specs.Entries.{entryValue};
-ghost use Rattle.frames.specs.Frames.{enough, readingOf, keysRead, numbersRead, found, writtenOf, bytesWritten};
+ghost use Rattle.frames.specs.Frames.{readingOf, keysRead, numbersRead, found, writtenOf, bytesWritten};
 ghost use Rattle.frames.specs.Answers.{writtenBy, valuesBy, Packable};
 ghost use Rattle.frames.specs.Messages.{entriesOf, fixedOf, messageOf, messageAt, fixedAt, Narrow};
 

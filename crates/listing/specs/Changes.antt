@@ -7,13 +7,13 @@ use native.Mathlib.Omega.{arith}
 use native.Mathlib.Numerals.{add-one}
 use lib.ListN.{length}
 use lib.Dec.{eqb, ltb}
-use borrow.Author.Tests.{lt-ltb, eq-eqb, ne-eqb}
+use borrow.Author.Tests.{lt-ltb, le-ltb, eq-eqb, ne-eqb}
 use Rattle.ranges.specs.Tests.{by-equal, by-test, not-both}
+use Rattle.ranges.specs.Each.{Each}
 use Rattle.tables.specs.Tables.{Tables}
 use Rattle.soundness.specs.Facts.{Sound}
 use Rattle.listing.specs.Register.{isFinished, placesBelow, inserted, insertedAll, endIn, byEndBelow, register}
-use Rattle.listing.specs.Places.{Each, each-by-end, by-end-more}
-use Rattle.listing.specs.Orders.{inserted-last}
+use Rattle.listing.specs.Places.{each-by-end, by-end-more}
 use Rattle.listing.specs.Lengths.{few-lines}
 
 -- ---- places that pass a test, where the test changes
@@ -36,6 +36,13 @@ places-one p (suc n) place h e f =
     by-equal place n
     (λ d. rw (places-nothing p n (λ i l. f i (omega arith) (λ z. omega arith)), rw d at e) (ap (λ (k : ℕ). k ∷ []) (sym d)))
     (λ d. rw (places-one p n place (omega arith) e (λ i l. f i (omega arith)), f n (omega arith) (λ z. d (sym z))))
+
+-- ---- a place whose end no other's is above goes last
+
+inserted-last : (end : ℕ → ℕ) (place : ℕ) (places : List ℕ) → Each (λ other. end other ≤ end place) places → inserted end place places ≡ places ++ (place ∷ [])
+unfolding inserted
+inserted-last end place [] u = refl
+inserted-last end place (x ∷ xs) u = rw (le-ltb (end place) (end x) (u .0)) (ap (λ (l : List ℕ). x ∷ l) (inserted-last end place xs (u .1)))
 
 -- ---- ends that agree give the same order
 

@@ -8,7 +8,7 @@ use lib.ListN.{length, length-append, length-map}
 use lib.Dec.{eqb, ltb, leb}
 use borrow.Author.Tests.{le-leb, lt-leb, eq-eqb, ne-eqb, leb-true, leb-false}
 use Rattle.ranges.specs.Tests.{by-equal, by-test}
-use Rattle.ranges.specs.Sum.{one, sumBelow, countBelow, sum-same, count-most}
+use Rattle.ranges.specs.Sum.{one, sumBelow, countBelow, sum-same, sum-add, sum-nothing, count-most}
 use Rattle.tables.specs.Layout.{recordWord, tagOfRecord, recordPlaces, countAt, writesField, readsField}
 use Rattle.tables.specs.Tables.{Tables, entriesOf, writesOf, readsOf}
 use Rattle.listing.specs.Register.{isFinished, hasTag, kept, placesBelow, passing, inserted, insertedAll, endIn, write, read, finishedReads, writesOfTag, readsOfTag, listedTo, register}
@@ -59,18 +59,6 @@ module _ (q : ℕ → Bool) where
   number-places p (suc n) =
       rw (passing-append q (placesBelow p n) (kept (p n) n), length-append (passing q (placesBelow p n)) (passing q (kept (p n) n)))
       (omega (arith, number-places p n, number-kept (p n) n))
-
--- ---- sums
-
-sum-add : (f g h : ℕ → ℕ) (n : ℕ) → ((i : ℕ) → i < n → h i ≡ f i + g i) → sumBelow h n ≡ sumBelow f n + sumBelow g n
-unfolding sumBelow
-sum-add f g h zero e = refl
-sum-add f g h (suc n) e = omega (arith, sum-add f g h n (λ i l. e i (omega arith)), e n (omega arith))
-
-sum-nothing : (f : ℕ → ℕ) (n : ℕ) → ((i : ℕ) → i < n → f i ≡ 0) → sumBelow f n ≡ 0
-unfolding sumBelow
-sum-nothing f zero e = refl
-sum-nothing f (suc n) e = omega (arith, sum-nothing f n (λ i l. e i (omega arith)), e n (omega arith))
 
 -- ---- tags up to n
 

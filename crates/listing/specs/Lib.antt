@@ -7,6 +7,5 @@ pub mod Laid
 pub mod Ready
 pub mod Lengths
 pub mod Cases
-pub mod Orders
 pub mod Changes
 pub mod Records

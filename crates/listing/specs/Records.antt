@@ -1,18 +1,17 @@
 -- What a begin, a tag and an end of `rules` do to the order of READs and to the WRITEs of a tag.
 use Prim.Native.Nat.{ℕ, _+_, _<_}
-use mathlib.Core.Path.{_≡_, sym, ap, _∙_}
+use mathlib.Core.Path.{_≡_, ap, _∙_}
 use mathlib.Core.Bool.{false}
 use mathlib.Core.List.{List, [], _∷_, _++_, append-nil}
 use native.Mathlib.Omega.{arith}
 use lib.Dec.{eqb}
-use borrow.Author.Tests.{eq-eqb, ne-eqb}
-use Rattle.ranges.specs.Tests.{by-equal}
+use borrow.Author.Tests.{ne-eqb}
 use Rattle.tables.specs.Rows.{HasRow, word-same, word-other, word-length, row-same, row-other}
 use Rattle.tables.specs.Layout.{recordWidth, recordWord, tagOfRecord, endOfRecord, putBegun}
 use Rattle.rules.specs.Common.{endedRecord, taggedRecord}
 use Rattle.listing.specs.Register.{hasTag, placesBelow, endIn, byEndBelow}
 use Rattle.listing.specs.Places.{places-more}
-use Rattle.listing.specs.Changes.{places-same, places-one, by-end-begun, by-end-ended}
+use Rattle.listing.specs.Changes.{places-same, by-end-begun, by-end-ended}
 
 -- ---- a begin, in the next place
 
@@ -55,31 +54,3 @@ module _ (records : List ℕ) (place n : ℕ) (inside : place < n) (room : HasRo
       (λ i h d. word-other recordWidth tagged place endOfRecord step i endOfRecord (omega arith) (omega arith) (λ e. d (e .0))
       ∙ word-other recordWidth records place tagOfRecord tag i endOfRecord (omega arith) (omega arith) (λ e. d (e .0)))
       inside
-
-  -- a WRITE's end leaves all tags
-  pub write-ended : (tag step : ℕ) → placesBelow (hasTag (endedRecord place step records) tag) n ≡ placesBelow (hasTag records tag) n
-  write-ended tag step =
-      places-same (hasTag (endedRecord place step records) tag) (hasTag records tag) n
-      (λ i h. ap (λ (k : ℕ). eqb k tag) (word-other recordWidth records place endOfRecord step i tagOfRecord (omega arith) (omega arith) (λ e. omega (arith, e .1))))
-
-  module _ (new : ℕ) where
-    other-tag : (i : ℕ) → (i ≡ place → ⊥) → recordWord (taggedRecord place new records) i tagOfRecord ≡ recordWord records i tagOfRecord
-    other-tag i d = word-other recordWidth records place tagOfRecord new i tagOfRecord (omega arith) (omega arith) (λ e. d (e .0))
-
-    here-tag : recordWord (taggedRecord place new records) place tagOfRecord ≡ new
-    here-tag = word-same recordWidth records place tagOfRecord new room (omega arith)
-
-    -- a WRITE that gets a tag which no other has is that tag's one WRITE
-    pub write-tagged : ((i : ℕ) → i < n → recordWord records i tagOfRecord ≡ new → ⊥) → placesBelow (hasTag (taggedRecord place new records) new) n ≡ place ∷ []
-    write-tagged fresh =
-        places-one (hasTag (taggedRecord place new records) new) n place inside
-        (eq-eqb (recordWord (taggedRecord place new records) place tagOfRecord) new here-tag)
-        (λ i h d. rw (other-tag i d) (ne-eqb (recordWord records i tagOfRecord) new (fresh i h)))
-
-    -- .. and every other tag but 0 keeps its WRITEs
-    pub write-tagged-other : recordWord records place tagOfRecord ≡ 0 → (tag : ℕ) → 0 < tag → (tag ≡ new → ⊥) → placesBelow (hasTag (taggedRecord place new records) tag) n ≡ placesBelow (hasTag records tag) n
-    write-tagged-other untagged tag h d =
-        places-same (hasTag (taggedRecord place new records) tag) (hasTag records tag) n
-        (λ i l. by-equal i place
-        (λ e. rw (e, here-tag, untagged, ne-eqb new tag (λ z. d (sym z)), ne-eqb 0 tag (λ z. omega arith)))
-        (λ e. rw (other-tag i e)))

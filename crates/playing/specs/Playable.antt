@@ -1,7 +1,7 @@
 -- Tables that a schedule may be played on with no check of them: not opened yet, or sound. Every step leaves such tables.
 use Prim.Native.Nat.{ℕ, zero, suc, _≤_, _<_}
-use mathlib.Core.Path.{_≡_, refl, sym, ap, _∙_}
-use mathlib.Core.Bool.{Bool, true, false, cond, not}
+use mathlib.Core.Path.{_≡_, refl, ap}
+use mathlib.Core.Bool.{false}
 use mathlib.Core.List.{List}
 use native.Mathlib.Omega.{arith}
 use lib.ListN.{length}
@@ -15,7 +15,7 @@ use Rattle.rules.specs.Reply.{said}
 use Rattle.soundness.specs.Sound.{sound}
 use Rattle.soundness.specs.Facts.{Sound, sound-facts}
 use Rattle.refusals.specs.Refusals.{openRefusal, writeRefusal, readRefusal, deliveryRefusal}
-use Rattle.refusals.specs.Steps.{unless, unlessArrived, open′, beginWrite, beginRead, deliverRequest, deliverReply}
+use Rattle.refusals.specs.Steps.{unless, open′, beginWrite, beginRead, deliverRequest, deliverReply}
 use Rattle.keeping.specs.Opening.{opened-sound}
 use Rattle.keeping.specs.Steps.{beginWrite-sound, beginRead-sound, deliverRequest-sound, deliverReply-sound}
 use Rattle.ranges.specs.Tests.{by-test}

@@ -16,7 +16,7 @@ use Rattle.rules.specs.Answers.Word.{ok, wait, next, write, read, no′}
 use Rattle.refusals.specs.Steps.{open′, beginWrite, beginRead, deliverRequest, deliverReply}
 use Rattle.schedule.specs.declared.Step.{Step}
 use Rattle.schedule.specs.declared.Step.the-variants.{Unreadable, Open, BeginWrite, BeginRead, Request, Reply}
-use Rattle.schedule.specs.Steps.{Named, stepOf}
+use Rattle.schedule.specs.Steps.{stepOf}
 use Rattle.printing.specs.declared.Word.{Word}
 use Rattle.printing.specs.declared.Word.the-variants as print
 use Rattle.printing.specs.Texts.{answerText}

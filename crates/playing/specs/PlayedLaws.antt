@@ -1,6 +1,6 @@
 -- How the parts of what is printed follow from a step's answer.
 use Prim.Native.Nat.{ℕ, _+_, _/_, _≤_, _<_}
-use mathlib.Core.Path.{_≡_, refl, ap, subst, _∙_}
+use mathlib.Core.Path.{_≡_, ap, subst, _∙_}
 use mathlib.Core.List.{List}
 use lib.ListN.{length, take, drop, length-append}
 use native.Mathlib.Omega.{arith}
@@ -51,9 +51,6 @@ pub line-played : (line held left : List ℕ) (r : Reading) {p : Played} (t : Ta
 line-played line held left r t h e =
     e ∙ (ap (λ (x : Step). played x (take (r .setpoints) left) t) (ap (λ (x : Reading). x .step) (h .reading))
     ∙ ap (λ (l : List ℕ). played (stepOf line .step) l t) (setpoints-read (stepOf line) held r left h))
-
-pub at-most : {m n : ℕ} → m ≡ n → m ≤ n
-at-most e = omega (arith, e)
 
 -- who prints what a line shows has played the line
 pub line-printed : (number : ℕ) (line : List ℕ) (t : Tables) (out : List ℕ) (at next : ℕ) (left : List ℕ) {s : Shown} {t′ : Tables} →

@@ -1,7 +1,7 @@
 // Plays the lines of a schedule: the step that a line names, its change of the tables, and its answer in print.
 // No table is checked: they are not opened yet, or sound, and each step leaves them so.
 ghost use mathlib.Core.Path.{_≡_};
-ghost use Prim.Native.Nat.{_+_, _≤_, _<_};
+ghost use Prim.Native.Nat.{_+_, _≤_};
 ghost use lib.ListN.{length};
 ghost use Rattle.tables.specs.Tables.{Tables, tablesOf, methodOf};
 ghost use Rattle.rules.specs.Answers.{left, arrived};
@@ -253,6 +253,7 @@ fn play_unopened(
         Step::BeginRead(_, _) => plain(Word::No(2)),
         Step::Request(_, _) => plain(Word::No(2)),
         Step::Reply(client, _) => {
+            // A delivered reply has its client's mask beside it, refused or not.
             let mask = mask_of(&*clients, client);
             noted(Word::No(2), mask)
         }

@@ -1,7 +1,7 @@
 -- "then, at the end of the text, the register: `W tag panel count begin end` (`-` unfinished), `R tag panel begin end overlap`"
 use Prim.Native.Nat.{ℕ, zero, suc}
 use mathlib.Core.Bool.{cond}
-use mathlib.Core.List.{List, [], _∷_, _++_, flatMap}
+use mathlib.Core.List.{List, [], _++_, flatMap}
 use lib.Dec.{eqb}
 use lib.ListN.{take, drop, getD}
 use Rattle.tables.specs.Tables.{Tables, methodOf}

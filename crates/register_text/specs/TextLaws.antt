@@ -1,16 +1,14 @@
 -- The rows that listing lays are the register's lines.
-use Prim.Native.Nat.{ℕ, zero, suc, _+_, _-_, _*_, _≤_, _<_}
+use Prim.Native.Nat.{ℕ, zero, suc, _+_, _-_, _*_, _≤_}
 use mathlib.Core.Path.{_≡_, refl, sym, ap, subst, _∙_}
-use mathlib.Core.Bool.{Bool, true, false, cond, not, true≢false}
+use mathlib.Core.Bool.{Bool, true, false, true≢false}
 use mathlib.Core.List.{List, [], _∷_, _++_, flatMap, append-assoc, append-nil}
 use native.Mathlib.Omega.{arith}
 use native.Mathlib.Numerals.{add-one}
-use lib.Dec.{eqb, ltb}
 use lib.ListN.{length, take, drop, getD}
-use lib.Seq.{take-append-seam, drop-append-seam, drop-drop}
+use lib.Seq.{drop-drop}
 use borrow.Author.Tests.{le-ltb, eq-eqb, ne-eqb}
 use Rattle.tables.specs.Tables.{Tables, methodOf}
-use Rattle.soundness.specs.Sound.{sound}
 use Rattle.soundness.specs.Facts.{Sound, facts-sound}
 use Rattle.printing.specs.Texts.{writeText, readText}
 use Rattle.printing.specs.Printed.{Printed}
@@ -41,9 +39,6 @@ rows-more (suc n) list =
     ap (λ (l : List ℕ). rowText (take lineWidth list) ++ l)
     (rows-more n (drop lineWidth list) ∙ ap (λ (l : List ℕ). rowsText (drop lineWidth list) n ++ rowText (take lineWidth l)) (drop-drop (lineWidth * n) lineWidth list ∙ ap (λ (k : ℕ). drop k list) (sym m)))
     ∙ sym (append-assoc (rowText (take lineWidth list)) (rowsText (drop lineWidth list) n) (rowText (take lineWidth (drop (lineWidth * suc n) list))))
-
-pub at-most : {m n : ℕ} → m ≡ n → m ≤ n
-at-most e = omega (arith, e)
 
 -- no row is printed
 pub printed-no-row : (out list : List ℕ) (at : ℕ) → at ≤ length out → Printed out at (rowsText list 0) at out

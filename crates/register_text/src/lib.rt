@@ -1,8 +1,7 @@
 // The register in print: the rows that listing lays, line by line.
-ghost use mathlib.Core.Path.{_≡_};
 ghost use Prim.Native.Nat.{_+_, _*_, _≤_, _<_};
 ghost use lib.ListN.{length};
-ghost use Rattle.tables.specs.Tables.{tablesOf, methodOf};
+ghost use Rattle.tables.specs.Tables.{tablesOf};
 ghost use Rattle.soundness.specs.Facts.{Sound};
 ghost use Rattle.printing.specs.Printed.{Printed};
 ghost use Rattle.register_text.specs.Text.{rowText, rowsText, registerText};

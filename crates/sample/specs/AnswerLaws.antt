@@ -1,15 +1,14 @@
 -- The cases of a line's step and of its answer, as the code meets them.
 use Prim.Native.Nat.{ℕ}
 use mathlib.Core.Path.{_≡_}
-use mathlib.Core.Bool.{Bool, false}
-use mathlib.Core.List.{List, [], _∷_}
+use mathlib.Core.Bool.{false}
+use mathlib.Core.List.{[], _∷_}
 use lib.Dec.{eqb}
 use lib.ListN.{getD}
 use borrow.Author.Tests.{eq-eqb, ne-eqb}
-use Rattle.schedule.specs.declared.Step.{Step}
 use Rattle.schedule.specs.declared.Step.the-variants.{Open, BeginWrite, BeginRead, Request, Reply}
 use Rattle.playing.specs.declared.Shown.{Shown}
-use Rattle.sample.specs.Answers.{stepOf, givenAt, wordNumber, isAnswer}
+use Rattle.sample.specs.Answers.{stepOf, givenAt, wordNumber, expectedWord, expectedFirst, expectedSecond, isAnswer}
 
 module _ (kind first second : ℕ) where
   pub is-open : kind ≡ 0 → Open first second 2 ≡ stepOf kind first second
@@ -45,24 +44,15 @@ module _ (i : ℕ) where
   given-later n = rw (ne-eqb i 0 n)
 
   module _ (s : Shown) {number : ℕ} (w : number ≡ wordNumber (s .word)) where
-    abbrev expected : ℕ
-    expected = getD (0 ∷ 0 ∷ 0 ∷ 0 ∷ 0 ∷ 0 ∷ 1 ∷ 2 ∷ 0 ∷ 2 ∷ 0 ∷ 1 ∷ 0 ∷ 2000 ∷ 1001 ∷ []) i 0
-
-    abbrev expectedFirst : ℕ
-    expectedFirst = getD (0 ∷ 0 ∷ 0 ∷ 0 ∷ 0 ∷ 0 ∷ 0 ∷ 0 ∷ 0 ∷ 0 ∷ 0 ∷ 0 ∷ 0 ∷ 1200 ∷ 0 ∷ []) i 0
-
-    abbrev expectedSecond : ℕ
-    expectedSecond = getD (0 ∷ 0 ∷ 0 ∷ 0 ∷ 0 ∷ 0 ∷ 0 ∷ 0 ∷ 0 ∷ 0 ∷ 0 ∷ 0 ∷ 0 ∷ 30 ∷ 0 ∷ []) i 0
-
-    pub other-word : (number ≡ expected → ⊥) → false ≡ isAnswer i s
+    pub other-word : (number ≡ expectedWord i → ⊥) → false ≡ isAnswer i s
     unfolding isAnswer
-    other-word n = rw (← w, ne-eqb number expected n)
+    other-word n = rw (← w, ne-eqb number (expectedWord i) n)
 
-    module _ (e : number ≡ expected) where
-      pub other-first : (getD (s .setpoints) 0 0 ≡ expectedFirst → ⊥) → false ≡ isAnswer i s
+    module _ (e : number ≡ expectedWord i) where
+      pub other-first : (getD (s .setpoints) 0 0 ≡ expectedFirst i → ⊥) → false ≡ isAnswer i s
       unfolding isAnswer
-      other-first n = rw (← w, eq-eqb number expected e, ne-eqb (getD (s .setpoints) 0 0) expectedFirst n)
+      other-first n = rw (← w, eq-eqb number (expectedWord i) e, ne-eqb (getD (s .setpoints) 0 0) (expectedFirst i) n)
 
-      pub by-second : getD (s .setpoints) 0 0 ≡ expectedFirst → eqb (getD (s .setpoints) 1 0) expectedSecond ≡ isAnswer i s
+      pub by-second : getD (s .setpoints) 0 0 ≡ expectedFirst i → eqb (getD (s .setpoints) 1 0) (expectedSecond i) ≡ isAnswer i s
       unfolding isAnswer
-      by-second f = rw (← w, eq-eqb number expected e, eq-eqb (getD (s .setpoints) 0 0) expectedFirst f)
+      by-second f = rw (← w, eq-eqb number (expectedWord i) e, eq-eqb (getD (s .setpoints) 0 0) (expectedFirst i) f)

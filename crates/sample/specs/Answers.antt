@@ -1,6 +1,6 @@
 -- Document 01's sample: its lines from 0, what it prints for each, and that the public steps answer so.
 use Prim.Native.Nat.{ℕ, zero, suc, _+_}
-use mathlib.Core.Bool.{Bool, true, false, cond, _&&_}
+use mathlib.Core.Bool.{Bool, true, cond, _&&_}
 use mathlib.Core.List.{List, [], _∷_}
 use lib.Dec.{eqb}
 use lib.ListN.{getD}
@@ -40,12 +40,18 @@ wordNumber (print.Write tag) = 1000 + tag
 wordNumber (print.Read tag) = 2000 + tag
 wordNumber (print.No number) = 3000 + number
 
--- `7 wait`, `8 next`, `10 next`, `12 wait`, `14 read 0 0=1200 1=30`, `15 write 1`, and *ok* for all others
+-- `7 wait`, `8 next`, `10 next`, `12 wait`, `14 read 0 0=1200 1=30`, `15 write 1`, and *ok* for all others: the word, and the setpoints of both servers
+abbrev pub expectedWord : ℕ → ℕ
+expectedWord i = getD (0 ∷ 0 ∷ 0 ∷ 0 ∷ 0 ∷ 0 ∷ 1 ∷ 2 ∷ 0 ∷ 2 ∷ 0 ∷ 1 ∷ 0 ∷ 2000 ∷ 1001 ∷ []) i 0
+
+abbrev pub expectedFirst : ℕ → ℕ
+expectedFirst i = getD (0 ∷ 0 ∷ 0 ∷ 0 ∷ 0 ∷ 0 ∷ 0 ∷ 0 ∷ 0 ∷ 0 ∷ 0 ∷ 0 ∷ 0 ∷ 1200 ∷ 0 ∷ []) i 0
+
+abbrev pub expectedSecond : ℕ → ℕ
+expectedSecond i = getD (0 ∷ 0 ∷ 0 ∷ 0 ∷ 0 ∷ 0 ∷ 0 ∷ 0 ∷ 0 ∷ 0 ∷ 0 ∷ 0 ∷ 0 ∷ 30 ∷ 0 ∷ []) i 0
+
 unfoldable pub isAnswer : ℕ → Shown → Bool
-isAnswer i s =
-    eqb (wordNumber (s .word)) (getD (0 ∷ 0 ∷ 0 ∷ 0 ∷ 0 ∷ 0 ∷ 1 ∷ 2 ∷ 0 ∷ 2 ∷ 0 ∷ 1 ∷ 0 ∷ 2000 ∷ 1001 ∷ []) i 0)
-    && eqb (getD (s .setpoints) 0 0) (getD (0 ∷ 0 ∷ 0 ∷ 0 ∷ 0 ∷ 0 ∷ 0 ∷ 0 ∷ 0 ∷ 0 ∷ 0 ∷ 0 ∷ 0 ∷ 1200 ∷ 0 ∷ []) i 0)
-    && eqb (getD (s .setpoints) 1 0) (getD (0 ∷ 0 ∷ 0 ∷ 0 ∷ 0 ∷ 0 ∷ 0 ∷ 0 ∷ 0 ∷ 0 ∷ 0 ∷ 0 ∷ 0 ∷ 30 ∷ 0 ∷ []) i 0)
+isAnswer i s = eqb (wordNumber (s .word)) (expectedWord i) && eqb (getD (s .setpoints) 0 0) (expectedFirst i) && eqb (getD (s .setpoints) 1 0) (expectedSecond i)
 
 -- line i, on these tables
 abbrev pub lineAt : ℕ → Tables → Played

@@ -1,12 +1,11 @@
 -- The whole sample, computed on the definitions of the public steps: every line is answered as document 01 prints it.
-use Prim.Native.Nat.{ℕ, zero, suc, _+_, _-_, _<_}
+use Prim.Native.Nat.{ℕ, suc, _+_, _-_, _<_}
 use mathlib.Core.Path.{_≡_, refl, sym, ap, subst, _∙_}
 use native.Mathlib.Omega.{arith}
 use native.Mathlib.Numerals.{add-one}
 use Rattle.ranges.specs.Tests.{both-left, both-right}
 use Rattle.playing.specs.declared.Shown.{Shown}
-use mathlib.Core.Bool.{Bool, true, false, _&&_}
-use mathlib.Core.List.{List, [], _∷_}
+use mathlib.Core.Bool.{true}
 use lib.ListN.{replicate}
 use Rattle.ranges.specs.All.{allBelow, anyBelow}
 use Rattle.ranges.specs.Sum.{sumBelow}

@@ -82,11 +82,6 @@ lines-next s a h =
     let n : endOf s a + 1 ≡ a + suc (length (lineOf (drop a s))) = omega arith in
     rw (n, ← drop-drop (suc (length (lineOf (drop a s)))) a s, drop-cons s a 0 h) (lines-split (getD s a 0) (drop (suc a) s))
 
--- there is none from the end of the text on
-pub lines-past : (s : List ℕ) (a : ℕ) → length s ≤ a → linesOf (drop a s) ≡ []
-unfolding linesOf
-lines-past s a h = rw (drop-of-length-le s h)
-
 -- a line that ends within a text by its byte 10 is the line of any text that begins so: what is read later does not change it
 pub line-found : (s more : List ℕ) → length (lineOf s) < length s → lineOf (s ++ more) ≡ lineOf s
 unfolding lineOf

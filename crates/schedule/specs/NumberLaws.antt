@@ -149,10 +149,6 @@ skipped zero s = refl
 skipped (suc k) [] = refl
 skipped (suc k) (b ∷ rest) = skipped k rest
 
--- no number is read yet
-pub none-read : (s : List ℕ) → numbersOf s ≡ before [] (numbersOf (drop 0 s))
-none-read s = refl
-
 one-more : (front : List ℕ) (v : ℕ) {r t : Read} → r ≡ t → before front (record { whole = r .whole; numbers = v ∷ r .numbers }) ≡ before (front ++ (v ∷ [])) t
 one-more front v e = rw (append-assoc, e)
 

@@ -6,7 +6,7 @@ use mathlib.Core.List.{List, [], _∷_}
 use native.Mathlib.Omega.{arith}
 use native.Mathlib.Numerals.{add-one}
 use lib.ListN.{length, take, drop, getD, set, length-append, length-take, length-drop}
-use lib.Seq.{length-take-le, take-suc, take-all, take-length, take-at, take-append-seam, drop-cons, append-snoc, set-at}
+use lib.Seq.{length-take-le, take-suc, take-all, take-length, take-at, drop-cons, append-snoc, set-at}
 use Rattle.ranges.specs.Tests.{either, by-test}
 use Rattle.schedule.specs.declared.Numbers.{Numbers}
 use Rattle.schedule.specs.declared.Numbers.the-variants.{Broken, All}
@@ -152,10 +152,6 @@ few-setpoints (byte ∷ rest) =
     (few-named byte (numbersOf rest .numbers) (omega (arith, numbers-few rest, leb-true (length (byte ∷ rest)) 200 e)))
     (omega arith)))
     (λ e. rw e (omega arith))
-
--- the setpoints stand in front of the place
-pub stored-front : (setpoints held : List ℕ) → take (length setpoints) (stored setpoints held) ≡ setpoints
-stored-front setpoints held = take-append-seam setpoints (drop (length setpoints) held)
 
 -- what the number reader's answer tells
 count-broken : (read : Read) → Broken ≡ countOf read → read .whole ≡ false

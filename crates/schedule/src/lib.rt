@@ -1,8 +1,7 @@
 // The schedule as text: a line of it, the numbers of a line, and the step that a line names.
 ghost use mathlib.Core.Path.{_≡_};
 ghost use Prim.Native.Nat.{_+_, _-_, _≤_, _<_};
-ghost use mathlib.Core.List.{_++_};
-ghost use lib.ListN.{length, take, drop};
+ghost use lib.ListN.{length, drop};
 ghost use Rattle.schedule.specs.Lines.{lineOf, endOf};
 ghost use Rattle.schedule.specs.Numbers.{digitOf, digitHead, numberOf, spacedOf, numbersOf, countOf};
 ghost use Rattle.schedule.specs.Steps.{unreadable, named, namedOpen, namedWrite, pairNamed, stepOf, readingOf, stored, Names};

@@ -1,6 +1,6 @@
 -- Why an answered line leaves the rest to be printed as it was.
 use Prim.Native.Nat.{ℕ, _+_, _-_, _≤_, _<_}
-use mathlib.Core.Path.{_≡_, refl, sym, ap, subst, _∙_}
+use mathlib.Core.Path.{_≡_, refl, sym, ap, _∙_}
 use mathlib.Core.Bool.{Bool, true, false, cond, true≢false}
 use mathlib.Core.List.{List, [], _∷_, _++_}
 use native.Mathlib.Omega.{arith}
@@ -16,7 +16,7 @@ use Rattle.schedule.specs.Steps.{Named, stepOf, unreadable}
 use Rattle.printing.specs.PrintedLaws.{printed-none}
 use Rattle.playing.specs.Played.{Played, played, playedLine, shownText, LinePlayed, answersFrom}
 use Rattle.streaming.specs.declared.Run.{Run}
-use Rattle.streaming.specs.Stream.{heldBy, behindLine, lacksEnd, linesLeft, restOf, passed, lineText, lineTables, linesThen, Answered}
+use Rattle.streaming.specs.Stream.{heldBy, behindLine, lacksEnd, restOf, passed, lineText, lineTables, linesThen, Answered}
 
 module _ (size held : ℕ) where
   pub lacks-short : size ≤ 200 → leb held size ≡ lacksEnd size held

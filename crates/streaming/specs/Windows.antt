@@ -1,11 +1,10 @@
 -- How the window is refilled: what was held stands at its front, and what came stands behind it.
 use Prim.Native.Nat.{ℕ, suc, _+_, _-_, _≤_, _<_}
 use mathlib.Core.Path.{_≡_, refl, sym, ap, _∙_}
-use mathlib.Core.Bool.{Bool}
 use mathlib.Core.List.{List, [], _∷_, _++_, append-nil}
 use native.Mathlib.Omega.{arith}
 use native.Mathlib.Numerals.{add-one}
-use lib.ListN.{length, take, drop, getD, set, length-drop, length-set}
+use lib.ListN.{length, take, drop, getD, set, length-drop}
 use lib.Seq.{paste, paste-suc, drop-paste, getD-drop, take-at, drop-at, take-add, take-suc-set, length-take-le}
 use Rattle.streaming.specs.declared.Run.{Run}
 use Rattle.streaming.specs.Stream.{heldBy}

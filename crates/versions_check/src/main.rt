@@ -6,6 +6,7 @@ ghost use Rattle.keys.specs.Keys.{keyOf};
 ghost use Rattle.versions.specs.Table.{trialOf};
 ghost use Rattle.versions.specs.Core.{versionOf};
 use keys::Key;
+use libc::STDOUT_FILENO;
 use versions::Trial;
 use versions::Version;
 
@@ -20,16 +21,16 @@ fn version_of(count: u8, client: u8, setpoint: u32) -> Version
 
 fn print(trial: Trial) {
     let reading = trial.reading;
-    io::print_decimal(1, trial.number as u64);
-    io::write_all(1, b" ");
-    io::print_decimal(1, trial.readable as u64);
-    io::write_all(1, b" ");
-    io::print_decimal(1, trial.place as u64);
-    io::write_all(1, b" ");
-    io::print_decimal(1, reading.number as u64);
-    io::write_all(1, b" ");
-    io::print_decimal(1, reading.setpoint as u64);
-    io::write_all(1, b"\n");
+    io::print_decimal(STDOUT_FILENO, trial.number as u64);
+    io::write_all(STDOUT_FILENO, b" ");
+    io::print_decimal(STDOUT_FILENO, trial.readable as u64);
+    io::write_all(STDOUT_FILENO, b" ");
+    io::print_decimal(STDOUT_FILENO, trial.place as u64);
+    io::write_all(STDOUT_FILENO, b" ");
+    io::print_decimal(STDOUT_FILENO, reading.number as u64);
+    io::write_all(STDOUT_FILENO, b" ");
+    io::print_decimal(STDOUT_FILENO, reading.setpoint as u64);
+    io::write_all(STDOUT_FILENO, b"\n");
 }
 
 // A table that is full of key (1, 0) at 30 takes a version of a key at 45, behind those held; then a key is looked up.

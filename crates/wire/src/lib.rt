@@ -15,7 +15,7 @@ ghost use Rattle.wire.specs.Ready.{LogReady, AllReady, EverythingReady, 
 ghost use Rattle.wire.specs.Cases.{wroteFrom};
 use frames::Message;
 use frames::Written;
-use soundness::states;
+use rules::states;
 use tables::clients;
 use tables::counts;
 use tables::links;

@@ -1,7 +1,6 @@
 -- The kind picks the definition's clause.
 use mathlib.Core.Path.{sym, ap}
 use Prim.Native.Nat.{ℕ}
-use borrow.Author.Needs.{needs}
 use Rattle.frame_exports.specs.Fields.{messageBy, message-last}
 use Rattle.frame_exports.proofs.message_by.Statement.{statement}
 use Rattle.frame_exports.proofs.message_by.Tie as tie

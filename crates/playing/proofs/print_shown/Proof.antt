@@ -1,6 +1,6 @@
 -- An answer takes at most 300 bytes.
-use Rattle.playing.specs.PlayedLaws.{at-most}
 use borrow.Author.Needs.{needs}
+use Rattle.ranges.specs.Tests.{at-most}
 use Rattle.playing.proofs.print_shown.Statement.{statement}
 use Rattle.playing.proofs.print_shown.Tie as tie
 

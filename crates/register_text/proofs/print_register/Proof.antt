@@ -1,7 +1,8 @@
 -- On sound tables there is room for every row, so that listing is not refused.
 use native.Mathlib.Omega.{arith}
+use Rattle.ranges.specs.Tests.{at-most}
 use Rattle.tables.specs.Tables.{tablesOf}
-use Rattle.register_text.specs.TextLaws.{at-most, asked-rows, print-listed, never-refused}
+use Rattle.register_text.specs.TextLaws.{asked-rows, print-listed, never-refused}
 use borrow.Author.Needs.{needs}
 use Rattle.register_text.proofs.print_register.Statement.{statement}
 use Rattle.register_text.proofs.print_register.Tie as tie

@@ -1,9 +1,5 @@
 -- The kind tells which line the row is.
-use mathlib.Core.Path.{sym, subst}
-use mathlib.Core.List.{List}
-use Prim.Native.Nat.{ℕ}
 use Rattle.register_text.specs.TextLaws.{row-write, row-read, printed-as}
-use Rattle.printing.specs.Printed.{Printed}
 use borrow.Author.Needs.{needs}
 use Rattle.register_text.proofs.print_row.Statement.{statement}
 use Rattle.register_text.proofs.print_row.Tie as tie

@@ -1,6 +1,5 @@
 -- The opening's setpoints, or the WRITE's.
 use Rattle.sample.specs.AnswerLaws.{given-first, given-later}
-use borrow.Author.Needs.{needs}
 use Rattle.sample.proofs.given_at.Statement.{statement}
 use Rattle.sample.proofs.given_at.Tie as tie
 

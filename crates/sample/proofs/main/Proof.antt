@@ -1,10 +1,9 @@
 -- Each line is answered as the computed sample says, so that what is expected holds.
 use Prim.Native.Nat.{ℕ, _-_}
-use mathlib.Core.Path.{_≡_, sym, ap, _∙_}
+use mathlib.Core.Path.{_≡_, ap, _∙_}
 use mathlib.Core.Bool.{true}
 use mathlib.Core.List.{List}
 use lib.ListN.{length}
-use native.Mathlib.Omega.{arith}
 use Rattle.tables.specs.Tables.{tablesOf}
 use Rattle.schedule.specs.declared.Step.{Step}
 use Rattle.playing.specs.Played.{played}

@@ -1,6 +1,5 @@
 -- Four tests, one by one.
 use Rattle.sample.specs.AnswerLaws.{is-open, is-write, is-read, is-request, is-reply}
-use borrow.Author.Needs.{needs}
 use Rattle.sample.proofs.step_of.Statement.{statement}
 use Rattle.sample.proofs.step_of.Tie as tie
 

@@ -1,8 +1,7 @@
 -- The tables stay playable and the run goes on until nothing is left of the text.
-use Prim.Native.Nat.{ℕ}
-use mathlib.Core.Path.{_≡_, sym, refl, _∙_}
+use mathlib.Core.Path.{_≡_, sym, refl}
 use native.Mathlib.Omega.{arith}
-use lib.ListN.{length, replicate}
+use lib.ListN.{length}
 use lib.Seq.{length-take-le}
 use Rattle.tables.specs.Tables.{tablesOf}
 use Rattle.playing.specs.Playable.{Playable, unopened-playable}

@@ -1,12 +1,9 @@
 -- `wire::log_masks` meets its contract: the first places hold the masks passed.
 use borrow.Author.Needs.{needs}
-use mathlib.Core.Path.{_≡_, ap, _∙_}
 use mathlib.Core.List.{List}
-use Prim.Native.Nat.{ℕ, _-_, _≤_}
-use native.Mathlib.Omega.{arith}
-use lib.ListN.{length, set}
+use Prim.Native.Nat.{ℕ, _-_}
 use Rattle.tables.specs.Layout.{entryMask}
-use Rattle.frames.specs.Lists.{laid, laid-none, laid-more, laid-length}
+use Rattle.frames.specs.Lists.{Laying, laying-none, laying-room, laying-more, laying-length, laying-all}
 use Rattle.wire.proofs.log_masks.Statement.{statement}
 use Rattle.wire.proofs.log_masks.Tie as tie
 
@@ -14,40 +11,33 @@ abbrev words-of : List ℕ → ℕ → ℕ
 words-of log tag = entryMask log tag
 
 abbrev Inv-loop : tie.InvT-loop
-Inv-loop log entries words₀ tag₀ words tag = (tag ≤ entries) × (words ≡ laid (words-of log) tag words₀)
+Inv-loop log entries words₀ tag₀ words tag = Laying (words-of log) entries words₀ tag words
 
 abbrev μ-loop : tie.MeasureT-loop
 μ-loop log entries words₀ tag₀ words tag = entries - tag
 
 loop-holds : tie.Need-loop-holds Inv-loop μ-loop
-loop-holds c = let a = c .before .before .args in (omega arith, laid-none (words-of (a .log .now)) (a .words .now))
+loop-holds c = let s = c .before .before in laying-none (words-of (s .args .log .now)) (s .args .entries) (s .args .words .now) (s .pre .1)
 
 slice-write-words : tie.Need-slice-write-words Inv-loop μ-loop
 slice-write-words c =
     let s = c .before .before .before .before .before in
-    let l = c .before .before .loop in
-    omega (arith, ap length (l .inv .1), laid-length (words-of (s .args .log .now)) (l .tag) (s .args .words .now) (omega (arith, l .inv .0, s .pre .1)), s .pre .1, c .before .loop-test .taken)
+    laying-room (words-of (s .args .log .now)) (s .args .entries) (s .args .words .now) (s .pre .1) (c .before .before .loop .inv) (c .before .loop-test .taken)
 
 loop-again : tie.Need-loop-again Inv-loop μ-loop
 loop-again c =
     let s = c .before .before .before .before .before in
-    let l = c .before .before .loop in (
-      omega (arith, c .before .loop-test .taken),
-      ap (λ (r : List ℕ). set r (l .tag) (c .entry-mask .result)) (l .inv .1) ∙ laid-more (words-of (s .args .log .now)) (l .tag) (s .args .words .now) (omega (arith, s .pre .1, c .before .loop-test .taken)) (c .entry-mask .ensures),
-    )
+    laying-more (words-of (s .args .log .now)) (s .args .entries) (s .args .words .now) (s .pre .1) (c .before .before .loop .inv) (c .before .loop-test .taken) (c .entry-mask .ensures)
 
 same-length : tie.Need-same-length Inv-loop μ-loop
 same-length c =
     let s = c .before .before .before .before in
-    let l = c .before .loop in
-    ap length (l .inv .1) ∙ laid-length (words-of (s .args .log .now)) (l .tag) (s .args .words .now) (omega (arith, l .inv .0, s .pre .1))
+    laying-length (words-of (s .args .log .now)) (s .args .entries) (s .args .words .now) (s .pre .1) (c .before .loop .inv)
 
 returns : tie.Need-returns Inv-loop μ-loop
 returns c =
     let s = c .before .before .before .before in
-    let l = c .before .loop in
-    let e : l .tag ≡ s .args .entries = omega (arith, l .inv .0, c .loop-test .left) in
-    l .inv .1 ∙ ap (λ (n : ℕ). laid (words-of (s .args .log .now)) n (s .args .words .now)) e
+    laying-all (words-of (s .args .log .now)) (s .args .entries) (s .args .words .now) (s .pre .1) (c .before .loop .inv) (c .loop-test .left)
 
 pub log-masks-spec : {M : Type 1} → statement M
 log-masks-spec =

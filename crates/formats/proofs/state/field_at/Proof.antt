@@ -1,6 +1,5 @@
 -- Width and limits by what the field holds.
 use borrow.Author.Needs.{needs}
-use mathlib.Core.Path.{_∙_}
 use native.Mathlib.Omega.{arith}
 use Rattle.formats.specs.TableLaws.{bits-most}
 use Rattle.formats.specs.FormatLaws.{limits-width, limits-least, limits-most, field-is}

@@ -1,25 +1,23 @@
 -- The first i places hold the keys of the first i entries; a count and a client fit a byte each, so that a key fits.
 use borrow.Author.Needs.{needs}
-use mathlib.Core.Path.{_≡_, refl, ap, _∙_}
-use mathlib.Core.List.{List}
-use Prim.Native.Nat.{ℕ, _-_, _≤_, _<_}
+use mathlib.Core.Path.{refl}
+use Prim.Native.Nat.{_-_, _<_}
 use native.Mathlib.Omega.{arith}
-use lib.ListN.{length, set}
 use Rattle.formats.specs.Walk.{entriesSaid, values-length, entries-few}
-use Rattle.frames.specs.Lists.{laid, laid-none, laid-more, laid-length}
+use Rattle.frames.specs.Lists.{Laying, laying-none, laying-room, laying-more, laying-length, laying-all}
 use Rattle.frames.specs.Entries.{keyIn}
 use Rattle.frames.specs.Good.{count-byte, client-byte}
 use Rattle.frames.proofs.entries.store_keys.Statement.{statement}
 use Rattle.frames.proofs.entries.store_keys.Tie as tie
 
 abbrev Inv-loop : tie.InvT-loop
-Inv-loop values keys₀ entries i₀ keys i = (i ≤ entries) × (keys ≡ laid (keyIn values) i keys₀)
+Inv-loop values keys₀ entries i₀ keys i = Laying (keyIn values) entries keys₀ i keys
 
 abbrev μ-loop : tie.MeasureT-loop
 μ-loop values keys₀ entries i₀ keys i = entries - i
 
 loop-holds : tie.Need-loop-holds Inv-loop μ-loop
-loop-holds c = (omega arith, laid-none (keyIn (c .args .values .now)) (c .args .keys .now))
+loop-holds c = laying-none (keyIn (c .args .values .now)) (c .args .entries) (c .args .keys .now) (c .pre .1)
 
 mul-keys : tie.Need-mul-keys Inv-loop μ-loop
 mul-keys c = let s = c .before .before in omega (arith, entries-few (s .args .values .now) (s .pre .0 .right), s .pre .0 .is-said)
@@ -62,31 +60,16 @@ add-keys-3 c =
     omega (arith, count-byte (s .args .values .now) (s .pre .0 .right) (l .i) h, client-byte (s .args .values .now) (s .pre .0 .right) (l .i) h)
 
 slice-write-keys : tie.Need-slice-write-keys Inv-loop μ-loop
-slice-write-keys c =
-    let s = c .before .before .before .before in
-    let l = c .before .before .before .loop in
-    omega (arith, ap length (l .inv .1), laid-length (keyIn (s .args .values .now)) (l .i) (s .args .keys .now) (omega (arith, l .inv .0, s .pre .1)), s .pre .1)
+slice-write-keys c = let s = c .before .before .before .before in laying-room (keyIn (s .args .values .now)) (s .args .entries) (s .args .keys .now) (s .pre .1) (c .before .before .before .loop .inv) (c .before .before .loop-test .taken)
 
 loop-again : tie.Need-loop-again Inv-loop μ-loop
-loop-again c =
-    let s = c .before .before .before .before in
-    let l = c .before .before .before .loop in (
-      omega arith,
-      ap (λ (r : List ℕ). set r (l .i) (keyIn (s .args .values .now) (l .i))) (l .inv .1) ∙ laid-more (keyIn (s .args .values .now)) (l .i) (s .args .keys .now) (omega (arith, s .pre .1)) refl,
-    )
+loop-again c = let s = c .before .before .before .before in laying-more (keyIn (s .args .values .now)) (s .args .entries) (s .args .keys .now) (s .pre .1) (c .before .before .before .loop .inv) (c .before .before .loop-test .taken) refl
 
 same-length : tie.Need-same-length Inv-loop μ-loop
-same-length c =
-    let s = c .before .before in
-    let l = c .before .loop in
-    ap length (l .inv .1) ∙ laid-length (keyIn (s .args .values .now)) (l .i) (s .args .keys .now) (omega (arith, l .inv .0, s .pre .1))
+same-length c = let s = c .before .before in laying-length (keyIn (s .args .values .now)) (s .args .entries) (s .args .keys .now) (s .pre .1) (c .before .loop .inv)
 
 returns : tie.Need-returns Inv-loop μ-loop
-returns c =
-    let s = c .before .before in
-    let l = c .before .loop in
-    let e : l .i ≡ s .args .entries = omega arith in
-    l .inv .1 ∙ ap (λ (n : ℕ). laid (keyIn (s .args .values .now)) n (s .args .keys .now)) e
+returns c = let s = c .before .before in laying-all (keyIn (s .args .values .now)) (s .args .entries) (s .args .keys .now) (s .pre .1) (c .before .loop .inv) (c .loop-test .left)
 
 pub store-keys-spec : {M : Type 1} → statement M
 store-keys-spec =
