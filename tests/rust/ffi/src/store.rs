@@ -82,81 +82,47 @@ mod linked {
     use words::layout::MASK;
     use words::Tables;
 
-    // Nothing checks these declarations against crates/store_exports/src/lib.rt.
-    // Each table is a pointer and a length, in the order counts, clients, links, keys, values, log, writes, reads.
-    #[rustfmt::skip]
-    extern "C" {
-        fn store_sound(
-            counts: *const u32, counts_length: usize, clients: *const u32, clients_length: usize,
-            links: *const u32, links_length: usize, keys: *const u32, keys_length: usize,
-            values: *const u32, values_length: usize, log: *const u32, log_length: usize,
-            writes: *const u32, writes_length: usize, reads: *const u32, reads_length: usize,
-        ) -> bool;
-        fn store_open(
-            counts: *mut u32, counts_length: usize, clients: *mut u32, clients_length: usize,
-            links: *mut u32, links_length: usize, keys: *mut u32, keys_length: usize,
-            values: *mut u32, values_length: usize, log: *mut u32, log_length: usize,
-            writes: *const u32, writes_length: usize, reads: *const u32, reads_length: usize,
-            method: u32, servers: u32, panels: u32, setpoints: *const u32, setpoints_length: usize,
-        ) -> u32;
-        fn store_begin_write(
-            counts: *mut u32, counts_length: usize, clients: *mut u32, clients_length: usize,
-            links: *mut u32, links_length: usize, keys: *const u32, keys_length: usize,
-            values: *const u32, values_length: usize, log: *const u32, log_length: usize,
-            writes: *mut u32, writes_length: usize, reads: *const u32, reads_length: usize,
-            client: u32, mask: u32, setpoints: *const u32, setpoints_length: usize,
-        ) -> u32;
-        fn store_begin_read(
-            counts: *mut u32, counts_length: usize, clients: *mut u32, clients_length: usize,
-            links: *mut u32, links_length: usize, keys: *const u32, keys_length: usize,
-            values: *const u32, values_length: usize, log: *const u32, log_length: usize,
-            writes: *const u32, writes_length: usize, reads: *mut u32, reads_length: usize,
-            client: u32, mask: u32,
-        ) -> u32;
-        fn store_deliver_request(
-            counts: *mut u32, counts_length: usize, clients: *const u32, clients_length: usize,
-            links: *mut u32, links_length: usize, keys: *mut u32, keys_length: usize,
-            values: *mut u32, values_length: usize, log: *mut u32, log_length: usize,
-            writes: *mut u32, writes_length: usize, reads: *const u32, reads_length: usize,
-            client: u32, target: u32,
-        ) -> u32;
-        fn store_deliver_reply(
-            counts: *mut u32, counts_length: usize, clients: *mut u32, clients_length: usize,
-            links: *mut u32, links_length: usize, keys: *const u32, keys_length: usize,
-            values: *const u32, values_length: usize, log: *const u32, log_length: usize,
-            writes: *mut u32, writes_length: usize, reads: *mut u32, reads_length: usize,
-            client: u32, target: u32,
-        ) -> Crossing;
-        // The same on tables known to be sound: on others anything may happen.
-        fn store_begin_write_sound(
-            counts: *mut u32, counts_length: usize, clients: *mut u32, clients_length: usize,
-            links: *mut u32, links_length: usize, keys: *const u32, keys_length: usize,
-            values: *const u32, values_length: usize, log: *const u32, log_length: usize,
-            writes: *mut u32, writes_length: usize, reads: *const u32, reads_length: usize,
-            client: u32, mask: u32, setpoints: *const u32, setpoints_length: usize,
-        ) -> u32;
-        fn store_begin_read_sound(
-            counts: *mut u32, counts_length: usize, clients: *mut u32, clients_length: usize,
-            links: *mut u32, links_length: usize, keys: *const u32, keys_length: usize,
-            values: *const u32, values_length: usize, log: *const u32, log_length: usize,
-            writes: *const u32, writes_length: usize, reads: *mut u32, reads_length: usize,
-            client: u32, mask: u32,
-        ) -> u32;
-        fn store_deliver_request_sound(
-            counts: *mut u32, counts_length: usize, clients: *const u32, clients_length: usize,
-            links: *mut u32, links_length: usize, keys: *mut u32, keys_length: usize,
-            values: *mut u32, values_length: usize, log: *mut u32, log_length: usize,
-            writes: *mut u32, writes_length: usize, reads: *const u32, reads_length: usize,
-            client: u32, target: u32,
-        ) -> u32;
-        fn store_deliver_reply_sound(
-            counts: *mut u32, counts_length: usize, clients: *mut u32, clients_length: usize,
-            links: *mut u32, links_length: usize, keys: *const u32, keys_length: usize,
-            values: *const u32, values_length: usize, log: *const u32, log_length: usize,
-            writes: *mut u32, writes_length: usize, reads: *mut u32, reads_length: usize,
-            client: u32, target: u32,
-        ) -> Crossing;
+    /// Rust functions by the names of exported ones that are lent the eight tables alike, each as `ptr` or `mut`.
+    /// A table crosses as a pointer and a length. Nothing checks these declarations against crates/store_exports/src/lib.rt.
+    macro_rules! exported {
+        (@pointer mut) => { *mut u32 };
+        (@pointer ptr) => { *const u32 };
+        (@lend mut $table:expr) => { $table.as_mut_ptr() };
+        (@lend ptr $table:expr) => { $table.as_ptr() };
+        (@one $name:ident $lender:ty, [$($table:ident $lent:ident),*] ($($more:ident: $type:ty),*) -> $answer:ty) => {
+            #[inline]
+            unsafe fn $name(t: $lender $(, $more: $type)*) -> $answer {
+                // Within this block the name is the exported function's.
+                extern "C" {
+                    fn $name($($table: exported!(@pointer $lent), _: usize,)* $($more: $type),*) -> $answer;
+                }
+                $name($(exported!(@lend $lent t.$table), t.$table.len(),)* $($more),*)
+            }
+        };
+        ($($name:ident),+: $lender:ty, $tables:tt $more:tt -> $answer:ty) => {
+            $(exported!(@one $name $lender, $tables $more -> $answer);)+
+        };
     }
+
+    exported!(store_sound: &Tables,
+        [counts ptr, clients ptr, links ptr, keys ptr, setpoints ptr, log ptr, writes ptr, reads ptr]
+        () -> bool);
+    exported!(store_open: &mut Tables,
+        [counts mut, clients mut, links mut, keys mut, setpoints mut, log mut, writes ptr, reads ptr]
+        (method: u32, servers: u32, panels: u32, given: *const u32, given_length: usize) -> u32);
+    // Those that end in `_sound` are for tables known to be sound: on others anything may happen.
+    exported!(store_begin_write, store_begin_write_sound: &mut Tables,
+        [counts mut, clients mut, links mut, keys ptr, setpoints ptr, log ptr, writes mut, reads ptr]
+        (client: u32, mask: u32, given: *const u32, given_length: usize) -> u32);
+    exported!(store_begin_read, store_begin_read_sound: &mut Tables,
+        [counts mut, clients mut, links mut, keys ptr, setpoints ptr, log ptr, writes ptr, reads mut]
+        (client: u32, mask: u32) -> u32);
+    exported!(store_deliver_request, store_deliver_request_sound: &mut Tables,
+        [counts mut, clients ptr, links mut, keys mut, setpoints mut, log mut, writes mut, reads ptr]
+        (client: u32, target: u32) -> u32);
+    exported!(store_deliver_reply, store_deliver_reply_sound: &mut Tables,
+        [counts mut, clients mut, links mut, keys ptr, setpoints ptr, log ptr, writes mut, reads mut]
+        (client: u32, target: u32) -> Crossing);
 
     /// A delivered reply's answer, and the setpoints that a READ shows; 0 where it shows none.
     #[repr(C)]
@@ -165,49 +131,27 @@ mod linked {
         pub setpoints: [u32; 16],
     }
 
-    /// Calls a function with the eight tables, each as `ptr` or `mut`, and further arguments.
-    macro_rules! with_tables {
-        ($function:ident, $t:ident, [$($table:ident $lent:ident),*], $($more:expr),*) => {
-            // The library was proved to stay within the slices that it is lent.
-            unsafe { $function($(with_tables!(@$lent $t.$table), $t.$table.len(),)* $($more),*) }
-        };
-        (@mut $t:ident.$table:ident) => { $t.$table.as_mut_ptr() };
-        (@ptr $t:ident.$table:ident) => { $t.$table.as_ptr() };
-    }
-
     pub fn sound(t: &Tables) -> bool {
-        with_tables!(store_sound, t, [counts ptr, clients ptr, links ptr, keys ptr, setpoints ptr, log ptr, writes ptr, reads ptr],)
+        // The library was proved to stay within the slices that it is lent.
+        unsafe { store_sound(t) }
     }
 
     /// Takes a step by four functions. An opening has one function only: it asks of no old contents.
     macro_rules! taken_by {
         ($t:ident, $step:ident, $begin_write:ident, $begin_read:ident, $deliver_request:ident, $deliver_reply:ident) => {
-            match $step {
-                Step::Open { method, servers, clients, setpoints } => plain(with_tables!(
-                    store_open, $t,
-                    [counts mut, clients mut, links mut, keys mut, setpoints mut, log mut, writes ptr, reads ptr],
-                    *method, *servers, *clients, setpoints.as_ptr(), setpoints.len()
-                )),
-                Step::BeginWrite { client, mask, setpoints } => plain(with_tables!(
-                    $begin_write, $t,
-                    [counts mut, clients mut, links mut, keys ptr, setpoints ptr, log ptr, writes mut, reads ptr],
-                    *client, *mask, setpoints.as_ptr(), setpoints.len()
-                )),
-                Step::BeginRead { client, mask } => plain(with_tables!(
-                    $begin_read, $t,
-                    [counts mut, clients mut, links mut, keys ptr, setpoints ptr, log ptr, writes ptr, reads mut],
-                    *client, *mask
-                )),
-                Step::DeliverRequest { client, target } => plain(with_tables!(
-                    $deliver_request, $t,
-                    [counts mut, clients ptr, links mut, keys mut, setpoints mut, log mut, writes mut, reads ptr],
-                    *client, *target
-                )),
-                Step::DeliverReply { client, target } => with_tables!(
-                    $deliver_reply, $t,
-                    [counts mut, clients mut, links mut, keys ptr, setpoints ptr, log ptr, writes mut, reads mut],
-                    *client, *target
-                ),
+            // The library was proved to stay within the slices that it is lent.
+            unsafe {
+                match $step {
+                    Step::Open { method, servers, clients, setpoints } => {
+                        plain(store_open($t, *method, *servers, *clients, setpoints.as_ptr(), setpoints.len()))
+                    }
+                    Step::BeginWrite { client, mask, setpoints } => {
+                        plain($begin_write($t, *client, *mask, setpoints.as_ptr(), setpoints.len()))
+                    }
+                    Step::BeginRead { client, mask } => plain($begin_read($t, *client, *mask)),
+                    Step::DeliverRequest { client, target } => plain($deliver_request($t, *client, *target)),
+                    Step::DeliverReply { client, target } => $deliver_reply($t, *client, *target),
+                }
             }
         };
     }
