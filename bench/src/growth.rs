@@ -142,7 +142,7 @@ fn read_last(mut plan: Plan, servers: usize) -> Plan {
 }
 
 /// A READ under C whose last server answers as soon as the log has `early` entries, and all others when it has all of them.
-/// So the newest tag that qualifies is `early` less 1, and all 15 servers asked before the last one have what the newest asks for.
+/// So the newest tag that qualifies is `early` less 1, and the 15 servers of lower number have what the newest asks for.
 fn gap(entries: usize, early: usize, mask: u32) -> Plan {
     let mut plan = Plan::opened(3, 16, 2);
     plan.begin_read(0, plan.all());

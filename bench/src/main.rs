@@ -21,6 +21,8 @@ fn main() {
     let store = StoreLibrary::linked().expect("libstore_exports.a is linked: run bench/run");
     let frame = FrameLibrary::linked().expect("libframe_exports.a is linked: run bench/run");
     let clock = Clock::calibrated();
+    const PARTS: [&str; 5] = ["steps", "growth", "check", "frames", "program"];
+    assert!(parts.iter().all(|part| PARTS.contains(&part.as_str())), "the parts are {PARTS:?}");
     let wanted = |part: &str| parts.is_empty() || parts.iter().any(|word| word == part);
     if wanted("steps") {
         steps::report(&clock, store);

@@ -1,5 +1,6 @@
-//! Frames through the proved reader and writer: messages of every kind, good and not writable; their frames whole,
-//! cut at every byte and with every bit turned; random bytes; slices with places enough or too few.
+//! Frames through the proved reader and writer: messages of every kind, good and not writable; their frames whole, cut
+//! short and with single bits turned, at every place of short frames and of the longest, at some places of others;
+//! random bytes; slices with places enough or too few.
 
 use crate::arguments::Arguments;
 use crate::Report;
@@ -10,9 +11,9 @@ use model::Refusal;
 use schedules::Random;
 use std::collections::BTreeMap;
 
-/// Frames of more bytes than these have a sample of their cuts and bits tried.
-const SHORT: usize = 64;
-/// Cuts or bits that are tried of a long frame.
+/// Up to so many cuts or bits of a frame are all tried; of more, a sample.
+const ALL: usize = 512;
+/// Cuts or bits that are tried of a frame with more.
 const SAMPLE: usize = 24;
 /// Words that the lent slices hold before a call, so that a word written too far shows.
 const UNTOUCHED: u32 = 0xA5A5_5A5A;
@@ -43,7 +44,7 @@ impl Comparison {
         for (kind, entries) in [(6, 16), (10, 256), (12, 256)] {
             let fixed = Fixed { kind, client: 9, entries, ..Fixed::default() };
             let keys: Vec<u32> = (0..entries).map(|_| random_key(&mut self.random)).collect();
-            let numbers: Vec<u32> = (0..entries).map(|_| self.random.within(1, 65535) as u32).collect();
+            let numbers = random_numbers(&mut self.random, kind, entries);
             let frame = self.write(&fixed, &keys, &numbers)?.ok_or("the longest frames are writable")?;
             for length in 0..=frame.len() {
                 self.read(&frame[..length], 256, 256)?;
@@ -95,7 +96,7 @@ impl Comparison {
 
     /// All numbers below `end`, or where these are many the first ones, the last and some between.
     fn some_of(&mut self, end: usize) -> Vec<usize> {
-        if end <= 8 * SHORT {
+        if end <= ALL {
             return (0..end).collect();
         }
         let between = (0..SAMPLE).map(|_| self.random.below(end));
@@ -208,11 +209,17 @@ fn random_message(random: &mut Random) -> (Fixed, Vec<u32>, Vec<u32>) {
     }
     let entries = fixed.entries as usize;
     let mut keys: Vec<u32> = (0..entries).map(|_| random_key(random)).collect();
-    let mut numbers: Vec<u32> = (0..entries).map(|_| random_mask(random)).collect();
+    let mut numbers = random_numbers(random, kind, fixed.entries);
     if random.chance(1, 4) {
         spoil(random, &mut fixed, &mut keys, &mut numbers);
     }
     (fixed, keys, numbers)
+}
+
+/// The numbers of a kind's entries: setpoints of any size, or masks.
+fn random_numbers(random: &mut Random, kind: u32, entries: u32) -> Vec<u32> {
+    let number: fn(&mut Random) -> u32 = if kind == 10 { Random::word } else { random_mask };
+    (0..entries).map(|_| number(random)).collect()
 }
 
 fn random_key(random: &mut Random) -> u32 {
@@ -226,11 +233,18 @@ fn random_key(random: &mut Random) -> u32 {
 fn spoil(random: &mut Random, fixed: &mut Fixed, keys: &mut Vec<u32>, numbers: &mut Vec<u32>) {
     match random.below(10) {
         0 => fixed.client = random.pick(&[15, 16, 17, 255]),
-        1 if to_server(fixed.kind) => fixed.server = random.pick(&[15, 16, 17, 31, 32, 255]),
+        1 => fixed.server = random.pick(&[15, 16, 17, 31, 32, 255]),
         2 if matches!(fixed.kind, 1 | 3 | 7) => fixed.key = random.pick(&[(0, 0), (0, 1), (1, 16), (255, 255), (1, 0)]),
         3 if fixed.kind == 3 => fixed.number = random.pick(&[0, 65535, 65536, u32::MAX]),
         4 if fixed.kind == 4 => fixed.tag = 0,
-        5 if fixed.entries > 0 => fixed.entries = random.pick(&[0, 16, 17, 255, 256, 257, u32::MAX]),
+        5 if fixed.entries > 0 => {
+            fixed.entries = random.pick(&[0, 16, 17, 255, 256, 257, u32::MAX]);
+            if random.chance(1, 2) {
+                // Places enough, so that the number of entries alone decides.
+                keys.resize(300, 256);
+                numbers.resize(300, 1);
+            }
+        }
         6 => {
             keys.pop();
         }
@@ -240,9 +254,9 @@ fn spoil(random: &mut Random, fixed: &mut Fixed, keys: &mut Vec<u32>, numbers: &
         8 => fixed.kind = random.pick(&[0, 13, 14, 16, 255, 256 + 1, u32::MAX]),
         _ if !keys.is_empty() => {
             let place = random.below(keys.len());
-            keys[place] = random.pick(&[1, 15, 16, 255, 256 + 16, 65535, 65536, 65536 + 256, u32::MAX]);
-            if let Some(number) = numbers.get_mut(place) {
-                *number = random.pick(&[0, 1, 65535, 65536, u32::MAX]);
+            match numbers.get_mut(place) {
+                Some(number) if random.chance(1, 2) => *number = random.pick(&[0, 1, 65535, 65536, u32::MAX]),
+                _ => keys[place] = random.pick(&[1, 15, 16, 255, 256 + 16, 65535, 65536, 65536 + 256, u32::MAX]),
             }
         }
         _ => {}

@@ -9,6 +9,10 @@ use schedules::{Generator, Random};
 use std::collections::BTreeMap;
 use words::Tables;
 
+/// Each of these is to occur in a run of 100,000 tables or more.
+const DUE: [&str; 14] =
+    ["ok", "wait", "next", "write", "read", "no 1", "no 2", "no 3", "no 4", "no 5", "no 6", "no 7", "no 8", "no 9"];
+
 /// What was compared so far.
 #[derive(Default)]
 struct Counts {
@@ -26,6 +30,9 @@ pub fn compare(arguments: &Arguments) -> Report {
         let seed = arguments.seed.wrapping_mul(1 << 32).wrapping_add(section);
         one_store(library, seed, &mut counts).map_err(|difference| format!("store {seed}: {difference}"))?;
         section += 1;
+    }
+    if let Some(missing) = DUE.iter().find(|&&answer| arguments.cases >= 100_000 && !counts.answers.contains_key(answer)) {
+        return Err(format!("no table was answered '{missing}'"));
     }
     let answers: Vec<String> = counts.answers.iter().map(|(answer, times)| format!("{times} {answer}")).collect();
     Ok(format!("{} tables, {} of them sound, {section} stores; answers: {}", counts.tables, counts.sound, answers.join(", ")))
@@ -48,7 +55,11 @@ fn one_store(library: StoreLibrary, seed: u64, counts: &mut Counts) -> Result<()
         for _ in 0..3 {
             let mut odd = tables.clone();
             damage(&mut odd, &mut random);
-            let step = if random.chance(3, 4) { generator.likely_step() } else { generator.wrong_step() };
+            let step = match random.below(8) {
+                0 | 1 => generator.wrong_step(),
+                2 => generator.opening(),
+                _ => generator.likely_step(),
+            };
             compare_step(library, &mut odd, &step, counts)?;
         }
     }
@@ -80,16 +91,16 @@ fn compare_step(library: StoreLibrary, tables: &mut Tables, step: &Step, counts:
     let mut proved = tables.clone();
     let expected = words::take(tables, step);
     let found = library.take(&mut proved, step);
-    same(&before, step, (&expected, tables), (&found, &mut proved))?;
+    same(&before, step, (&expected, tables), (&found, &proved))?;
     let mut proved = before.clone();
     let found = library.take_sound(&mut proved, step);
-    same(&before, step, (&expected, tables), (&found, &mut proved))?;
+    same(&before, step, (&expected, tables), (&found, &proved))?;
     count(counts, sound, &expected);
     Ok(())
 }
 
 /// The model's answer and words are the library's.
-fn same(before: &Tables, step: &Step, model: (&Outcome, &mut Tables), library: (&Outcome, &mut Tables)) -> Result<(), String> {
+fn same(before: &Tables, step: &Step, model: (&Outcome, &Tables), library: (&Outcome, &Tables)) -> Result<(), String> {
     let (expected, tables) = model;
     let (found, proved) = library;
     if found != expected {
@@ -117,9 +128,9 @@ fn count(counts: &mut Counts, sound: bool, outcome: &Outcome) {
 }
 
 /// The first word that differs.
-fn differing(proved: &mut Tables, tables: &mut Tables) -> String {
+fn differing(proved: &Tables, tables: &Tables) -> String {
     const NAMES: [&str; 8] = ["counts", "clients", "links", "keys", "setpoints", "log", "writes", "reads"];
-    for (which, (one, other)) in proved.all_mut().into_iter().zip(tables.all_mut()).enumerate() {
+    for (which, (one, other)) in proved.all().into_iter().zip(tables.all()).enumerate() {
         if let Some(place) = (0..one.len()).find(|&place| one[place] != other[place]) {
             return format!("{}[{place}] is {}, the model's {}", NAMES[which], one[place], other[place]);
         }

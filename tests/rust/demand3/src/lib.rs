@@ -44,7 +44,7 @@ pub fn check(schedule: &[u8], output: &[u8]) -> Result<Summary, Violation> {
     if !output.is_empty() && !output.ends_with('\n') {
         return Err(violation(0, "the output's last line does not end"));
     }
-    let mut printed = output.lines();
+    let mut printed = output.split_terminator('\n');
     let mut summary = Summary::default();
     let mut run: Option<Run> = None;
     for (place, line) in text::lines(schedule).into_iter().enumerate() {

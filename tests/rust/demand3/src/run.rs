@@ -49,7 +49,9 @@ pub struct Run {
 
 impl Run {
     pub fn open(method: u32, servers: usize, clients: usize, setpoints: Vec<u32>, line: usize) -> Result<Run, Violation> {
-        if setpoints.len() != servers || servers > 16 || clients > 16 {
+        let fewest = if method == 1 { 2 } else { 1 };
+        let fits = (1..=3).contains(&method) && (1..=16).contains(&servers) && (fewest..=16).contains(&clients);
+        if !fits || setpoints.len() != servers {
             return Err(violation(line, "an opening is accepted that fits no press"));
         }
         Ok(Run {
@@ -115,7 +117,7 @@ impl Run {
     fn delivered(&mut self, client: usize, target: usize, line: usize) -> Result<usize, Violation> {
         let current = self.current.get(client).copied().flatten();
         let place = current.ok_or_else(|| violation(line, "a delivery is accepted for a panel that does nothing"))?;
-        if target > HEAD {
+        if target != HEAD && target >= self.opening.len() {
             return Err(violation(line, "a delivery is accepted for no target"));
         }
         self.transactions[place].deliveries += 1;

@@ -152,3 +152,24 @@ fn the_model_on_random_schedules() {
         assert!(found.is_ok(), "seed {seed}: {found:?}");
     }
 }
+
+#[test]
+fn a_line_that_ends_in_another_byte() {
+    assert!(check(SAMPLE.as_bytes(), PRINTED.replacen("1 ok\n", "1 ok\r\n", 1).as_bytes()).is_err());
+}
+
+#[test]
+fn an_opening_that_fits_no_press() {
+    for (opening, printed) in
+        [("O 4 1 2 5\n", "1 ok\n"), ("O 2 0 2\n", "1 ok\n"), ("O 2 1 0 5\n", "1 ok\n"), ("O 1 1 1 5\n", "1 ok\n")]
+    {
+        let report = check(opening.as_bytes(), printed.as_bytes()).expect_err("a violation");
+        assert!(report.what.contains("fits no press"), "{report}");
+    }
+}
+
+#[test]
+fn a_delivery_to_a_server_that_is_not_there() {
+    let report = check(b"O 3 1 2 5\nR 1 1\n> 1 3\n", b"1 ok\n2 ok\n3 ok\n").expect_err("a violation");
+    assert!(report.what.contains("no target"), "{report}");
+}

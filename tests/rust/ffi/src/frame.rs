@@ -76,6 +76,7 @@ mod linked {
         let Parts { head, tail } = unsafe {
             frame_read(bytes.as_ptr(), bytes.len(), keys.as_mut_ptr(), keys.len(), numbers.as_mut_ptr(), numbers.len())
         };
+        assert_eq!(answer(tail).err(), answer(head).err(), "where it is refused, both are the refusal");
         let head = answer(head)?;
         let digit = |place: u32| (head >> (8 * place)) as u8;
         Ok(Fixed {

@@ -21,7 +21,8 @@ fn has_numbers(kind: u32) -> bool {
     matches!(kind, 10 | 12)
 }
 
-/// Reads a frame: entries go to the front of the slices. Refused by 10, 11, then 12, with the slices as before.
+/// Reads a frame: entries go to the front of the slices. Refused by 10 or 11, whichever fault comes first, then by 12, with
+/// the slices as before.
 pub fn read_lent(bytes: &[u8], keys: &mut [u32], numbers: &mut [u32]) -> Result<Fixed, Refusal> {
     let message = read(bytes)?;
     let (found_keys, found_numbers) = entries_of(&message);
@@ -42,22 +43,18 @@ pub fn write_lent(fixed: &Fixed, keys: &[u32], numbers: &[u32], bytes: &mut [u8]
     Ok(frame.len())
 }
 
-fn key_word(key: Key) -> u32 {
-    256 * u32::from(key.count) + u32::from(key.client)
-}
-
 /// The entries of a message as key words and numbers.
-pub fn entries_of(message: &Message) -> (Vec<u32>, Vec<u32>) {
+fn entries_of(message: &Message) -> (Vec<u32>, Vec<u32>) {
     match message {
-        Message::Keys { keys, .. } => (keys.iter().map(|&key| key_word(key)).collect(), Vec::new()),
-        Message::All { versions, .. } => versions.iter().map(|version| (key_word(version.key), version.setpoint)).unzip(),
-        Message::Log { entries, .. } => entries.iter().map(|entry| (key_word(entry.key), entry.mask)).unzip(),
+        Message::Keys { keys, .. } => (keys.iter().map(|key| key.word()).collect(), Vec::new()),
+        Message::All { versions, .. } => versions.iter().map(|version| (version.key.word(), version.setpoint)).unzip(),
+        Message::Log { entries, .. } => entries.iter().map(|entry| (entry.key.word(), entry.mask)).unzip(),
         _ => (Vec::new(), Vec::new()),
     }
 }
 
 /// The fixed part of a message.
-pub fn fixed_of(message: &Message) -> Fixed {
+fn fixed_of(message: &Message) -> Fixed {
     let kind = message.kind();
     let server = if crate::message::to_server(kind) { message.target() as u8 } else { 0 };
     let plain = Fixed { kind, client: message.client(), server, ..Fixed::default() };
@@ -74,7 +71,7 @@ pub fn fixed_of(message: &Message) -> Fixed {
     }
 }
 
-/// The message of a fixed part and its entries; none where entries are missing, too many, or have no key.
+/// The message of a fixed part and its entries; none where the kind is none, entries are missing, or a word is no two bytes.
 fn message_of(fixed: &Fixed, keys: &[u32], numbers: &[u32]) -> Option<Message> {
     let Fixed { kind, client, server, key: (count, key_client), number, tag, .. } = *fixed;
     let key = Key { count, client: key_client };

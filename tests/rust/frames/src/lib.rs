@@ -9,3 +9,12 @@ mod writer;
 pub use message::Message;
 pub use reader::read;
 pub use writer::write;
+
+/// "frame field wrong", "message not writable": 11.
+fn check(good: bool) -> Result<(), model::Refusal> {
+    if good {
+        Ok(())
+    } else {
+        Err(model::Refusal::BadField)
+    }
+}

@@ -1,6 +1,7 @@
 //! The frame reader. "Fields are read in order; the first fault decides."
 
 use crate::bits::BitReader;
+use crate::check;
 use crate::message::{to_server, Message, HEAD, KINDS, MOST_KEYS};
 use model::{Entry, Key, Refusal, Version};
 
@@ -15,15 +16,6 @@ pub fn read(bytes: &[u8]) -> Result<Message, Refusal> {
     let message = body(&mut fields, kind, client, target as u8)?;
     fields.finish()?;
     Ok(message)
-}
-
-/// "frame field wrong": 11.
-fn check(good: bool) -> Result<(), Refusal> {
-    if good {
-        Ok(())
-    } else {
-        Err(Refusal::BadField)
-    }
 }
 
 fn body(fields: &mut BitReader, kind: u32, client: u8, server: u8) -> Result<Message, Refusal> {

@@ -1,6 +1,7 @@
 //! The frame writer.
 
 use crate::bits::BitWriter;
+use crate::check;
 use crate::message::{to_server, Message, HEAD, MOST_ENTRIES, MOST_KEYS};
 use model::{Key, Refusal};
 
@@ -13,14 +14,6 @@ pub fn write(message: &Message) -> Result<Vec<u8>, Refusal> {
     fields.field(message.target(), 5)?;
     body(&mut fields, message)?;
     Ok(fields.into_bytes())
-}
-
-fn check(good: bool) -> Result<(), Refusal> {
-    if good {
-        Ok(())
-    } else {
-        Err(Refusal::BadField)
-    }
 }
 
 fn body(fields: &mut BitWriter, message: &Message) -> Result<(), Refusal> {

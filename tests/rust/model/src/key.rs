@@ -10,6 +10,11 @@ pub struct Key {
 impl Key {
     /// "the opening's own key is (0, 0), the only key of count 0"
     pub const OPENING: Key = Key { count: 0, client: 0 };
+
+    /// As one number: "256 times its count plus its client", as the tables and the entries of frames hold it when lent.
+    pub fn word(self) -> u32 {
+        256 * u32::from(self.count) + u32::from(self.client)
+    }
 }
 
 /// One record of a station's versions.
@@ -28,7 +33,7 @@ pub struct Entry {
 
 /// "bit i (worth 2^i) is station i"
 pub fn has_server(mask: u32, server: usize) -> bool {
-    server < 32 && mask >> server & 1 == 1
+    mask >> server & 1 == 1
 }
 
 /// The servers of a mask, rising.

@@ -1,5 +1,5 @@
 //! Document 01 in plain Rust: the store, its five steps, the history and the program that plays a schedule.
-//! It is written from the paper alone and shares neither code nor tables with the proved crates.
+//! It is written from the paper and the readings in docs/DECISIONS.md, and shares no code with the proved crates.
 //!
 //! A press is a `Store` here, a station a server, a panel a client, the head the coordinator, the register the history.
 

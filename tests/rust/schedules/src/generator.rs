@@ -18,7 +18,7 @@ enum Aim {
 
 /// A schedule in the making, with the store as the lines so far left it.
 pub struct Generator {
-    pub random: Random,
+    random: Random,
     pub player: Player,
     text: Vec<u8>,
     aim: Aim,
@@ -65,7 +65,7 @@ impl Generator {
     }
 
     /// An opening and the lines behind it.
-    pub fn section(&mut self) {
+    fn section(&mut self) {
         self.aim = match self.random.below(24) {
             0 => Aim::AllWrites,
             1 => Aim::AllReads,
@@ -137,9 +137,7 @@ impl Generator {
 
     /// A step that the store most likely accepts.
     pub fn likely_step(&mut self) -> Step {
-        let Some(store) = &self.player.store else {
-            return Step::BeginRead { client: 0, mask: 1 };
-        };
+        let store = self.player.store.as_ref().expect("opened");
         let waiting = waiting_links(store);
         let idle = (0..store.clients.len()).filter(|&client| store.clients[client].state == State::Idle).count();
         let begin_of_100 = if self.aim == Aim::Overlaps { 15 } else { 5 };
@@ -206,7 +204,7 @@ impl Generator {
         }
     }
 
-    /// The whole text; of every three one lacks its last byte 10, and some end in a line that is too long.
+    /// The whole text: one of ten ends in an unreadable line without byte 10, and a third of the others lack their last byte 10.
     pub fn finish(mut self) -> Vec<u8> {
         if self.random.chance(1, 10) {
             self.text.extend(wrong::unreadable(&mut self.random));

@@ -92,7 +92,7 @@ fn mask(random: &mut Random) -> u32 {
     }
 }
 
-/// An opening with one argument out of its range.
+/// An opening with an argument out of its range; now and then with two, rarely with none.
 fn bad_opening(random: &mut Random) -> Step {
     let servers = random.within(1, 16) as u32;
     let mut setpoints = vec![7; servers as usize];

@@ -9,7 +9,8 @@ fn answers(seeds: std::ops::Range<u64>, sections: usize) -> BTreeMap<String, usi
     let mut found = BTreeMap::new();
     for seed in seeds {
         let output = String::from_utf8(replay(&schedule(seed, sections))).expect("text");
-        for line in output.lines() {
+        // Lines of the register are no answers.
+        for line in output.lines().filter(|line| !line.starts_with(['W', 'R'])) {
             let mut words = line.split(' ').skip(1);
             let answer = match words.next() {
                 Some("no") => format!("no {}", words.next().expect("a number")),

@@ -88,18 +88,14 @@ impl Tables {
         ]
     }
 
+    /// The same to read.
+    pub fn all(&self) -> [&Vec<u32>; 8] {
+        [&self.counts, &self.clients, &self.links, &self.keys, &self.setpoints, &self.log, &self.writes, &self.reads]
+    }
+
     /// The words of each table, in the same order.
     pub fn lengths(&self) -> [usize; 8] {
-        [
-            self.counts.len(),
-            self.clients.len(),
-            self.links.len(),
-            self.keys.len(),
-            self.setpoints.len(),
-            self.log.len(),
-            self.writes.len(),
-            self.reads.len(),
-        ]
+        self.all().map(Vec::len)
     }
 
     pub fn count(&self, place: usize) -> usize {
@@ -132,11 +128,7 @@ pub fn link_place(client: usize, target: usize) -> usize {
     LINK_WORDS * (LINKS_OF_CLIENT * client + target)
 }
 
-/// "a key is 256 times its count plus its client"
-pub fn key_word(key: Key) -> u32 {
-    256 * u32::from(key.count) + u32::from(key.client)
-}
-
+/// "a key is 256 times its count plus its client", back.
 pub fn key_of(word: u32) -> Key {
     Key { count: (word / 256) as u8, client: (word % 256) as u8 }
 }

@@ -1,5 +1,5 @@
-//! The words that a step of the model changes. A word whose part of the store stays is not written,
-//! so what no part of the store stands for keeps what it held.
+//! The words that a step of the model changes. Versions, entries, records and links that stay are not written, so what no
+//! part of the store stands for keeps what it held.
 
 use crate::layout::*;
 use model::{Client, Link, ReadRecord, Reply, Request, Store, Version, WriteRecord, COORDINATOR};
@@ -63,13 +63,13 @@ fn write_counts(tables: &mut Tables, store: &Store) {
 }
 
 fn write_version(tables: &mut Tables, server: usize, place: usize, version: Version) {
-    tables.keys[VERSIONS_OF_SERVER * server + place] = key_word(version.key);
+    tables.keys[VERSIONS_OF_SERVER * server + place] = version.key.word();
     tables.setpoints[VERSIONS_OF_SERVER * server + place] = version.setpoint;
 }
 
 fn write_entry(tables: &mut Tables, store: &Store, tag: usize) {
     let entry = store.log[tag];
-    put(&mut tables.log, LOG_WORDS * tag, &[key_word(entry.key), entry.mask]);
+    put(&mut tables.log, LOG_WORDS * tag, &[entry.key.word(), entry.mask]);
 }
 
 fn write_words(record: &WriteRecord) -> [u32; 5] {
@@ -121,9 +121,9 @@ fn link_words(link: &Link) -> [u32; LINK_WORDS] {
 /// "what a message does not carry is written as 0"
 fn request_words(request: &Request) -> (u32, u32) {
     match *request {
-        Request::Set { key, setpoint } => (key_word(key), setpoint),
-        Request::Enter { key, mask } => (key_word(key), mask),
-        Request::Get { key } => (key_word(key), 0),
+        Request::Set { key, setpoint } => (key.word(), setpoint),
+        Request::Enter { key, mask } => (key.word(), mask),
+        Request::Get { key } => (key.word(), 0),
         Request::WhichKeys | Request::GetAll | Request::GetLog => (0, 0),
     }
 }
