@@ -1,7 +1,7 @@
 // Keys and masks by value.
 ghost use mathlib.Core.Path.{_≡_};
 ghost use Prim.Native.Nat.{_≤_, _<_};
-ghost use Rattle.keys.specs.Keys.{keyOf, sameKey, keyWord, keyAtWord};
+ghost use Rattle.keys.specs.Keys.{keyOf, opening, sameKey, keyWord, keyAtWord};
 ghost use Rattle.keys.specs.Masks.{hasServer, maskWithin};
 
 // A key names a WRITE: the count of the client's WRITEs so far, this one included, and the client.
@@ -24,6 +24,13 @@ impl Key {
             count: count,
             client: client,
         }
+    }
+
+    // The constant as a value, and its promise: a constant has none of its own.
+    pub fn opening() -> Key
+        ensures { λ r. ⌜ r ≡ opening ⌝ }
+    {
+        Key::OPENING
     }
 
     pub fn same(self, other: Key) -> bool
