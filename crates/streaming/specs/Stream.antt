@@ -4,7 +4,7 @@ use mathlib.Core.Path.{_≡_}
 use mathlib.Core.Bool.{Bool, true, false, cond, _&&_}
 use mathlib.Core.List.{List, [], _++_}
 use lib.ListN.{length, take, drop}
-use lib.Dec.{ltb, leb}
+use lib.Dec.{eqb, ltb, leb}
 use Rattle.tables.specs.Tables.{Tables}
 use Rattle.schedule.specs.Lines.{lineOf, linesOf}
 use Rattle.printing.specs.Printed.{Printed}
@@ -31,6 +31,14 @@ restOf run text t = answersFrom (run .lines + 1) (linesLeft (run .skipping) text
 -- whether a line of this size, at the front of so many bytes that are held, has neither its end there nor more than 200 bytes
 unfoldable pub lacksEnd : ℕ → ℕ → Bool
 lacksEnd size held = leb size 200 && leb held size
+
+-- whether the end of the line at the front of what is held must still be read: then the turn reads on, and answers nothing
+abbrev pub wantsMore : Run → List ℕ → Bool
+wantsMore run window = lacksEnd (length (lineOf (heldBy run window))) (run .held - run .from)
+
+-- where the answer of a line is printed, in a print of this size: behind the bytes used, or, where fewer than 300 are free there, at its front
+unfoldable pub roomFrom : ℕ → ℕ → ℕ
+roomFrom used size = cond (ltb (size - 300) used) 0 used
 
 -- the run behind a line of this size at its place: behind its byte 10, or within it where that is not held yet
 unfoldable pub passed : Run → ℕ → ℕ → ℕ → Run
@@ -70,10 +78,12 @@ pub record Going (run : Run) (window out : List ℕ) : Type 0 where
 pub record Turned (run : Run) (window out : List ℕ) (t : Tables) (r : Run) (window′ out′ : List ℕ) (t′ : Tables) : Type 0 where
   pub came : List ℕ
   pub text : List ℕ
-  -- where the text is printed: behind what was printed, or, where that was written out, at the front
-  pub at : ℕ
-  pub printed : Printed out at text (r .used) out′
+  pub printed : Printed out (cond (wantsMore run window) (run .used) (roomFrom (run .used) (length out))) text (r .used) out′
   pub later : (unread : List ℕ) → restOf run (heldBy run window ++ (came ++ unread)) t ≡ text ++ restOf r (heldBy r window′ ++ unread) t′
+  -- bytes come in only where they are wanted
+  pub comes : wantsMore run window ≡ false → came ≡ []
+  -- the run ends where they are wanted and none come; then every line is answered, since nothing is held
+  pub left : r .left ≡ cond (wantsMore run window && eqb (length came) 0) 0 (run .left - 1)
+  pub ended : wantsMore run window ≡ true → came ≡ [] → run .held ≤ run .from
   pub playable : Playable t′
   pub going : Going r window′ out′
-  pub less : r .left < run .left

@@ -16,7 +16,7 @@ use Rattle.schedule.specs.Steps.{Named, stepOf, unreadable}
 use Rattle.printing.specs.PrintedLaws.{printed-none}
 use Rattle.playing.specs.Played.{Played, played, playedLine, shownText, LinePlayed, answersFrom}
 use Rattle.streaming.specs.declared.Run.{Run}
-use Rattle.streaming.specs.Stream.{heldBy, behindLine, lacksEnd, restOf, passed, lineText, lineTables, linesThen, Answered}
+use Rattle.streaming.specs.Stream.{heldBy, behindLine, lacksEnd, roomFrom, restOf, passed, lineText, lineTables, linesThen, Answered}
 
 module _ (size held : ℕ) where
   pub lacks-short : size ≤ 200 → leb held size ≡ lacksEnd size held
@@ -36,6 +36,21 @@ module _ (size held : ℕ) where
   pub whole-there : lacksEnd size held ≡ false → size ≤ 200 → size < held
   unfolding lacksEnd
   whole-there e h = leb-false held size (rw (le-leb _ _ h) at e)
+
+-- where a print goes on, by whether 300 bytes are free behind what is used; they are free there in any case
+module _ (used size : ℕ) where
+  pub at-front : size - 300 < used → roomFrom used size ≡ 0
+  unfolding roomFrom
+  at-front h = rw (lt-ltb _ _ h)
+
+  pub behind-used : used ≤ size - 300 → roomFrom used size ≡ used
+  unfolding roomFrom
+  behind-used h = rw (le-ltb _ _ h)
+
+  pub room-free : 300 ≤ size → roomFrom used size + 300 ≤ size
+  room-free h = by-test (ltb (size - 300) used)
+      (λ e. rw (at-front (ltb-true _ _ e)) h)
+      (λ e. let f : used ≤ size - 300 = ltb-false _ _ e in rw (behind-used f) (omega (arith, f, h)))
 
 -- a line with no byte 10 behind it goes on in what comes next
 line-open : (part unread : List ℕ) → length part ≤ length (lineOf part) → lineOf (part ++ unread) ≡ part ++ lineOf unread

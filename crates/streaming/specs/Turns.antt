@@ -1,24 +1,25 @@
 -- The two kinds of a turn: bytes come in, or a line is answered.
 use Prim.Native.Nat.{ℕ, _+_, _-_, _≤_, _<_}
 use mathlib.Core.Path.{_≡_, refl, sym, ap, subst, _∙_}
-use mathlib.Core.Bool.{Bool, cond}
+use mathlib.Core.Bool.{Bool, true, false, cond, _&&_}
 use mathlib.Core.List.{List, [], _++_, append-assoc}
 use native.Mathlib.Omega.{arith}
 use lib.ListN.{length, take, length-drop}
 use lib.Seq.{length-take-le}
-use lib.Dec.{ltb}
+use lib.Dec.{eqb, ltb}
 use borrow.Author.Tests.{ltb-true, ltb-false}
-use Rattle.ranges.specs.Tests.{by-test, either}
+use Rattle.ranges.specs.Tests.{by-test, either, not-both}
 use Rattle.tables.specs.Tables.{Tables}
 use Rattle.schedule.specs.Lines.{lineOf}
 use Rattle.schedule.specs.LineLaws.{line-short}
 use Rattle.schedule.specs.Steps.{stepOf}
+use Rattle.printing.specs.Printed.{Printed}
 use Rattle.printing.specs.PrintedLaws.{printed-none}
 use Rattle.playing.specs.Played.{playedLine, answersFrom}
 use Rattle.playing.specs.Playable.{Playable, step-playable}
 use Rattle.streaming.specs.declared.Run.{Run}
-use Rattle.streaming.specs.Stream.{heldBy, linesLeft, restOf, passed, lineText, lineTables, linesThen, Answered, Going, Turned}
-use Rattle.streaming.specs.StreamLaws.{passed-found, passed-open, answered-later}
+use Rattle.streaming.specs.Stream.{heldBy, linesLeft, restOf, lacksEnd, wantsMore, roomFrom, passed, lineText, lineTables, linesThen, Answered, Going, Turned}
+use Rattle.streaming.specs.StreamLaws.{whole-there, room-free, passed-found, passed-open, answered-later}
 use Rattle.streaming.specs.Windows.{ReadOn, roomy}
 
 -- what a run that is passed has
@@ -48,17 +49,36 @@ module _ (run : Run) (window out : List ℕ) (t : Tables) (going : Going run win
         length-take-le (run .held) window (omega (arith, going .held, going .windowSize)),
       )
 
-  pub turned-read : (r : Run) (window′ : List ℕ) → ReadOn run window r window′ → length window′ ≡ length window → Turned run window out t r window′ out t
-  turned-read r window′ k l =
+  -- whether more is wanted, told of the line at the front of what is held
+  pub wants : (line : List ℕ) → line ≡ lineOf (heldBy run window) → {b : Bool} → lacksEnd (length line) (run .held - run .from) ≡ b → wantsMore run window ≡ b
+  wants line is-line e = ap (λ (x : List ℕ). lacksEnd (length x) (run .held - run .from)) (sym is-line) ∙ e
+
+  -- where the print goes on in a turn that reads on, or not
+  abbrev place : Bool → ℕ
+  place wanting = cond wanting (run .used) (roomFrom (run .used) (length out))
+
+  -- how many turns are left behind this one
+  abbrev leftBy : Bool → List ℕ → ℕ
+  leftBy wanting came = cond (wanting && eqb (length came) 0) 0 (run .left - 1)
+
+  read-less : (r : Run) (window′ : List ℕ) → ReadOn run window r window′ → r .left < run .left
+  read-less r window′ k = subst (λ (n : ℕ). n < run .left) (sym (k .left)) (either (λ (n : ℕ). n < run .left) (eqb (length (k .came)) 0) some-left (omega (arith, some-left)))
+
+  pub turned-read : (line : List ℕ) → line ≡ lineOf (heldBy run window) → lacksEnd (length line) (run .held - run .from) ≡ true → (r : Run) (window′ : List ℕ) → ReadOn run window r window′ → length window′ ≡ length window → Turned run window out t r window′ out t
+  turned-read line is-line lacks r window′ k l =
+      let wanting : wantsMore run window ≡ true = wants line is-line lacks in
       record {
         came = k .came;
         text = [];
-        at = r .used;
-        printed = printed-none out (r .used) (omega (arith, k .used, going .used, going .outSize));
+        printed = subst (λ (b : Bool). Printed out (place b) [] (r .used) out) (sym wanting)
+            (subst (λ (n : ℕ). Printed out (run .used) [] n out) (sym (k .used)) (printed-none out (run .used) (omega (arith, going .used, going .outSize))));
         later = λ unread.
             ap (λ (x : List ℕ). restOf run x t) (sym (append-assoc (heldBy run window) (k .came) unread) ∙ ap (λ (x : List ℕ). x ++ unread) (sym (k .held)))
             ∙ (ap (λ (n : ℕ). answersFrom (n + 1) (linesLeft (run .skipping) (heldBy r window′ ++ unread)) t) (sym (k .lines))
             ∙ ap (λ (b : Bool). answersFrom (r .lines + 1) (linesLeft b (heldBy r window′ ++ unread)) t) (sym (k .skipping)));
+        comes = λ e. absurd (not-both wanting e);
+        left = subst (λ (b : Bool). r .left ≡ leftBy b (k .came)) (sym wanting) (k .left);
+        ended = λ e none. k .ended none;
         playable = playable;
         going = record {
           windowSize = l ∙ going .windowSize;
@@ -66,12 +86,18 @@ module _ (run : Run) (window out : List ℕ) (t : Tables) (going : Going run win
           from = omega (arith, k .from);
           held = omega (arith, k .within, going .windowSize);
           used = omega (arith, k .used, going .used);
-          lines = omega (arith, k .lines, k .less, going .lines);
+          lines = omega (arith, k .lines, read-less r window′ k, going .lines);
         };
-        less = k .less;
       }
 
-  module _ (used : ℕ) (room : used + 300 ≤ length out) (line : List ℕ) (is-line : line ≡ lineOf (heldBy run window)) where
+  -- A turn that answers a line does it where room was made.
+  abbrev used : ℕ
+  used = roomFrom (run .used) (length out)
+
+  room : used + 300 ≤ length out
+  room = room-free (run .used) (length out) (omega (arith, going .outSize))
+
+  module _ (line : List ℕ) (is-line : line ≡ lineOf (heldBy run window)) where
     abbrev Rest : List ℕ → Run → List ℕ → Tables → Type 0
     Rest l r unread t′ = restOf run (heldBy run window ++ unread) t ≡ lineText (roomy run used) l t ++ restOf r (heldBy r window ++ unread) t′
 
@@ -93,9 +119,10 @@ module _ (run : Run) (window out : List ℕ) (t : Tables) (going : Going run win
     lines-more : linesThen (roomy run used) ≤ run .lines + 1
     lines-more = either (λ (n : ℕ). n ≤ run .lines + 1) (run .skipping) (omega arith) (omega arith)
 
-    pub turned-answer : (length line ≤ 200 → length line < run .held - run .from) → (r : Run) (out′ : List ℕ) (t′ : Tables) →
+    pub turned-answer : lacksEnd (length line) (run .held - run .from) ≡ false → (r : Run) (out′ : List ℕ) (t′ : Tables) →
         Answered (roomy run used) line t out r out′ t′ → length out′ ≡ length out → Turned run window out t r window out′ t′
     turned-answer whole r out′ t′ a l =
+        let enough : wantsMore run window ≡ false = wants line is-line whole in
         let held : run .held ≤ length window = omega (arith, going .held, going .windowSize) in
         let size : length (heldBy run window) ≡ run .held - run .from =
         length-drop (run .from) (take (run .held) window) ∙ ap (λ (n : ℕ). n - run .from) (length-take-le (run .held) window held) in
@@ -104,9 +131,11 @@ module _ (run : Run) (window out : List ℕ) (t : Tables) (going : Going run win
         record {
           came = [];
           text = lineText (roomy run used) line t;
-          at = used;
-          printed = a .printed;
-          later = λ unread. all-later unread r t′ held size whole (a .next) (a .tables);
+          printed = subst (λ (b : Bool). Printed out (place b) (lineText (roomy run used) line t) (r .used) out′) (sym enough) (a .printed);
+          later = λ unread. all-later unread r t′ held size (whole-there (length line) (run .held - run .from) whole) (a .next) (a .tables);
+          comes = λ e. refl;
+          left = subst (λ (b : Bool). r .left ≡ leftBy b []) (sym enough) (b .left);
+          ended = λ e none. absurd (not-both e enough);
           playable = subst Playable (sym (a .tables)) line-playable;
           going = record {
             windowSize = going .windowSize;
@@ -116,7 +145,6 @@ module _ (run : Run) (window out : List ℕ) (t : Tables) (going : Going run win
             used = omega (arith, a .short, room, going .outSize);
             lines = omega (arith, b .lines′, b .left, lines-more, some-left, going .lines);
           };
-          less = omega (arith, b .left, some-left);
         }
 
     -- the same of a run that has made room
@@ -136,6 +164,11 @@ module _ (run : Run) (window out : List ℕ) (t : Tables) (going : Going run win
           let l : made .left ≡ run .left = ap (λ (x : Run). x .left) is-roomy in
           (omega (arith, u, room), omega (arith, n, l, going .lines))
 
-      pub turned-made : (length line ≤ 200 → length line < run .held - run .from) → (r : Run) (out′ : List ℕ) (t′ : Tables) →
+      pub turned-made : lacksEnd (length line) (run .held - run .from) ≡ false → (r : Run) (out′ : List ℕ) (t′ : Tables) →
           Answered made line t out r out′ t′ → length out′ ≡ length out → Turned run window out t r window out′ t′
       turned-made whole r out′ t′ a l = turned-answer whole r out′ t′ (subst (λ (x : Run). Answered x line t out r out′ t′) is-roomy a) l
+
+-- each turn uses one up
+pub turned-less : {run : Run} {window out : List ℕ} {t : Tables} {r : Run} {window′ out′ : List ℕ} {t′ : Tables} →
+    Turned run window out t r window′ out′ t′ → 0 < run .left → r .left < run .left
+turned-less {run} {window} k h = subst (λ (n : ℕ). n < run .left) (sym (k .left)) (either (λ (n : ℕ). n < run .left) (wantsMore run window && eqb (length (k .came)) 0) h (omega (arith, h)))

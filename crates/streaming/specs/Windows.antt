@@ -1,11 +1,14 @@
 -- How the window is refilled: what was held stands at its front, and what came stands behind it.
 use Prim.Native.Nat.{ℕ, suc, _+_, _-_, _≤_, _<_}
 use mathlib.Core.Path.{_≡_, refl, sym, ap, _∙_}
+use mathlib.Core.Bool.{Bool, cond}
 use mathlib.Core.List.{List, [], _∷_, _++_, append-nil}
 use native.Mathlib.Omega.{arith}
 use native.Mathlib.Numerals.{add-one}
 use lib.ListN.{length, take, drop, getD, set, length-drop}
 use lib.Seq.{paste, paste-suc, drop-paste, getD-drop, take-at, drop-at, take-add, take-suc-set, length-take-le}
+use lib.Dec.{eqb}
+use borrow.Author.Tests.{eq-eqb, ne-eqb}
 use Rattle.streaming.specs.declared.Run.{Run}
 use Rattle.streaming.specs.Stream.{heldBy}
 
@@ -18,15 +21,18 @@ pub record Came (window : List ℕ) (from held now : ℕ) (left : List ℕ) : Ty
   pub within : now ≤ length window
   pub came : List ℕ
   pub front : take now left ≡ drop from (take held window) ++ came
-  pub ended : now ≡ 0 → held ≤ from
+  -- nothing is held then only where nothing was held and nothing came
+  pub none : eqb (length came) 0 ≡ eqb now 0
+  pub ended : came ≡ [] → held ≤ from
 
 -- The run reads on: what is held then is what was held and what came.
-pub record ReadOn (run : Run) (window : List ℕ) (r : Run) (left : List ℕ) : Type 0 where
+pub record ReadOn (run : Run) (window : List ℕ) (r : Run) (window′ : List ℕ) : Type 0 where
   pub came : List ℕ
-  pub held : heldBy r left ≡ heldBy run window ++ came
+  pub held : heldBy r window′ ≡ heldBy run window ++ came
   pub within : r .held ≤ length window
   pub from : r .from ≡ 0
-  pub less : r .left < run .left
+  pub left : r .left ≡ cond (eqb (length came) 0) 0 (run .left - 1)
+  pub ended : came ≡ [] → run .held ≤ run .from
   pub lines : r .lines ≡ run .lines
   pub used : r .used ≡ run .used
   pub skipping : r .skipping ≡ run .skipping
@@ -81,7 +87,7 @@ module _ (window : List ℕ) (from held : ℕ) (h : from ≤ held) (k : held ≤
     part-size = ap length (sym front) ∙ length-take-le rest left (omega (arith, r, long, k))
 
     pub came-none : rest ≡ 0 → Came window from held 0 left
-    came-none z = record { within = omega arith; came = []; front = sym (append-nil part ∙ empty part (part-size ∙ z)); ended = λ n. omega (arith, r, z) }
+    came-none z = record { within = omega arith; came = []; front = sym (append-nil part ∙ empty part (part-size ∙ z)); none = refl; ended = λ e. omega (arith, r, z) }
 
     pub came-end : rest < length window → Came window from held (rest + 1) (set left rest 10)
     came-end l =
@@ -89,14 +95,25 @@ module _ (window : List ℕ) (from held : ℕ) (h : from ≤ held) (k : held ≤
           within = omega (arith, l);
           came = 10 ∷ [];
           front = ap (λ (n : ℕ). take n (set left rest 10)) (add-one rest) ∙ (take-suc-set left rest 10 (omega (arith, l, long)) ∙ ap (λ (x : List ℕ). x ++ (10 ∷ [])) front);
-          ended = λ n. let z : ⊥ = omega (arith, n) in absurd z;
+          none = sym (ne-eqb (rest + 1) 0 (λ e. let z : ⊥ = omega (arith, e) in z));
+          ended = λ e. let z : ⊥ = omega (arith, ap length e) in absurd z;
         }
 
     pub came-more : rest + came ≤ length window → 0 < came → Came window from held (rest + came) left
     came-more l c =
+        let size : length (take came (drop rest left)) ≡ came = length-take-le came (drop rest left) (omega (arith, l, long, length-drop rest left)) in
         record {
           within = l;
           came = take came (drop rest left);
           front = take-add rest came left ∙ ap (λ (x : List ℕ). x ++ take came (drop rest left)) front;
-          ended = λ n. let z : ⊥ = omega (arith, n, c) in absurd z;
+          none = ne-eqb (length (take came (drop rest left))) 0 (λ e. let z : ⊥ = omega (arith, e, size, c) in z) ∙ sym (ne-eqb (rest + came) 0 (λ e. let z : ⊥ = omega (arith, e, c) in z));
+          ended = λ e. let z : ⊥ = omega (arith, ap length e, size, c) in absurd z;
         }
+
+-- How many turns a run has that reads on: one less where bytes are held then, none where the text has ended.
+module _ {window : List ℕ} {from held now : ℕ} {window′ : List ℕ} (k : Came window from held now window′) (left : ℕ) where
+  pub goes-on : 0 < now → left ≡ cond (eqb (length (k .came)) 0) 0 left
+  goes-on h = ap (λ (b : Bool). cond b 0 left) (sym (k .none ∙ ne-eqb now 0 (λ e. let z : ⊥ = omega (arith, e, h) in z)))
+
+  pub at-end : now ≤ 0 → 0 ≡ cond (eqb (length (k .came)) 0) 0 left
+  at-end h = ap (λ (b : Bool). cond b 0 left) (sym (k .none ∙ eq-eqb now 0 (omega (arith, h))))

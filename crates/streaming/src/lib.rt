@@ -6,7 +6,7 @@ ghost use lib.ListN.{length, take, drop};
 ghost use lib.Seq.{paste};
 ghost use Rattle.tables.specs.Tables.{tablesOf};
 ghost use Rattle.playing.specs.Playable.{Playable};
-ghost use Rattle.streaming.specs.Stream.{lacksEnd, passed, Answered, Going, Turned};
+ghost use Rattle.streaming.specs.Stream.{lacksEnd, roomFrom, passed, Answered, Going, Turned};
 ghost use Rattle.streaming.specs.Windows.{Came, ReadOn, roomy};
 ghost use Rattle.printing.specs.Printed.{Printed};
 ghost use Rattle.register_text.specs.Text.{registerPrinted};
@@ -162,7 +162,7 @@ fn read_on(run: Run, window: &mut [u8]) -> Run
 // Writes the print out where it is nearly full.
 fn make_room(run: Run, out: &[u8]) -> Run
     requires { ⌜ (run .used ≤ length (now out)) × (300 ≤ length (now out)) ⌝ }
-    ensures { λ r. ⌜ (r ≡ roomy run (r .used)) × (r .used + 300 ≤ length (now (out .entry))) ⌝ }
+    ensures { λ r. ⌜ r ≡ roomy run (roomFrom (run .used) (length (now (out .entry)))) ⌝ }
 {
     let mut used = run.used;
     if out.len() - 300 < used {

@@ -6,6 +6,7 @@ use lib.Seq.{length-take-le}
 use Rattle.tables.specs.Tables.{tablesOf}
 use Rattle.playing.specs.Playable.{Playable, unopened-playable}
 use Rattle.streaming.specs.Stream.{Going}
+use Rattle.streaming.specs.Turns.{turned-less}
 use borrow.Author.Needs.{needs}
 use Rattle.streaming.proofs.replay.Statement.{statement}
 use Rattle.streaming.proofs.replay.Tie as tie
@@ -27,7 +28,7 @@ turn-requires : tie.Need-turn-requires Inv-loop μ-loop
 turn-requires c κs = let l = c .before .before .before .before .before .before .before .before .before .before .before .before .loop .inv .0 in (l .0, (l .1, c .before .before .before .before .before .before .before .before .before .before .if1 .taken))
 
 loop-less : tie.Need-loop-less Inv-loop μ-loop
-loop-less c = c .before .before .before .before .before .before .before .before .before .before .turn .ensures .less
+loop-less c = let b = c .before .before .before .before .before .before .before .before .before .before in turned-less (b .turn .ensures) (b .before .before .before .before .before .before .before .before .before .before .before .if1 .taken)
 
 loop-again : tie.Need-loop-again Inv-loop μ-loop
 loop-again c = let e = c .before .before .before .before .before .before .before .before .before .before .turn .ensures in ((e .playable, e .going), search needs)
