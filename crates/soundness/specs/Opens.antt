@@ -1,15 +1,14 @@
 -- The records without an end, counted for all sixteen clients in one pass: what the counts are when the first n records have been passed.
 use Prim.Native.Nat.{ℕ, zero, suc, _+_, _≤_, _<_}
 use mathlib.Core.Path.{_≡_, refl, sym, _∙_}
-use mathlib.Core.Bool.{Bool, true, false, _&&_}
+use mathlib.Core.Bool.{Bool, true, false, not, _&&_}
 use mathlib.Core.List.{List}
 use native.Mathlib.Omega.{arith}
 use lib.ListN.{length, getD, set, length-set, replicate}
 use lib.Seq.{getD-set-same, getD-set-other}
 use lib.Dec.{eqb}
 use borrow.Author.Tests.{eq-eqb, ne-eqb}
-use Rattle.ranges.specs.Tests.{by-equal}
-use Rattle.ranges.specs.All.{allBelow, all-both}
+use Rattle.ranges.specs.Tests.{by-equal, fails, holds, and-stops, and-goes-on}
 use Rattle.ranges.specs.Sum.{countBelow, count-zero, count-here, count-past}
 use Rattle.tables.specs.Layout.{recordWord, clientOfRecord, endOfRecord}
 use Rattle.tables.specs.Tables.{Tables}
@@ -59,7 +58,12 @@ module _ (records : List ℕ) where
               (λ f. getD-set-other found w q (getD found w 0 + 1) 0 (λ s. f (sym s)) ∙ o .each q l ∙ sym (count-past (isOpen records q) n (other-client d q f)));
         }
 
--- the WRITE records of all clients, then their READ records
-pub records-both : (t : Tables) (n : ℕ) → allBelow (recordsSound t) n ≡ (allBelow (writeOpenSound t) n && allBelow (readOpenSound t) n)
-unfolding recordsSound
-records-both t n = all-both (writeOpenSound t) (readOpenSound t) n
+-- a client's records are sound by those of its WRITEs, then by those of its READs
+module _ (t : Tables) (q : ℕ) {r : Bool} (d : r ≡ writeOpenSound t q) where
+  pub writes-not-sound : not r ≡ true → false ≡ recordsSound t q
+  unfolding recordsSound
+  writes-not-sound e = sym (and-stops (readOpenSound t q) (fails d e))
+
+  pub by-reads : {s : Bool} → not r ≡ false → s ≡ readOpenSound t q → s ≡ recordsSound t q
+  unfolding recordsSound
+  by-reads e k = sym (and-goes-on (readOpenSound t q) (holds d e) (sym k))

@@ -7,7 +7,7 @@ ghost use Rattle.tables.specs.Rows.{HasRow};
 ghost use Rattle.tables.specs.Layout.{clientWidth, recordWidth, recordPlaces, countAt, writesField, readsField};
 ghost use Rattle.tables.specs.Tables.{Tables, withCounts, withClients, withWrites, withReads, clientsOf, writesOf, readsOf};
 ghost use Rattle.soundness.specs.Sound.{writeSound, readSound, isOpen, openSound, recordsSound};
-ghost use Rattle.soundness.specs.Parts.{writeOpenSound, readOpenSound, countsSound, historySound};
+ghost use Rattle.soundness.specs.Parts.{countsSound, historySound};
 ghost use Rattle.soundness.specs.Asked.{Counted, RecordsThere, RowsThere};
 ghost use Rattle.soundness.specs.Opens.{OpenCounts};
 use super::clients::counts_together;
@@ -151,78 +151,44 @@ fn open_sound(
     is_open(records, client, place)
 }
 
-fn write_open_sound(
+// One client's records without an end: of the WRITEs, and of the READs.
+fn records_sound(
     counts: &[u32],
     clients: &[u32],
     writes: &[u32],
-    client: usize,
-    found: u32,
-) -> bool
-    requires { ⌜ Counted (now counts) ⌝ }
-    requires { ⌜ HasRow clientWidth (now clients) client ⌝ }
-    requires { ⌜ RecordsThere (now writes) ⌝ }
-    requires { ⌜ found ≡ countBelow (isOpen (now writes) client) (countAt (now counts) writesField) ⌝ }
-    ensures { λ r. ⌜ ((t : Tables) → r ≡ writeOpenSound (withWrites (now (writes .entry)) (withClients (now (clients .entry)) (withCounts (now (counts .entry)) t))) client) ⌝ }
-{
-    let doing = states::is_writing(clients::client_word(clients, client, clients::STATE));
-    let place = clients::client_word(clients, client, clients::RECORD) as usize;
-    let begun = counts::count_at(counts, counts::WRITES) as usize;
-    open_sound(doing, writes, begun, client, place, found)
-}
-
-fn read_open_sound(
-    counts: &[u32],
-    clients: &[u32],
     reads: &[u32],
     client: usize,
-    found: u32,
+    writing: u32,
+    reading: u32,
 ) -> bool
     requires { ⌜ Counted (now counts) ⌝ }
     requires { ⌜ HasRow clientWidth (now clients) client ⌝ }
-    requires { ⌜ RecordsThere (now reads) ⌝ }
-    requires { ⌜ found ≡ countBelow (isOpen (now reads) client) (countAt (now counts) readsField) ⌝ }
-    ensures { λ r. ⌜ ((t : Tables) → r ≡ readOpenSound (withReads (now (reads .entry)) (withClients (now (clients .entry)) (withCounts (now (counts .entry)) t))) client) ⌝ }
+    requires { ⌜ RecordsThere (now writes) × RecordsThere (now reads) ⌝ }
+    requires { ⌜ (writing ≡ countBelow (isOpen (now writes) client) (countAt (now counts) writesField)) × (reading ≡ countBelow (isOpen (now reads) client) (countAt (now counts) readsField)) ⌝ }
+    ensures { λ r. ⌜ ((t : Tables) → r ≡ recordsSound (withReads (now (reads .entry)) (withWrites (now (writes .entry)) (withClients (now (clients .entry)) (withCounts (now (counts .entry)) t)))) client) ⌝ }
 {
-    let doing = states::is_reading(clients::client_word(clients, client, clients::STATE));
+    let state = clients::client_word(clients, client, clients::STATE);
     let place = clients::client_word(clients, client, clients::RECORD) as usize;
-    let begun = counts::count_at(counts, counts::READS) as usize;
-    open_sound(doing, reads, begun, client, place, found)
-}
-
-fn writes_open_sound(counts: &[u32], clients: &[u32], writes: &[u32], found: &[u32; 16]) -> bool
-    requires { ⌜ Counted (now counts) ⌝ }
-    requires { ⌜ RowsThere (now counts) (now clients) ⌝ }
-    requires { ⌜ RecordsThere (now writes) ⌝ }
-    requires { ⌜ OpenCounts (now writes) (countAt (now counts) writesField) (now found) ⌝ }
-    ensures { λ r. ⌜ ((t : Tables) → let u = withWrites (now (writes .entry)) (withClients (now (clients .entry)) (withCounts (now (counts .entry)) t)) in r ≡ allBelow (writeOpenSound u) (clientsOf u)) ⌝ }
-{
-    let rows = counts::count_at(counts, counts::CLIENTS) as usize;
-    let mut client = 0;
-    while client < rows {
-        if !write_open_sound(counts, clients, writes, client, found[client]) {
-            return false;
-        }
-        client += 1;
+    let writes_begun = counts::count_at(counts, counts::WRITES) as usize;
+    if !open_sound(
+        states::is_writing(state),
+        writes,
+        writes_begun,
+        client,
+        place,
+        writing,
+    ) {
+        return false;
     }
-    true
-}
-
-fn reads_open_sound(counts: &[u32], clients: &[u32], reads: &[u32], found: &[u32; 16]) -> bool
-    requires { ⌜ Counted (now counts) ⌝ }
-    requires { ⌜ RowsThere (now counts) (now clients) ⌝ }
-    requires { ⌜ RecordsThere (now reads) ⌝ }
-    requires { ⌜ OpenCounts (now reads) (countAt (now counts) readsField) (now found) ⌝ }
-    ensures { λ r. ⌜ ((t : Tables) → let u = withReads (now (reads .entry)) (withClients (now (clients .entry)) (withCounts (now (counts .entry)) t)) in r ≡ allBelow (readOpenSound u) (clientsOf u)) ⌝ }
-{
-    let rows = counts::count_at(counts, counts::CLIENTS) as usize;
-    let mut client = 0;
-    while client < rows {
-        if !read_open_sound(counts, clients, reads, client, found[client]) {
-            return false;
-        }
-        client += 1;
-    }
-    true
+    let reads_begun = counts::count_at(counts, counts::READS) as usize;
+    open_sound(
+        states::is_reading(state),
+        reads,
+        reads_begun,
+        client,
+        place,
+        reading,
+    )
 }
 
 fn all_records_sound(counts: &[u32], clients: &[u32], writes: &[u32], reads: &[u32]) -> bool
@@ -232,11 +198,24 @@ fn all_records_sound(counts: &[u32], clients: &[u32], writes: &[u32], reads: &[u
     ensures { λ r. ⌜ ((t : Tables) → let u = withReads (now (reads .entry)) (withWrites (now (writes .entry)) (withClients (now (clients .entry)) (withCounts (now (counts .entry)) t))) in r ≡ allBelow (recordsSound u) (clientsOf u)) ⌝ }
 {
     let writing = open_counts(writes, counts::count_at(counts, counts::WRITES) as usize);
-    if !writes_open_sound(counts, clients, writes, &writing) {
-        return false;
-    }
     let reading = open_counts(reads, counts::count_at(counts, counts::READS) as usize);
-    reads_open_sound(counts, clients, reads, &reading)
+    let rows = counts::count_at(counts, counts::CLIENTS) as usize;
+    let mut client = 0;
+    while client < rows {
+        if !records_sound(
+            counts,
+            clients,
+            writes,
+            reads,
+            client,
+            writing[client],
+            reading[client],
+        ) {
+            return false;
+        }
+        client += 1;
+    }
+    true
 }
 
 // As many WRITEs begun as all counts together.
