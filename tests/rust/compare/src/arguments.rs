@@ -22,4 +22,9 @@ impl Arguments {
         let wants_program = parsed.subject == "schedules";
         (wants_program != parsed.program.is_empty()).then_some(parsed)
     }
+
+    /// A seed of its own for each input of a run.
+    pub fn seed_of(&self, input: usize) -> u64 {
+        self.seed.wrapping_mul(1 << 32).wrapping_add(input as u64)
+    }
 }

@@ -7,8 +7,10 @@
 mod arguments;
 mod damage;
 mod frames_run;
+mod messages;
 mod schedules_run;
 mod tables_run;
+mod tally;
 
 use arguments::Arguments;
 use std::process::ExitCode;

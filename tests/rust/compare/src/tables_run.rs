@@ -2,14 +2,16 @@
 
 use crate::arguments::Arguments;
 use crate::damage::damage;
+use crate::tally::Tally;
 use crate::Report;
 use ffi::StoreLibrary;
-use model::{Answer, Outcome, Step};
+use model::answer::word;
+use model::{Outcome, Step};
 use schedules::{Generator, Random};
-use std::collections::BTreeMap;
 use words::Tables;
 
-/// Each of these is to occur in a run of 100,000 tables or more.
+/// In a run of so many tables each of the answers below is to occur.
+const MANY: usize = 100_000;
 const DUE: [&str; 14] =
     ["ok", "wait", "next", "write", "read", "no 1", "no 2", "no 3", "no 4", "no 5", "no 6", "no 7", "no 8", "no 9"];
 
@@ -18,24 +20,23 @@ const DUE: [&str; 14] =
 struct Counts {
     tables: usize,
     sound: usize,
-    answers: BTreeMap<String, usize>,
+    answers: Tally,
 }
 
 /// Checks `cases` tables, each with a step; between them an opened store goes on by its own steps.
 pub fn compare(arguments: &Arguments) -> Report {
     let library = StoreLibrary::linked().ok_or("libstore_exports.a is not linked: run tests/rust/build-store")?;
     let mut counts = Counts::default();
-    let mut section = 0;
+    let mut stores = 0;
     while counts.tables < arguments.cases {
-        let seed = arguments.seed.wrapping_mul(1 << 32).wrapping_add(section);
+        let seed = arguments.seed_of(stores);
         one_store(library, seed, &mut counts).map_err(|difference| format!("store {seed}: {difference}"))?;
-        section += 1;
+        stores += 1;
     }
-    if let Some(missing) = DUE.iter().find(|&&answer| arguments.cases >= 100_000 && !counts.answers.contains_key(answer)) {
-        return Err(format!("no table was answered '{missing}'"));
+    if arguments.cases >= MANY {
+        counts.answers.require(&DUE)?;
     }
-    let answers: Vec<String> = counts.answers.iter().map(|(answer, times)| format!("{times} {answer}")).collect();
-    Ok(format!("{} tables, {} of them sound, {section} stores; answers: {}", counts.tables, counts.sound, answers.join(", ")))
+    Ok(format!("{} tables, {} of them sound, {stores} stores; answers: {}", counts.tables, counts.sound, counts.answers))
 }
 
 /// Opens a store in tables that hold anything, and compares its steps and those on damaged copies.
@@ -95,7 +96,9 @@ fn compare_step(library: StoreLibrary, tables: &mut Tables, step: &Step, counts:
     let mut proved = before.clone();
     let found = library.take_sound(&mut proved, step);
     same(&before, step, (&expected, tables), (&found, &proved))?;
-    count(counts, sound, &expected);
+    counts.tables += 1;
+    counts.sound += usize::from(sound);
+    counts.answers.count(word(&expected));
     Ok(())
 }
 
@@ -114,17 +117,6 @@ fn same(before: &Tables, step: &Step, model: (&Outcome, &Tables), library: (&Out
         ));
     }
     Ok(())
-}
-
-fn count(counts: &mut Counts, sound: bool, outcome: &Outcome) {
-    counts.tables += 1;
-    counts.sound += usize::from(sound);
-    let word = match outcome {
-        Ok(Answer::Write { .. }) => "write".into(),
-        Ok(Answer::Read { .. }) => "read".into(),
-        other => model::answer::printed(other),
-    };
-    *counts.answers.entry(word).or_insert(0) += 1;
 }
 
 /// The first word that differs.

@@ -61,6 +61,15 @@ pub fn printed(outcome: &Outcome) -> String {
     }
 }
 
+/// An outcome's first word, of a refusal with its number: what answers are counted by.
+pub fn word(outcome: &Outcome) -> String {
+    match outcome {
+        Ok(Answer::Write { .. }) => "write".into(),
+        Ok(Answer::Read { .. }) => "read".into(),
+        other => printed(other),
+    }
+}
+
 impl Refusal {
     /// The refusal of a number, 1 to 13.
     pub fn from_number(number: u32) -> Option<Refusal> {

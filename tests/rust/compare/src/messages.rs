@@ -1,0 +1,125 @@
+//! Random messages as they are lent to a writer: good ones, and ones that no frame holds.
+
+use frames::lent::Fixed;
+use frames::message::{to_server, KINDS, MOST_ENTRIES, MOST_KEYS};
+use schedules::Random;
+
+/// Most entries of a message that is not a long one.
+const SHORT: usize = 24;
+
+/// The fixed part of a message and its entries: key words, and setpoints or masks.
+#[derive(Clone, Debug)]
+pub struct Lent {
+    pub fixed: Fixed,
+    pub keys: Vec<u32>,
+    pub numbers: Vec<u32>,
+}
+
+/// A short message of any kind: most are good; some have one value that no field takes, or entries too few or too many.
+pub fn random_message(random: &mut Random) -> Lent {
+    let kind = random.within(1, KINDS as usize) as u32;
+    let most = match kind {
+        6 => MOST_KEYS,
+        10 | 12 => SHORT,
+        _ => 0,
+    };
+    let entries = if most == 0 { 0 } else { random.within(1, most) };
+    let mut message = good_message(random, kind, entries);
+    if random.chance(1, 4) {
+        spoil(random, &mut message);
+    }
+    message
+}
+
+/// Long messages in turn, all versions (kind 10) and logs (kind 12): from the longest down in steps of 37 entries, and around,
+/// so that no length comes again before all have been.
+pub fn long_message(random: &mut Random, place: usize) -> Lent {
+    let kind = if place.is_multiple_of(2) { 10 } else { 12 };
+    let entries = MOST_ENTRIES - 37 * (place / 2) % (MOST_ENTRIES - SHORT);
+    good_message(random, kind, entries)
+}
+
+/// A message with a key at any of its places that no entry has.
+pub fn with_broken_key(message: &Lent, random: &mut Random) -> Lent {
+    let mut broken = message.clone();
+    let place = random.below(broken.keys.len());
+    broken.keys[place] = broken_key(random);
+    broken
+}
+
+/// A message whose values are all in their ranges, often at an end.
+fn good_message(random: &mut Random, kind: u32, entries: usize) -> Lent {
+    let mut fixed = Fixed { kind, client: random.below(16) as u8, entries: entries as u32, ..Fixed::default() };
+    if to_server(kind) {
+        fixed.server = random.below(16) as u8;
+    }
+    let count = if random.chance(1, 2) { 1 << random.below(8) } else { random.within(1, 255) as u8 };
+    match kind {
+        1 => (fixed.key, fixed.number) = ((count, fixed.client), random.word()),
+        3 => (fixed.key, fixed.number) = ((count, fixed.client), random_mask(random)),
+        4 => fixed.tag = random.within(1, 255) as u8,
+        6 => fixed.tag = random.below(256) as u8,
+        7 => fixed.key = random.pick(&[(0, 0), (count, 3), (255, 15)]),
+        8 => fixed.number = random.word(),
+        _ => {}
+    }
+    let number: fn(&mut Random) -> u32 = if kind == 10 { Random::word } else { random_mask };
+    let keys = (0..entries).map(|_| random_key(random)).collect();
+    let numbers = (0..entries).map(|_| number(random)).collect();
+    Lent { fixed, keys, numbers }
+}
+
+/// A mask of at least one server, often of one alone.
+fn random_mask(random: &mut Random) -> u32 {
+    match random.below(2) {
+        0 => 1 << random.below(16),
+        _ => random.within(1, 65535) as u32,
+    }
+}
+
+fn random_key(random: &mut Random) -> u32 {
+    match random.below(5) {
+        0 => 0,
+        _ => 256 * random.within(1, 255) as u32 + random.below(16) as u32,
+    }
+}
+
+/// A word that is no key: its client above 15 or beside count 0, or its count above 255.
+fn broken_key(random: &mut Random) -> u32 {
+    random.pick(&[1, 15, 16, 255, 256 + 16, 65535, 65536, 65536 + 256, u32::MAX])
+}
+
+/// Makes one value odd; the kind may not have it, and then nothing is spoilt.
+fn spoil(random: &mut Random, message: &mut Lent) {
+    let Lent { fixed, keys, numbers } = message;
+    match random.below(10) {
+        0 => fixed.client = random.pick(&[15, 16, 17, 255]),
+        1 => fixed.server = random.pick(&[15, 16, 17, 31, 32, 255]),
+        2 if matches!(fixed.kind, 1 | 3 | 7) => fixed.key = random.pick(&[(0, 0), (0, 1), (1, 16), (255, 255), (1, 0)]),
+        3 if fixed.kind == 3 => fixed.number = random.pick(&[0, 65535, 65536, u32::MAX]),
+        4 if fixed.kind == 4 => fixed.tag = 0,
+        5 if fixed.entries > 0 => {
+            fixed.entries = random.pick(&[0, 16, 17, 255, 256, 257, u32::MAX]);
+            if random.chance(1, 2) {
+                // Places enough, so that the number of entries alone decides.
+                keys.resize(300, 256);
+                numbers.resize(300, 1);
+            }
+        }
+        6 => {
+            keys.pop();
+        }
+        7 => {
+            numbers.pop();
+        }
+        8 => fixed.kind = random.pick(&[0, 13, 14, 16, 255, 256 + 1, u32::MAX]),
+        _ if !keys.is_empty() => {
+            let place = random.below(keys.len());
+            match numbers.get_mut(place) {
+                Some(number) if random.chance(1, 2) => *number = random.pick(&[0, 1, 65535, 65536, u32::MAX]),
+                _ => keys[place] = broken_key(random),
+            }
+        }
+        _ => {}
+    }
+}
