@@ -1,41 +1,121 @@
 //! Random schedules through a program: its output equal to the model's, byte by byte, and demand 3 on it.
 
 use crate::arguments::Arguments;
+use crate::tally::Tally;
 use crate::Report;
 use demand3::Summary;
+use model::answer::word;
+use model::{Outcome, Player, Refusal, State};
+use std::fmt;
 use std::io::{Read, Write};
 use std::process::{Command, Stdio};
 
 /// Openings in one input, in turn: mostly one, whose register is then printed, and now and then many.
 const OPENINGS: [usize; 8] = [1, 1, 1, 5, 1, 1, 1, 29];
 
+/// In a run of so many openings each of the answers below is to occur, and of 100 lines about a third is to be refused.
+const MANY: usize = 1000;
+const REFUSED_OF_100: (usize, usize) = (30, 37);
+/// Every answer that a line of a schedule can have, by the line's letter. A 7 is that of the 256th WRITE or READ.
+#[rustfmt::skip]
+const DUE: [&str; 28] = [
+    "O ok", "O no 1",
+    "W ok", "W no 2", "W no 3", "W no 4", "W no 5", "W no 6", "W no 7",
+    "R ok", "R no 2", "R no 3", "R no 4", "R no 5", "R no 6", "R no 7",
+    "> ok", "> no 2", "> no 3", "> no 9",
+    "< wait", "< next", "< write", "< read", "< no 2", "< no 3", "< no 9",
+    "no 13",
+];
+
+/// What the schedules reached so far.
+#[derive(Default)]
+struct Reached {
+    total: Summary,
+    answers: Tally,
+    /// Transactions that began while others were in progress, and the most in progress at once.
+    overlapping: usize,
+    most_at_once: usize,
+}
+
 /// Plays `cases` openings.
 pub fn compare(arguments: &Arguments) -> Report {
-    let mut total = Summary::default();
+    let mut reached = Reached::default();
     let (mut inputs, mut opened) = (0, 0);
     while opened < arguments.cases {
         let openings = OPENINGS[inputs % OPENINGS.len()];
-        let seed = arguments.seed.wrapping_mul(1 << 32).wrapping_add(inputs as u64);
+        let seed = arguments.seed_of(inputs);
         let schedule = schedules::schedule(seed, openings);
         let output = play(&arguments.program, &schedule)?;
         let found = judge(&schedule, &output).map_err(|difference| keep(&schedule, &output, seed, &difference))?;
-        add(&mut total, &found);
+        reached.add(&found);
+        reached.replay(&schedule);
         inputs += 1;
         opened += openings;
     }
-    Ok(format!(
-        "{opened} cases in {inputs} inputs, {} lines, {} accepted, {} refused, {} openings, {} tagged WRITEs, {} finished READs",
-        total.lines, total.accepted, total.refused, total.openings, total.tagged_writes, total.finished_reads
-    ))
+    if arguments.cases >= MANY {
+        reached.require()?;
+    }
+    Ok(format!("{opened} cases in {inputs} inputs, {reached}"))
 }
 
-fn add(total: &mut Summary, found: &Summary) {
-    total.lines += found.lines;
-    total.accepted += found.accepted;
-    total.refused += found.refused;
-    total.openings += found.openings;
-    total.tagged_writes += found.tagged_writes;
-    total.finished_reads += found.finished_reads;
+impl Reached {
+    fn add(&mut self, found: &Summary) {
+        let total = &mut self.total;
+        total.lines += found.lines;
+        total.accepted += found.accepted;
+        total.refused += found.refused;
+        total.openings += found.openings;
+        total.tagged_writes += found.tagged_writes;
+        total.finished_reads += found.finished_reads;
+    }
+
+    /// Plays a schedule on the model for its answers and overlaps.
+    fn replay(&mut self, schedule: &[u8]) {
+        let mut player = Player::default();
+        for line in model::line::lines(schedule) {
+            let outcome = player.take_line(line);
+            let begun = outcome.is_ok() && matches!(line[0], b'W' | b'R');
+            self.answers.count(name(line, &outcome));
+            if begun {
+                let at_once =
+                    player.store.iter().flat_map(|store| &store.clients).filter(|client| client.state != State::Idle).count();
+                self.overlapping += usize::from(at_once > 1);
+                self.most_at_once = self.most_at_once.max(at_once);
+            }
+        }
+    }
+
+    fn require(&self) -> Result<(), String> {
+        self.answers.require(&DUE)?;
+        let (least, most) = REFUSED_OF_100;
+        let Summary { lines, refused, .. } = self.total;
+        if 100 * refused < least * lines || 100 * refused > most * lines {
+            return Err(format!("{refused} of {lines} lines are refused, and {least} to {most} of 100 are due"));
+        }
+        Ok(())
+    }
+}
+
+/// An answer with the letter of its line, if the line is a step.
+fn name(line: &[u8], outcome: &Outcome) -> String {
+    match outcome {
+        Err(Refusal::Unreadable) => word(outcome),
+        _ => format!("{} {}", line[0] as char, word(outcome)),
+    }
+}
+
+impl fmt::Display for Reached {
+    fn fmt(&self, out: &mut fmt::Formatter) -> fmt::Result {
+        let Summary { lines, accepted, refused, openings, tagged_writes, finished_reads } = self.total;
+        let share = 100.0 * refused as f32 / lines as f32;
+        write!(out, "{lines} lines, {accepted} accepted, {refused} refused ({share:.1} %), {openings} openings, ")?;
+        write!(
+            out,
+            "{tagged_writes} tagged WRITEs, {finished_reads} finished READs, {} begun while others were in progress, ",
+            self.overlapping
+        )?;
+        write!(out, "at most {} at once; answers: {}", self.most_at_once, self.answers)
+    }
 }
 
 /// Demand 3 on the output, and the output against the model's.

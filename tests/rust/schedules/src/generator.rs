@@ -2,7 +2,7 @@
 
 use crate::lines::line_of;
 use crate::random::Random;
-use crate::wrong;
+use crate::wrong::{self, Size};
 use model::{Link, Method, Player, State, Step, Store};
 
 /// What a section is after.
@@ -83,7 +83,7 @@ impl Generator {
         match self.aim {
             Aim::Overlaps if self.random.chance(1, 20) => self.random.within(400, 1500),
             Aim::Overlaps => self.random.within(0, 250),
-            _ => self.random.within(1200, 2600),
+            _ => self.random.within(1800, 3200),
         }
     }
 
@@ -114,10 +114,9 @@ impl Generator {
         setpoints
     }
 
-    /// The next line: two of three are steps that the store accepts, where there is one.
+    /// The next line. One of four is to be refused; with those that the store happens to refuse, one of three is.
     fn line(&mut self) -> Vec<u8> {
-        let wrong_of_60 = if self.aim == Aim::Overlaps { 18 } else { 4 };
-        if self.random.chance(wrong_of_60, 60) {
+        if self.random.chance(1, 4) {
             return self.wrong_line();
         }
         line_of(&self.likely_step())
@@ -125,14 +124,26 @@ impl Generator {
 
     fn wrong_line(&mut self) -> Vec<u8> {
         if self.random.chance(1, 2) {
-            return wrong::unreadable(&mut self.random);
+            return self.unreadable_line();
         }
         line_of(&self.wrong_step())
     }
 
+    fn unreadable_line(&mut self) -> Vec<u8> {
+        let size = self.size();
+        wrong::unreadable(&mut self.random, size)
+    }
+
     /// A step with arguments that mostly do not fit the store.
     pub fn wrong_step(&mut self) -> Step {
-        wrong::step_of_any_kind(&mut self.random)
+        let size = self.size();
+        wrong::step_of_any_kind(&mut self.random, size)
+    }
+
+    /// The servers and clients of the store, or the most where none is open.
+    fn size(&self) -> Size {
+        let most = Size { servers: 16, clients: 16 };
+        self.player.store.as_ref().map_or(most, |store| Size { servers: store.servers.len(), clients: store.clients.len() })
     }
 
     /// A step that the store most likely accepts.
@@ -207,7 +218,8 @@ impl Generator {
     /// The whole text: one of ten ends in an unreadable line without byte 10, and a third of the others lack their last byte 10.
     pub fn finish(mut self) -> Vec<u8> {
         if self.random.chance(1, 10) {
-            self.text.extend(wrong::unreadable(&mut self.random));
+            let line = self.unreadable_line();
+            self.text.extend(line);
         } else if self.random.chance(1, 3) {
             self.text.pop();
         }

@@ -4,9 +4,16 @@ use crate::lines::line_of;
 use crate::random::Random;
 use model::Step;
 
+/// The servers and clients of the store that a wrong line is for.
+#[derive(Clone, Copy)]
+pub struct Size {
+    pub servers: usize,
+    pub clients: usize,
+}
+
 /// A line that is most likely of no shape that the program knows.
-pub fn unreadable(random: &mut Random) -> Vec<u8> {
-    let good = line_of(&step_of_any_kind(random));
+pub fn unreadable(random: &mut Random, size: Size) -> Vec<u8> {
+    let good = line_of(&step_of_any_kind(random, size));
     let letter = random.pick(b"OWR><");
     match random.below(19) {
         0 => Vec::new(),
@@ -59,53 +66,61 @@ fn too_long(random: &mut Random) -> Vec<u8> {
     line
 }
 
-/// A step whose arguments fit no store, or only by luck.
-pub fn step_of_any_kind(random: &mut Random) -> Step {
-    let setpoints = (0..random.below(18)).map(|place| place as u32).collect();
+/// A step with arguments out of their ranges, or at their ends, or within them: then only by luck at the right time.
+pub fn step_of_any_kind(random: &mut Random, size: Size) -> Step {
+    let client = client(random, size.clients);
     match random.below(5) {
         0 => bad_opening(random),
-        1 => Step::BeginWrite { client: client(random), mask: mask(random), setpoints },
-        2 => Step::BeginRead { client: client(random), mask: mask(random) },
-        3 => Step::DeliverRequest { client: client(random), target: target(random) },
-        _ => Step::DeliverReply { client: client(random), target: target(random) },
+        1 => {
+            let setpoints = (0..random.below(18)).map(|place| place as u32).collect();
+            Step::BeginWrite { client, mask: mask(random, size.servers), setpoints }
+        }
+        2 => Step::BeginRead { client, mask: mask(random, size.servers) },
+        3 => Step::DeliverRequest { client, target: target(random, size.servers) },
+        _ => Step::DeliverReply { client, target: target(random, size.servers) },
     }
 }
 
-fn client(random: &mut Random) -> u32 {
-    match random.below(4) {
+fn client(random: &mut Random, clients: usize) -> u32 {
+    match random.below(8) {
         0 => random.pick(&[16, 17, 255, 256, 257, 65536, u32::MAX]),
-        _ => random.below(17) as u32,
+        1 => clients as u32,
+        2 => random.below(17) as u32,
+        _ => random.below(clients) as u32,
     }
 }
 
-fn target(random: &mut Random) -> u32 {
-    match random.below(4) {
+fn target(random: &mut Random, servers: usize) -> u32 {
+    match random.below(8) {
         0 => random.pick(&[17, 31, 32, 256, 272, 65552, u32::MAX]),
-        _ => random.below(17) as u32,
+        1 => servers as u32,
+        2 => random.below(17) as u32,
+        3 => 16,
+        _ => random.below(servers) as u32,
     }
 }
 
-fn mask(random: &mut Random) -> u32 {
-    match random.below(3) {
+fn mask(random: &mut Random, servers: usize) -> u32 {
+    match random.below(6) {
         0 => random.pick(&[0, 65535, 65536, 65537, 1 << 31, u32::MAX]),
-        _ => random.below(1 << 16) as u32 >> random.below(16),
+        1 => 1 << servers,
+        2 => random.below(1 << 16) as u32 >> random.below(16),
+        _ => random.below(1 << servers) as u32,
     }
 }
 
-/// An opening with an argument out of its range; now and then with two, rarely with none.
+/// An opening with an argument out of its range, now and then with two.
 fn bad_opening(random: &mut Random) -> Step {
     let servers = random.within(1, 16) as u32;
-    let mut setpoints = vec![7; servers as usize];
-    let (mut method, mut asked, mut clients) = (random.within(1, 3) as u32, servers, 2);
-    match random.below(5) {
-        0 => method = random.pick(&[0, 4, 257, 258, 259, u32::MAX]),
-        1 => asked = random.pick(&[0, 17, 256, 257, u32::MAX]),
-        2 => clients = random.pick(&[0, 17, 256, 258, u32::MAX]),
-        3 => (method, clients) = (1, 1),
-        _ => setpoints.push(7),
+    let (mut method, mut asked, mut clients, mut given) = (random.within(1, 3) as u32, servers, 2, servers);
+    for _ in 0..random.pick(&[1, 1, 1, 1, 1, 1, 1, 2]) {
+        match random.below(5) {
+            0 => method = random.pick(&[0, 4, 257, 258, 259, u32::MAX]),
+            1 => asked = random.pick(&[0, 17, 256, 257, u32::MAX]),
+            2 => clients = random.pick(&[0, 17, 256, 258, u32::MAX]),
+            3 => (method, clients) = (1, 1),
+            _ => given = random.pick(&[servers - 1, servers + 1]),
+        }
     }
-    if random.chance(1, 8) {
-        setpoints.pop();
-    }
-    Step::Open { method, servers: asked, clients, setpoints }
+    Step::Open { method, servers: asked, clients, setpoints: vec![7; given as usize] }
 }

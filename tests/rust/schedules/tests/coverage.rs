@@ -1,22 +1,17 @@
 //! That the schedules reach what they are for: every answer, every refusal that an opened run has, and the limits.
 
-use model::{replay, Refusal};
+use model::answer::word;
+use model::{line, Player, Refusal};
 use schedules::schedule;
 use std::collections::BTreeMap;
 
-/// How often each answer's first words occur in the outputs.
+/// How often each answer occurs in schedules of these seeds.
 fn answers(seeds: std::ops::Range<u64>, sections: usize) -> BTreeMap<String, usize> {
     let mut found = BTreeMap::new();
     for seed in seeds {
-        let output = String::from_utf8(replay(&schedule(seed, sections))).expect("text");
-        // Lines of the register are no answers.
-        for line in output.lines().filter(|line| !line.starts_with(['W', 'R'])) {
-            let mut words = line.split(' ').skip(1);
-            let answer = match words.next() {
-                Some("no") => format!("no {}", words.next().expect("a number")),
-                other => other.unwrap_or_default().to_string(),
-            };
-            *found.entry(answer).or_insert(0) += 1;
+        let mut player = Player::default();
+        for line in line::lines(&schedule(seed, sections)) {
+            *found.entry(word(&player.take_line(line))).or_insert(0) += 1;
         }
     }
     found
@@ -38,7 +33,7 @@ fn about_a_third_of_the_lines_is_refused() {
     let found = answers(40..60, 10);
     let all: usize = found.values().sum();
     let refused: usize = found.iter().filter(|(answer, _)| answer.starts_with("no ")).map(|(_, times)| times).sum();
-    assert!((20..45).contains(&(100 * refused / all)), "{refused} of {all}");
+    assert!((30..37).contains(&(100 * refused / all)), "{refused} of {all}");
 }
 
 #[test]
