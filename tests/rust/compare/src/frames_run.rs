@@ -70,10 +70,11 @@ impl Comparison {
 
     /// Writes a message; reads its frame, where it has one, whole and in every way damaged.
     fn message(&mut self, message: &Lent) -> Result<(), String> {
-        self.tried.count("messages".into());
+        self.tried.count("messages");
         let Some(frame) = self.write(message)? else {
             return Ok(());
         };
+        self.tried.count(if message.is_long() { "long frames" } else { "short frames" });
         self.whole(&frame, places(&message.fixed))?;
         self.prefixes(&frame)?;
         self.turned_bits(&frame)
@@ -96,7 +97,7 @@ impl Comparison {
     /// Every prefix.
     fn prefixes(&mut self, frame: &[u8]) -> Result<(), String> {
         for length in 0..frame.len() {
-            self.tried.count("prefixes".into());
+            self.tried.count("prefixes");
             self.read(&frame[..length], 256, 256)?;
         }
         Ok(())
@@ -105,7 +106,7 @@ impl Comparison {
     /// Every single bit turned, and the same bytes cut short within the first fields.
     fn turned_bits(&mut self, frame: &[u8]) -> Result<(), String> {
         for bit in 0..8 * frame.len() {
-            self.tried.count("single bits turned".into());
+            self.tried.count("single bits turned");
             let mut damaged = frame.to_vec();
             damaged[bit / 8] ^= 1 << (bit % 8);
             self.read(&damaged, 256, 256)?;
@@ -117,7 +118,7 @@ impl Comparison {
 
     /// Bytes behind a header that is good in most cases; many are 0 or have one bit, so that fields are at their edges.
     fn random_bytes(&mut self) -> Result<(), String> {
-        self.tried.count("strings of random bytes".into());
+        self.tried.count("strings of random bytes");
         let most = self.random.pick(&[4, 5, 8, 40]);
         let length = self.random.below(most + 1);
         let mut bytes: Vec<u8> = (0..length).map(|_| sparse_byte(&mut self.random)).collect();
@@ -176,7 +177,7 @@ impl Comparison {
             Ok(kind) => done(what, kind),
             Err(refusal) => format!("not {what} by {}", refusal as u8),
         };
-        self.outcomes.count(name);
+        self.outcomes.count(&name);
     }
 }
 

@@ -1,4 +1,5 @@
-//! Compares the proved crates with the model on many random inputs. Exit status 1 at the first difference.
+//! Compares the proved crates with the model on many random inputs. Exit status 1 at the first difference, and where a long
+//! run did not reach all that it is for.
 //!
 //!     compare schedules PROGRAM [ARGUMENT...] [--cases N] [--seed S]
 //!     compare tables [--cases N] [--seed S]
@@ -8,6 +9,7 @@ mod arguments;
 mod damage;
 mod frames_run;
 mod messages;
+mod reached;
 mod schedules_run;
 mod tables_run;
 mod tally;
@@ -15,7 +17,7 @@ mod tally;
 use arguments::Arguments;
 use std::process::ExitCode;
 
-/// What a comparison found: a line of counts, or the first difference.
+/// What a comparison found: a line of counts, or the first difference or what was not reached.
 pub type Report = Result<String, String>;
 
 fn main() -> ExitCode {
@@ -37,8 +39,8 @@ fn main() -> ExitCode {
             println!("{}: {counts}, no difference, {seconds:.1} s", arguments.subject);
             ExitCode::SUCCESS
         }
-        Err(difference) => {
-            println!("{}: DIFFERENCE: {difference}", arguments.subject);
+        Err(failure) => {
+            println!("{}: FAILED: {failure}", arguments.subject);
             ExitCode::FAILURE
         }
     }

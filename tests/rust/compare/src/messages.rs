@@ -15,6 +15,12 @@ pub struct Lent {
     pub numbers: Vec<u32>,
 }
 
+impl Lent {
+    pub fn is_long(&self) -> bool {
+        self.fixed.entries as usize > SHORT
+    }
+}
+
 /// A short message of any kind: most are good; some have one value that no field takes, or entries too few or too many.
 pub fn random_message(random: &mut Random) -> Lent {
     let kind = random.within(1, KINDS as usize) as u32;

@@ -1,41 +1,17 @@
 //! Random schedules through a program: its output equal to the model's, byte by byte, and demand 3 on it.
 
 use crate::arguments::Arguments;
-use crate::tally::Tally;
+use crate::reached::Reached;
 use crate::Report;
 use demand3::Summary;
-use model::answer::word;
-use model::{Outcome, Player, Refusal, State};
-use std::fmt;
 use std::io::{Read, Write};
 use std::process::{Command, Stdio};
 
 /// Openings in one input, in turn: mostly one, whose register is then printed, and now and then many.
 const OPENINGS: [usize; 8] = [1, 1, 1, 5, 1, 1, 1, 29];
 
-/// In a run of so many openings each of the answers below is to occur, and of 100 lines about a third is to be refused.
+/// In a run of so many openings all is to be reached that schedules are for.
 const MANY: usize = 1000;
-const REFUSED_OF_100: (usize, usize) = (30, 37);
-/// Every answer that a line of a schedule can have, by the line's letter. A 7 is that of the 256th WRITE or READ.
-#[rustfmt::skip]
-const DUE: [&str; 28] = [
-    "O ok", "O no 1",
-    "W ok", "W no 2", "W no 3", "W no 4", "W no 5", "W no 6", "W no 7",
-    "R ok", "R no 2", "R no 3", "R no 4", "R no 5", "R no 6", "R no 7",
-    "> ok", "> no 2", "> no 3", "> no 9",
-    "< wait", "< next", "< write", "< read", "< no 2", "< no 3", "< no 9",
-    "no 13",
-];
-
-/// What the schedules reached so far.
-#[derive(Default)]
-struct Reached {
-    total: Summary,
-    answers: Tally,
-    /// Transactions that began while others were in progress, and the most in progress at once.
-    overlapping: usize,
-    most_at_once: usize,
-}
 
 /// Plays `cases` openings.
 pub fn compare(arguments: &Arguments) -> Report {
@@ -47,75 +23,14 @@ pub fn compare(arguments: &Arguments) -> Report {
         let schedule = schedules::schedule(seed, openings);
         let output = play(&arguments.program, &schedule)?;
         let found = judge(&schedule, &output).map_err(|difference| keep(&schedule, &output, seed, &difference))?;
-        reached.add(&found);
-        reached.replay(&schedule);
+        reached.add(&schedule, &found);
         inputs += 1;
         opened += openings;
     }
     if arguments.cases >= MANY {
-        reached.require()?;
+        reached.require_all()?;
     }
     Ok(format!("{opened} cases in {inputs} inputs, {reached}"))
-}
-
-impl Reached {
-    fn add(&mut self, found: &Summary) {
-        let total = &mut self.total;
-        total.lines += found.lines;
-        total.accepted += found.accepted;
-        total.refused += found.refused;
-        total.openings += found.openings;
-        total.tagged_writes += found.tagged_writes;
-        total.finished_reads += found.finished_reads;
-    }
-
-    /// Plays a schedule on the model for its answers and overlaps.
-    fn replay(&mut self, schedule: &[u8]) {
-        let mut player = Player::default();
-        for line in model::line::lines(schedule) {
-            let outcome = player.take_line(line);
-            let begun = outcome.is_ok() && matches!(line[0], b'W' | b'R');
-            self.answers.count(name(line, &outcome));
-            if begun {
-                let at_once =
-                    player.store.iter().flat_map(|store| &store.clients).filter(|client| client.state != State::Idle).count();
-                self.overlapping += usize::from(at_once > 1);
-                self.most_at_once = self.most_at_once.max(at_once);
-            }
-        }
-    }
-
-    fn require(&self) -> Result<(), String> {
-        self.answers.require(&DUE)?;
-        let (least, most) = REFUSED_OF_100;
-        let Summary { lines, refused, .. } = self.total;
-        if 100 * refused < least * lines || 100 * refused > most * lines {
-            return Err(format!("{refused} of {lines} lines are refused, and {least} to {most} of 100 are due"));
-        }
-        Ok(())
-    }
-}
-
-/// An answer with the letter of its line, if the line is a step.
-fn name(line: &[u8], outcome: &Outcome) -> String {
-    match outcome {
-        Err(Refusal::Unreadable) => word(outcome),
-        _ => format!("{} {}", line[0] as char, word(outcome)),
-    }
-}
-
-impl fmt::Display for Reached {
-    fn fmt(&self, out: &mut fmt::Formatter) -> fmt::Result {
-        let Summary { lines, accepted, refused, openings, tagged_writes, finished_reads } = self.total;
-        let share = 100.0 * refused as f32 / lines as f32;
-        write!(out, "{lines} lines, {accepted} accepted, {refused} refused ({share:.1} %), {openings} openings, ")?;
-        write!(
-            out,
-            "{tagged_writes} tagged WRITEs, {finished_reads} finished READs, {} begun while others were in progress, ",
-            self.overlapping
-        )?;
-        write!(out, "at most {} at once; answers: {}", self.most_at_once, self.answers)
-    }
 }
 
 /// Demand 3 on the output, and the output against the model's.

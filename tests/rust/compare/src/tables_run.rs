@@ -98,7 +98,7 @@ fn compare_step(library: StoreLibrary, tables: &mut Tables, step: &Step, counts:
     same(&before, step, (&expected, tables), (&found, &proved))?;
     counts.tables += 1;
     counts.sound += usize::from(sound);
-    counts.answers.count(word(&expected));
+    counts.answers.count(&word(&expected));
     Ok(())
 }
 

@@ -7,8 +7,11 @@ use std::fmt;
 pub struct Tally(BTreeMap<String, usize>);
 
 impl Tally {
-    pub fn count(&mut self, name: String) {
-        *self.0.entry(name).or_insert(0) += 1;
+    pub fn count(&mut self, name: &str) {
+        match self.0.get_mut(name) {
+            Some(times) => *times += 1,
+            None => drop(self.0.insert(name.to_string(), 1)),
+        }
     }
 
     /// Fails where one of these never occurred.

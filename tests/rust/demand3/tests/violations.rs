@@ -3,8 +3,8 @@
 use demand3::check;
 
 /// Document 01's sample.
-const SAMPLE: &str = "O 2 2 2 1200 30\nW 0 3 1800 45\n> 0 0\nR 1 3\n> 1 16\n> 0 1\n< 0 0\n< 0 1\n> 0 16\n< 1 16\n> 1 0\n< 1 0\n> 1 1\n< 1 1\n< 0 16\n";
-const PRINTED: &str = "1 ok\n2 ok\n3 ok\n4 ok\n5 ok\n6 ok\n7 wait\n8 next\n9 ok\n10 next\n11 ok\n12 wait\n13 ok\n14 read 0 0=1200 1=30\n15 write 1\nR 0 1 4 14 1\nW 1 0 1 2 15\n";
+const SAMPLE: &str = include_str!("../../../../examples/sample.txt");
+const PRINTED: &str = include_str!("../../../../examples/sample.out");
 
 /// The checker's report of an output made wrong at one place.
 fn report(schedule: &str, printed: &str, right: &str, wrong: &str) -> String {

@@ -216,7 +216,7 @@ impl Generator {
     }
 
     /// The whole text: one of ten ends in an unreadable line without byte 10, and a third of the others lack their last byte 10.
-    pub fn finish(mut self) -> Vec<u8> {
+    fn finish(mut self) -> Vec<u8> {
         if self.random.chance(1, 10) {
             let line = self.unreadable_line();
             self.text.extend(line);
