@@ -105,7 +105,7 @@ fn spoil(random: &mut Random, message: &mut Lent) {
         3 if fixed.kind == 3 => fixed.number = random.pick(&[0, 65535, 65536, u32::MAX]),
         4 if fixed.kind == 4 => fixed.tag = 0,
         5 if fixed.entries > 0 => {
-            fixed.entries = random.pick(&[0, 16, 17, 255, 256, 257, u32::MAX]);
+            fixed.entries = random.pick(&[0, 16, 17, 257, 300, u32::MAX]);
             if random.chance(1, 2) {
                 // Places enough, so that the number of entries alone decides.
                 keys.resize(300, 256);
