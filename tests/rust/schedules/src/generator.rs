@@ -151,8 +151,7 @@ impl Generator {
         let store = self.player.store.as_ref().expect("opened");
         let waiting = waiting_links(store);
         let idle = (0..store.clients.len()).filter(|&client| store.clients[client].state == State::Idle).count();
-        let begin_of_100 = if self.aim == Aim::Overlaps { 15 } else { 5 };
-        if waiting.is_empty() || (idle > 0 && self.random.chance(begin_of_100, 100)) {
+        if waiting.is_empty() || (idle > 0 && self.random.chance(1, 5)) {
             return self.begin();
         }
         self.delivery(&waiting)
