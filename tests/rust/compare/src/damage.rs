@@ -53,6 +53,7 @@ fn change_word(tables: &mut Tables, random: &mut Random) {
     };
 }
 
+/// A place in a table, which is numbered as in `Tables::all`.
 fn word_place(tables: &Tables, which: usize, random: &mut Random) -> usize {
     let used = |place: usize| tables.counts.get(place).map_or(0, |&count| count as usize % 257);
     let (clients, servers) = (used(CLIENTS).max(1), used(SERVERS).max(1));

@@ -2,7 +2,7 @@
 //! and each single bit turned; random bytes; slices with places enough or too few.
 
 use crate::arguments::Arguments;
-use crate::messages::{long_message, random_message, with_broken_key, Lent};
+use crate::messages::{long_message, random_message, with_broken_entry, Lent};
 use crate::tally::Tally;
 use crate::Report;
 use ffi::FrameLibrary;
@@ -13,7 +13,7 @@ use schedules::Random;
 
 /// A long message comes with every so many short ones: a frame of n bytes is read 9 n times, so few take most of the time.
 const SHORT_FOR_A_LONG: usize = 500;
-/// Copies of a long message with one key broken, which are not writable.
+/// Copies of a long message with one entry broken, which are not writable.
 const BROKEN_COPIES: usize = 20;
 /// Words that the lent slices hold before a call, so that a word written too far shows.
 const UNTOUCHED: u32 = 0xA5A5_5A5A;
@@ -52,17 +52,17 @@ pub fn compare(arguments: &Arguments) -> Report {
 }
 
 /// The name of an accepted outcome.
-fn done(done: &str, kind: u32) -> String {
-    format!("{done} of kind {kind}")
+fn done(what: &str, kind: u32) -> String {
+    format!("{what} of kind {kind}")
 }
 
 impl Comparison {
-    /// A long message, and copies that are not writable for one of its entries.
+    /// A long message, and copies that are not writable.
     fn long_message(&mut self, place: usize) -> Result<(), String> {
         let message = long_message(&mut self.random, place);
         self.message(&message)?;
         for _ in 0..BROKEN_COPIES {
-            let broken = with_broken_key(&message, &mut self.random);
+            let broken = with_broken_entry(&message, &mut self.random);
             self.message(&broken)?;
         }
         Ok(())

@@ -45,11 +45,15 @@ pub fn long_message(random: &mut Random, place: usize) -> Lent {
     good_message(random, kind, entries)
 }
 
-/// A message with a key at any of its places that no entry has.
-pub fn with_broken_key(message: &Lent, random: &mut Random) -> Lent {
+/// A message of kind 10 or 12 that is not writable for one of its entries, at any place: a key that is none or, in a log, a mask.
+pub fn with_broken_entry(message: &Lent, random: &mut Random) -> Lent {
     let mut broken = message.clone();
     let place = random.below(broken.keys.len());
-    broken.keys[place] = broken_key(random);
+    if message.fixed.kind == 12 && random.chance(1, 2) {
+        broken.numbers[place] = random.pick(&[0, 65536, u32::MAX]);
+    } else {
+        broken.keys[place] = broken_key(random);
+    }
     broken
 }
 

@@ -150,8 +150,8 @@ impl Generator {
     pub fn likely_step(&mut self) -> Step {
         let store = self.player.store.as_ref().expect("opened");
         let waiting = waiting_links(store);
-        let idle = (0..store.clients.len()).filter(|&client| store.clients[client].state == State::Idle).count();
-        if waiting.is_empty() || (idle > 0 && self.random.chance(1, 5)) {
+        let idle = store.clients.iter().any(|client| client.state == State::Idle);
+        if waiting.is_empty() || (idle && self.random.chance(1, 5)) {
             return self.begin();
         }
         self.delivery(&waiting)
