@@ -1,7 +1,7 @@
 -- Number 8 is none of those that the refusals in order give.
 use Prim.Native.Nat.{ℕ}
 use mathlib.Core.Path.{_≡_}
-use mathlib.Core.Bool.{not, _&&_, _||_}
+use mathlib.Core.Bool.{Bool, not, _&&_, _||_}
 use mathlib.Core.List.{List}
 use native.Mathlib.Omega.{arith}
 use lib.ListN.{length}
@@ -12,7 +12,7 @@ use Rattle.tables.specs.Layout.{recordPlaces}
 use Rattle.tables.specs.Tables.{Tables, methodOf, serversOf, clientsOf, writesOf, readsOf, stateOf}
 use Rattle.rules.specs.Common.{idle}
 use Rattle.soundness.specs.Sound.{longEnough, pressFits, sound}
-use Rattle.refusals.specs.Refusals.{openRefusal, writeRefusal, readRefusal, atLastStep, isTarget, deliveryRefusal}
+use Rattle.refusals.specs.Refusals.{openRefusal, beginFault, writeRefusal, readRefusal, atLastStep, isTarget, deliveryRefusal}
 
 abbrev pub NotEight : ℕ → Type 0
 NotEight n = n ≡ 8 → ⊥
@@ -22,26 +22,26 @@ unfolding openRefusal
 open-number method k p setpoints t =
     either NotEight (not (pressFits method k p && eqb (length setpoints) k)) (λ e. omega arith) (either NotEight (not (longEnough k p t)) (λ e. omega arith) (λ e. omega arith))
 
+begin-number : (absent barred free fits spent : Bool) → NotEight (beginFault absent barred free fits spent)
+begin-number absent barred free fits spent =
+    either NotEight absent (λ e. omega arith)
+    (either NotEight barred (λ e. omega arith)
+    (either NotEight (not free) (λ e. omega arith)
+    (either NotEight (not fits) (λ e. omega arith)
+    (either NotEight spent (λ e. omega arith) (λ e. omega arith)))))
+
 module _ (t : Tables) (q : ℕ) where
   pub write-number : (mask : ℕ) (setpoints : List ℕ) → NotEight (writeRefusal q mask setpoints t)
   unfolding writeRefusal
   write-number mask setpoints =
       either NotEight (not (sound t)) (λ e. omega arith)
-      (either NotEight (leb (clientsOf t) q) (λ e. omega arith)
-      (either NotEight (eqb (methodOf t) 1 && eqb q 0) (λ e. omega arith)
-      (either NotEight (not (eqb (stateOf t q) idle)) (λ e. omega arith)
-      (either NotEight (not (maskWithin mask (serversOf t) && eqb (length setpoints) (serversOf t))) (λ e. omega arith)
-      (either NotEight (leb recordPlaces (writesOf t) || atLastStep t) (λ e. omega arith) (λ e. omega arith))))))
+      (begin-number (leb (clientsOf t) q) (eqb (methodOf t) 1 && eqb q 0) (eqb (stateOf t q) idle) (maskWithin mask (serversOf t) && eqb (length setpoints) (serversOf t)) (leb recordPlaces (writesOf t) || atLastStep t))
 
   pub read-number : (mask : ℕ) → NotEight (readRefusal q mask t)
   unfolding readRefusal
   read-number mask =
       either NotEight (not (sound t)) (λ e. omega arith)
-      (either NotEight (leb (clientsOf t) q) (λ e. omega arith)
-      (either NotEight (eqb (methodOf t) 1 && not (eqb q 0)) (λ e. omega arith)
-      (either NotEight (not (eqb (stateOf t q) idle)) (λ e. omega arith)
-      (either NotEight (not (maskWithin mask (serversOf t))) (λ e. omega arith)
-      (either NotEight (leb recordPlaces (readsOf t) || atLastStep t) (λ e. omega arith) (λ e. omega arith))))))
+      (begin-number (leb (clientsOf t) q) (eqb (methodOf t) 1 && not (eqb q 0)) (eqb (stateOf t q) idle) (maskWithin mask (serversOf t)) (leb recordPlaces (readsOf t) || atLastStep t))
 
   pub delivery-number : (i : ℕ) → NotEight (deliveryRefusal q i t)
   unfolding deliveryRefusal
