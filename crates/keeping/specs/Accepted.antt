@@ -6,7 +6,7 @@ use mathlib.Core.List.{List}
 use native.Mathlib.Omega.{arith}
 use lib.ListN.{length}
 use lib.Dec.{eqb, leb, ltb}
-use borrow.Author.Tests.{eq-eqb, ne-eqb, eqb-true, ltb-true, leb-false, not-false}
+use borrow.Author.Tests.{eqb-true, ltb-true, leb-false, not-false}
 use Rattle.ranges.specs.Tests.{by-test, both-left, both-right}
 use Rattle.keys.specs.Masks.{maskWithin, Within, within-true}
 use Rattle.tables.specs.Layout.{lastStep, recordPlaces}
@@ -15,7 +15,9 @@ use Rattle.tables.specs.Tables.{Tables, methodOf, serversOf, clientsOf, stepOf,
 use Rattle.rules.specs.Common.{idle, coordinator}
 use Rattle.soundness.specs.Sound.{longEnough, pressFits, holding, sound}
 use Rattle.soundness.specs.Facts.{Long, long-facts, Press, press-facts, Sound}
+use Rattle.soundness.specs.Room.{few-servers, server-fits}
 use Rattle.refusals.specs.Refusals.{openRefusal, beginFault, writeRefusal, readRefusal, deliveryRefusal, isTarget, atLastStep}
+use Rattle.keeping.specs.States.{holding-log, holding-server}
 
 -- a cause that is a failed test is absent: the test passed, and no later cause refuses
 has : (b : Bool) (n rest : ℕ) → cond (not b) (suc n) rest ≡ 0 → (b ≡ true) × (rest ≡ 0)
@@ -142,20 +144,20 @@ module _ (q i : ℕ) (t : Tables) where
       let n = neither (leb (clientsOf t) q) (not (isTarget t i)) (b .0) in
       record { client = leb-false _ _ (n .0); target = not-false _ (n .1); early = leb-false _ _ (lacks (atLastStep t) 6 0 (b .1) .0) }
 
-  -- a target is a server or the coordinator
-  by-target : {C : Type 0} → Deliverable q i t → (i < serversOf t → C) → (i ≡ coordinator → C) → C
-  by-target d server head =
+-- A target is a server or the coordinator.
+module _ (t : Tables) (s : Sound t) (i : ℕ) (target : isTarget t i ≡ true) where
+  pub by-target : {C : Type 0} → (i < serversOf t → C) → (i ≡ coordinator → C) → C
+  by-target server other =
       by-test (ltb i (serversOf t))
       (λ b. server (ltb-true _ _ b))
-      (λ b. head (eqb-true i coordinator (rw b at (d .target))))
+      (λ b. other (eqb-true i coordinator (rw b at target)))
 
-  module _ (s : Sound t) (d : Deliverable q i t) where
-    pub target-below : i < targets
-    target-below = by-target d (λ h. omega (arith, s .scalars .press .servers .most)) (λ e. omega arith)
+  pub target-below : i < targets
+  target-below = by-target (λ h. omega (arith, few-servers t s)) (λ e. omega arith)
 
-    -- a target holds something, the opening's at least
-    pub holding-some : 1 ≤ holding t i
-    holding-some =
-        by-target d
-        (λ h. let few : i < 16 = omega (arith, s .scalars .press .servers .most) in rw (ne-eqb i coordinator (λ e. omega arith)) (s .server i h .held .least))
-        (λ e. rw (eq-eqb i coordinator e) (s .scalars .entries .least))
+  -- it holds something, the opening's at least
+  pub holding-some : 1 ≤ holding t i
+  holding-some =
+      by-target
+      (λ h. rw (holding-server t i (λ e. omega (arith, server-fits t s i h))) (s .server i h .held .least))
+      (λ e. rw (holding-log t i e) (s .scalars .entries .least))

@@ -10,7 +10,7 @@ use Rattle.ranges.specs.Tests.{by-equal}
 use Rattle.keys.specs.declared.Key.{Key}
 use Rattle.keys.specs.Keys.{keyWord}
 use Rattle.keys.specs.Masks.{Within}
-use Rattle.tables.specs.Rows.{HasRow, word-same, word-other, row-same, row-other, row-length}
+use Rattle.tables.specs.Rows.{word-same, word-other, row-same, row-other, row-length}
 use Rattle.tables.specs.Layout.{countAt, entriesField, heldField, serverPlaces, logPlaces, versionWord, entryWidth, recordWord, clientOfRecord, numberOfRecord, tagOfRecord, putEntry, clientsField, methodField, readsField, serversField, stepField, writesField}
 use Rattle.tables.specs.Tables.{Tables, serversOf, clientsOf, stepOf, entriesOf, writesOf, heldOf, recordOf}
 use Rattle.server.specs.Held.{stored}
@@ -18,6 +18,7 @@ use Rattle.coordinator.specs.Log.{enterLeft}
 use Rattle.rules.specs.Request.{storedBy, enteredBy}
 use Rattle.soundness.specs.Sound.{keyInRange}
 use Rattle.soundness.specs.Facts.{EntryFacts, WriteFacts, Sound}
+use Rattle.soundness.specs.Room.{server-fits, keys-row, next-entry}
 use Rattle.keeping.specs.Frame.{Numbers, Grows, Kept, kept, client-kept, write-kept, read-kept}
 use Rattle.keeping.specs.Records.{tagged-word, tagged-other, tagged-here, tagged-open, open-kept}
 
@@ -27,9 +28,6 @@ module _ (q i : ℕ) (key : Key) (setpoint : ℕ) (t : Tables) (s : Sound t) (cl
   abbrev after : Tables
   after = storedBy (stored (t .counts) (t .keys) (t .values) i key setpoint) t
 
-  few : i < 16
-  few = omega (arith, s .scalars .press .servers .most)
-
   same : (f : ℕ) → (f ≡ heldField + i → ⊥) → countAt (after .counts) f ≡ countAt (t .counts) f
   same f d = getD-set-other (t .counts) (heldField + i) f _ 0 d
 
@@ -37,7 +35,7 @@ module _ (q i : ℕ) (key : Key) (setpoint : ℕ) (t : Tables) (s : Sound t) (cl
   stored-step = same stepField (λ e. omega arith)
 
   one-more : heldOf after i ≡ heldOf t i + 1
-  one-more = getD-set-same (t .counts) (heldField + i) _ 0 (omega (arith, few, s .long .counts))
+  one-more = getD-set-same (t .counts) (heldField + i) _ 0 (omega (arith, server-fits t s i server, s .long .counts))
 
   held-other : (j : ℕ) → (j ≡ i → ⊥) → heldOf after j ≡ heldOf t j
   held-other j d = same (heldField + j) (λ e. d (omega arith))
@@ -77,7 +75,7 @@ module _ (q i : ℕ) (key : Key) (setpoint : ℕ) (t : Tables) (s : Sound t) (cl
       let z : heldOf t j ≡ heldOf t i = rw e in
       let y : heldOf after j ≡ heldOf after i = rw e in
       let here : place ≡ heldOf t i = omega (arith, one-more) in
-      rw (e, here, word-same serverPlaces (t .keys) i (heldOf t i) (keyWord key) (omega (arith, s .long .keys)) room) good)
+      rw (e, here, word-same serverPlaces (t .keys) i (heldOf t i) (keyWord key) (keys-row t s i server) room) good)
       (λ d. let z : ⊥ = omega (arith, held-other j d) in absurd z)
 
   pub stored-kept : Kept q t after
@@ -146,7 +144,7 @@ module _ (q : ℕ) (key : Key) (mask : ℕ) (t : Tables) (s : Sound t) (client :
   new-entry : (tag : ℕ) → entriesOf t ≤ tag → tag < entriesOf longer → EntryFacts longer tag
   new-entry tag h l =
       let here : tag ≡ entriesOf t = omega (arith, entry-more) in
-      let has : HasRow entryWidth (t .log) (entriesOf t) = omega (arith, s .long .log) in
+      let has = next-entry t s room in
       rw here (record {
         key = rw (alike clientsField (λ e. omega arith), row-same entryWidth (t .log) (entriesOf t) row 0 has (omega arith) (omega arith)) good;
         mask = rw (alike serversField (λ e. omega arith), row-same entryWidth (t .log) (entriesOf t) row 1 has (omega arith) (omega arith)) within;

@@ -1,5 +1,5 @@
 -- An accepted begin of a READ keeps sound tables sound, by each method: the client sends a round, and its record stands in the next place.
-use Prim.Native.Nat.{ℕ, _+_, _*_, _≤_, _<_}
+use Prim.Native.Nat.{ℕ, _+_, _≤_, _<_}
 use mathlib.Core.Path.{_≡_, refl, sym, _∙_}
 use mathlib.Core.Bool.{true, false, not, _&&_, _||_, or-true, or-false}
 use mathlib.Core.List.{List, [], _∷_}
@@ -21,6 +21,8 @@ use Rattle.rules.specs.Common.{askingKeys, askingSetpoints, askingAll, coordina
 use Rattle.rules.specs.Begin.{lastTag, sentGets, sendAsk, sentAsks, asking, begunReadWith, begunRead}
 use Rattle.soundness.specs.Sound.{isWriting, isReading, uses}
 use Rattle.soundness.specs.Facts.{ClientFacts, ReadFacts, RecordsFacts, Sound}
+use Rattle.soundness.specs.Asked.{LinksThere}
+use Rattle.soundness.specs.Room.{few-servers, client-row, client-links, link-row, next-read}
 use Rattle.refusals.specs.Refusals.{readRefusal}
 use Rattle.keeping.specs.Accepted.{neither, Beginnable, readable}
 use Rattle.keeping.specs.Links.{linkWord, put-same, put-other, put-beside}
@@ -45,13 +47,10 @@ module _ (q mask : ℕ) (puts : List Put) (links′ : List ℕ) (t : Tables) (s 
   same-writes = begun-other readsField (t .counts) (s .long .counts) (omega arith) (λ e. omega arith) writesField (λ e. omega arith) (λ e. omega arith)
 
   record-room : HasRow recordWidth (t .reads) (readsOf t)
-  record-room = omega (arith, s .long .reads)
-
-  row-room : HasRow clientWidth (t .clients) q
-  row-room = omega (arith, s .long .clients, b .client)
+  record-room = next-read t s few
 
   word : (g : ℕ) → g < clientWidth → clientWord (after .clients) q g ≡ lastPut puts (clientWord (t .clients) q g) g
-  word g h = put-read q puts (t .clients) g (clientWord (t .clients) q g) row-room inside h refl
+  word g h = put-read q puts (t .clients) g (clientWord (t .clients) q g) (client-row t s q (b .client)) inside h refl
 
   none-received : (i : ℕ) → i < targets → receivedOf after q i ≡ 0
   none-received i h = put-before q puts (t .clients) setpointsField (receivedField + i) low (omega arith) ∙ received-none t q i (not-all t q i (λ e. omega (arith, b .free))) (s .client q (b .client) .received i h)
@@ -130,11 +129,11 @@ module _ (q mask : ℕ) (t : Tables) (s : Sound t) (b : Beginnable q mask t) (fe
   abbrev k : ℕ
   k = serversOf t
 
-  servers-few : k ≤ 16
-  servers-few = s .scalars .press .servers .most
+  servers-few : k ≤ targets
+  servers-few = omega (arith, few-servers t s)
 
-  link-room : linkWidth * (targets * q + targets) ≤ length (t .links)
-  link-room = omega (arith, s .long .links, b .client)
+  links-room : LinksThere (t .links) q
+  links-room = client-links t s q (b .client)
 
   c : ClientFacts t q
   c = s .client q (b .client)
@@ -165,15 +164,15 @@ module _ (q mask : ℕ) (t : Tables) (s : Sound t) (b : Beginnable q mask t) (fe
     movesA : Moves q t afterA
     movesA =
         begun-moves q mask putsA linksA t s b few refl refl
-        (λ p i f d h g. sent-others q k (hasServer mask) get (t .links) (omega (arith, servers-few)) link-room f g p i d h)
-        (sent-length q k (hasServer mask) get (t .links) (omega (arith, servers-few)) link-room)
+        (λ p i f d h g. sent-others q k (hasServer mask) get (t .links) servers-few links-room f g p i d h)
+        (sent-length q k (hasServer mask) get (t .links) servers-few links-room)
 
     last-within : lastTag t < entriesOf t
     last-within = omega (arith, s .scalars .entries .least)
 
     sentA : Sent afterA q
     sentA =
-        gets-sent q mask (lastTag t) (t .links) t afterA s (moves-numbers q t afterA movesA) (b .client) last-within (b .masked) empty link-room refl (wordA stateField (omega arith)) (wordA maskField (omega arith))
+        gets-sent q mask (lastTag t) (t .links) t afterA s (moves-numbers q t afterA movesA) (b .client) last-within (b .masked) empty links-room refl (wordA stateField (omega arith)) (wordA maskField (omega arith))
         (allowed-by-A (methodOf t) q part reader)
         (rw (wordA countField (omega arith)) counted)
         (rw (wordA tagField (omega arith), same-entries q t afterA movesA) last-within)
@@ -208,16 +207,16 @@ module _ (q mask : ℕ) (t : Tables) (s : Sound t) (b : Beginnable q mask t) (fe
         let n = moves-numbers q t afterB movesB in
         let state = wordB stateField (omega arith) in
         let masked = wordB maskField (omega arith) in
-        let head : (i : ℕ) → uses (stateOf afterB q) (maskOf afterB q) i ≡ eqb i coordinator = λ i. rw (state, masked) (uses-keys mask i) in
+        let used : (i : ℕ) → uses (stateOf afterB q) (maskOf afterB q) i ≡ eqb i coordinator = λ i. rw (state, masked) (uses-keys mask i) in
         record {
           allowed = rw (n .method, state) (allowed-by-B (methodOf t) q part);
           count = rw (state, wordB countField (omega arith)) (record { least = omega arith; most = counted });
           mask = rw (masked, n .servers) (b .masked);
           tag = rw (wordB tagField (omega arith), same-entries q t afterB movesB) (c .tag);
-          some = (coordinator, omega arith, head coordinator);
-          asked = λ i h u. let e = eqb-true i coordinator (sym (head i) ∙ u) in rw e (put-same (t .links) q coordinator ask 0 (omega (arith, link-room)) (omega arith));
+          some = (coordinator, omega arith, used coordinator);
+          asked = λ i h u. let e = eqb-true i coordinator (sym (used i) ∙ u) in rw e (put-same (t .links) q coordinator ask 0 (link-row t s q (b .client) coordinator (omega arith)) (omega arith));
           good = λ i h u. rw state (request-keys afterB q _ _);
-          rest = λ i h u. put-beside (t .links) q coordinator ask i 0 (eqb-false i coordinator (sym (head i) ∙ u)) (omega arith) ∙ empty i h;
+          rest = λ i h u. put-beside (t .links) q coordinator ask i 0 (eqb-false i coordinator (sym (used i) ∙ u)) (omega arith) ∙ empty i h;
           received = none-received q mask putsB linksB t s b few refl refl;
         }
 
@@ -243,28 +242,28 @@ module _ (q mask : ℕ) (t : Tables) (s : Sound t) (b : Beginnable q mask t) (fe
     wordC = word q mask putsC linksC t s b few refl refl
 
     asks-length : length asks ≡ length (t .links)
-    asks-length = sent-length q k (hasServer mask) (λ j. ask) (t .links) (omega (arith, servers-few)) link-room
+    asks-length = sent-length q k (hasServer mask) (λ j. ask) (t .links) servers-few links-room
 
     movesC : Moves q t afterC
     movesC =
         begun-moves q mask putsC linksC t s b few refl refl
-        (λ p i f d h g. put-other asks q coordinator ask p i f (omega arith) h (λ e. d (e .0)) g ∙ sent-others q k (hasServer mask) (λ j. ask) (t .links) (omega (arith, servers-few)) link-room f g p i d h)
+        (λ p i f d h g. put-other asks q coordinator ask p i f (omega arith) h (λ e. d (e .0)) g ∙ sent-others q k (hasServer mask) (λ j. ask) (t .links) servers-few links-room f g p i d h)
         (link-length asks q coordinator ask ∙ asks-length)
 
     -- a link used holds a request: the coordinator's, or a masked server's
     askedC : (i : ℕ) → (hasServer mask i || eqb i coordinator) ≡ true → linkWord linksC q i 0 ≡ 1
     askedC i u =
         by-equal i coordinator
-        (λ e. rw e (put-same asks q coordinator ask 0 (rw asks-length (omega (arith, link-room))) (omega arith)))
+        (λ e. rw e (put-same asks q coordinator ask 0 (rw asks-length (link-row t s q (b .client) coordinator (omega arith))) (omega arith)))
         (λ d. let has-i : hasServer mask i ≡ true = rw (ne-eqb i coordinator d, or-false (hasServer mask i)) at u in
         put-beside asks q coordinator ask i 0 d (omega arith)
-        ∙ sent-there q k (hasServer mask) (λ j. ask) (t .links) (omega (arith, servers-few)) link-room 0 (omega arith) i (masked-below mask k i (b .masked .below) has-i) has-i)
+        ∙ sent-there q k (hasServer mask) (λ j. ask) (t .links) servers-few links-room 0 (omega arith) i (masked-below mask k i (b .masked .below) has-i) has-i)
 
     restC : (i : ℕ) → i < targets → (hasServer mask i || eqb i coordinator) ≡ false → linkWord linksC q i 0 ≡ 0
     restC i h u =
         let x = neither (hasServer mask i) (eqb i coordinator) u in
         put-beside asks q coordinator ask i 0 (eqb-false i coordinator (x .1)) (omega arith)
-        ∙ (sent-not q k (hasServer mask) (λ j. ask) (t .links) (omega (arith, servers-few)) link-room 0 (omega arith) i (x .0) ∙ empty i h)
+        ∙ (sent-not q k (hasServer mask) (λ j. ask) (t .links) servers-few links-room 0 (omega arith) i (x .0) ∙ empty i h)
 
     sentC : Sent afterC q
     sentC =

@@ -4,7 +4,7 @@ use mathlib.Core.Path.{_≡_, refl, sym, _∙_}
 use mathlib.Core.Bool.{true, false, _&&_}
 use mathlib.Core.List.{List, [], _∷_}
 use native.Mathlib.Omega.{arith}
-use lib.ListN.{getD, length}
+use lib.ListN.{getD}
 use lib.Dec.{eqb}
 use Rattle.ranges.specs.Tests.{by-equal}
 use Rattle.ranges.specs.Sum.{sumBelow, sum-set, sum-part}
@@ -19,6 +19,8 @@ use Rattle.rules.specs.Common.{writing, request, begunCounts, begunRecords}
 use Rattle.rules.specs.Begin.{nextCount, storedSetpoints, sentSets, begunWrite}
 use Rattle.soundness.specs.Sound.{isWriting, isReading, uses}
 use Rattle.soundness.specs.Facts.{ClientFacts, WriteFacts, RecordsFacts, Sound}
+use Rattle.soundness.specs.Asked.{LinksThere}
+use Rattle.soundness.specs.Room.{few-servers, client-fits, client-row, client-links, next-write}
 use Rattle.refusals.specs.Refusals.{writeRefusal}
 use Rattle.keeping.specs.Accepted.{Beginnable, writable}
 use Rattle.keeping.specs.Links.{linkWord}
@@ -42,7 +44,7 @@ module _ (q mask : ℕ) (clients′ links′ : List ℕ) (t : Tables) (s : Sound
   same-reads = begun-other writesField (t .counts) (s .long .counts) (omega arith) (λ e. omega arith) readsField (λ e. omega arith) (λ e. omega arith)
 
   record-room : HasRow recordWidth (t .writes) (writesOf t)
-  record-room = omega (arith, s .long .writes)
+  record-room = next-write t s few
 
   -- counts are few, since all together are
   next-few : nextCount t q ≤ 255
@@ -99,25 +101,25 @@ module _ (q mask : ℕ) (setpoints : List ℕ) (t : Tables) (s : Sound t) (b : B
       (sentSets q mask (keyOf (nextCount t q) q) setpoints (serversOf t) (t .links))
       t s b few
 
-  servers-few : serversOf t ≤ 16
-  servers-few = s .scalars .press .servers .most
+  servers-few : serversOf t ≤ targets
+  servers-few = omega (arith, few-servers t s)
 
-  row-room : HasRow clientWidth (t .clients) q
-  row-room = omega (arith, s .long .clients, b .client)
+  setpoints-room : setpointsField + serversOf t ≤ receivedField
+  setpoints-room = omega (arith, few-servers t s)
 
-  link-room : linkWidth * (targets * q + targets) ≤ length (t .links)
-  link-room = omega (arith, s .long .links, b .client)
+  links-room : LinksThere (t .links) q
+  links-room = client-links t s q (b .client)
 
   spared : (p g : ℕ) → g < clientWidth → ((p ≡ q) × (setpointsField ≤ g) × (g < setpointsField + serversOf t) → ⊥) → clientWord (after .clients) p g ≡ clientWord (putAll puts q (t .clients)) p g
-  spared p g h d = loop-other q setpointsField (serversOf t) (omega (arith, servers-few)) (λ i. true) (λ i. getD setpoints i 0) (putAll puts q (t .clients)) p g h d
+  spared p g h d = loop-other q setpointsField (serversOf t) (omega (arith, setpoints-room)) (λ i. true) (λ i. getD setpoints i 0) (putAll puts q (t .clients)) p g h d
 
   word : (g : ℕ) → g < setpointsField → clientWord (after .clients) q g ≡ lastPut puts (clientWord (t .clients) q g) g
-  word g h = spared q g (omega arith) (λ y. omega (arith, y .1)) ∙ put-read q puts (t .clients) g (clientWord (t .clients) q g) row-room refl (omega arith) refl
+  word g h = spared q g (omega arith) (λ y. omega (arith, y .1)) ∙ put-read q puts (t .clients) g (clientWord (t .clients) q g) (client-row t s q (b .client)) refl (omega arith) refl
 
   none-received : (i : ℕ) → i < targets → receivedOf after q i ≡ 0
   none-received i h =
       let c = s .client q (b .client) in
-      spared q (receivedField + i) (omega arith) (λ y. omega (arith, y .2, servers-few))
+      spared q (receivedField + i) (omega arith) (λ y. omega (arith, y .2, setpoints-room))
       ∙ (put-before q puts (t .clients) setpointsField (receivedField + i) refl (omega arith) ∙ received-none t q i (not-all t q i (λ e. omega (arith, b .free))) (c .received i h))
 
   -- the request to a server: the key and its setpoint
@@ -125,10 +127,10 @@ module _ (q mask : ℕ) (setpoints : List ℕ) (t : Tables) (s : Sound t) (b : B
   set i = request (keyOf (nextCount t q) q) (getD setpoints i 0)
 
   sent : (i f : ℕ) → f < linkWidth → i < serversOf t → hasServer mask i ≡ true → linkWord (after .links) q i f ≡ getD (contentWords (set i)) f 0
-  sent i f g h e = sent-there q (serversOf t) (hasServer mask) set (t .links) (omega (arith, servers-few)) link-room f g i h e
+  sent i f g h e = sent-there q (serversOf t) (hasServer mask) set (t .links) servers-few links-room f g i h e
 
   unsent : (i f : ℕ) → f < linkWidth → hasServer mask i ≡ false → linkWord (after .links) q i f ≡ linkWord (t .links) q i f
-  unsent i f g e = sent-not q (serversOf t) (hasServer mask) set (t .links) (omega (arith, servers-few)) link-room f g i e
+  unsent i f g e = sent-not q (serversOf t) (hasServer mask) set (t .links) servers-few links-room f g i e
 
   begun-moves : Moves q t after
   begun-moves =
@@ -138,11 +140,11 @@ module _ (q mask : ℕ) (setpoints : List ℕ) (t : Tables) (s : Sound t) (b : B
         values = refl;
         log = refl;
         row = λ p f d h. spared p f h (λ y. d (y .0)) ∙ put-elsewhere q puts (t .clients) p f refl h d;
-        link = λ p i f d h g. sent-others q (serversOf t) (hasServer mask) set (t .links) (omega (arith, servers-few)) link-room f g p i d h;
+        link = λ p i f d h g. sent-others q (serversOf t) (hasServer mask) set (t .links) servers-few links-room f g p i d h;
         lengths = record {
           counts = begun-length writesField (t .counts) (s .long .counts) (omega arith) (λ z. omega arith);
-          clients = loop-length q setpointsField (serversOf t) (omega (arith, servers-few)) (λ i. true) (λ i. getD setpoints i 0) (putAll puts q (t .clients)) ∙ put-length q puts (t .clients);
-          links = sent-length q (serversOf t) (hasServer mask) set (t .links) (omega (arith, servers-few)) link-room;
+          clients = loop-length q setpointsField (serversOf t) (omega (arith, setpoints-room)) (λ i. true) (λ i. getD setpoints i 0) (putAll puts q (t .clients)) ∙ put-length q puts (t .clients);
+          links = sent-length q (serversOf t) (hasServer mask) set (t .links) servers-few links-room;
           keys = refl;
           values = refl;
           log = refl;
@@ -158,6 +160,7 @@ module _ (q mask : ℕ) (setpoints : List ℕ) (t : Tables) (s : Sound t) (b : B
       let state = word stateField (omega arith) in
       let masked = word maskField (omega arith) in
       let small = next-few q mask (t .clients) (t .links) t s b few in
+      let fits = client-fits t s q (b .client) in
       let has : (i : ℕ) → uses (stateOf after q) (maskOf after q) i ≡ hasServer mask i = λ i. rw (state, masked) (uses-writing mask i) in
       let below : (i : ℕ) → hasServer mask i ≡ true → i < serversOf t = λ i e. masked-below mask (serversOf t) i (b .masked .below) e in
       record {
@@ -170,7 +173,7 @@ module _ (q mask : ℕ) (setpoints : List ℕ) (t : Tables) (s : Sound t) (b : B
         good = λ i h u.
             let e = sym (has i) ∙ u in
             rw (state, sent i 1 (omega arith) (below i e) e, request-writing)
-            (key-own (clientsOf t) q (nextCount t q * 256 + q) (record { least = omega arith; most = omega (arith, small, b .client, s .scalars .press .clients .most) }) (omega (arith, b .client, s .scalars .press .clients .most)));
+            (key-own (clientsOf t) q (nextCount t q * 256 + q) (record { least = omega arith; most = omega (arith, small, fits) }) (omega (arith, fits)));
         rest = λ i h u. unsent i 0 (omega arith) (sym (has i) ∙ u) ∙ idle-empty t q i c (b .free) h;
         received = none-received;
       }

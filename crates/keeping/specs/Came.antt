@@ -18,12 +18,12 @@ use Rattle.rules.specs.Common.{idle, askingAll, coordinator, pending}
 use Rattle.rules.specs.Reply.{emptied, receivedIn}
 use Rattle.soundness.specs.Sound.{uses, receivedSound}
 use Rattle.soundness.specs.Facts.{ClientFacts, Sound}
+use Rattle.soundness.specs.Room.{client-row, link-row}
 use Rattle.keeping.specs.Links.{linkWord, kindOn, LinkAsks, link-asks, put-same, put-other, put-beside}
 use Rattle.keeping.specs.States.{received-none, not-all}
 use Rattle.keeping.specs.Frame.{Kept, link-kept, received-kept}
 use Rattle.keeping.specs.Moves.{Moves, moves-numbers, same-entries}
 use Rattle.keeping.specs.Rounds.{link-empty, unused-empty}
-use Rattle.keeping.specs.Requests.{link-row}
 use Rattle.keeping.specs.Replied.{repliedTables, Moving, going-moves, going-kept}
 
 -- A reply stands on link (q, i), of a client and a target that are there.
@@ -45,7 +45,7 @@ module _ {q i : ℕ} {t : Tables} (a : Came q i t) where
   used = asks .used (λ e. omega (arith, a .kind))
 
   pub row-room : HasRow clientWidth (t .clients) q
-  row-room = omega (arith, a .sound .long .clients, a .client)
+  row-room = client-row t (a .sound) q (a .client)
 
   pub busy : (stateOf t q ≡ idle → ⊥) → Within (maskOf t q) (serversOf t)
   busy e = record { some = facts .masked e; below = facts .mask }
@@ -54,7 +54,7 @@ module _ {q i : ℕ} {t : Tables} (a : Came q i t) where
   rest = emptied q i t
 
   pub gone : linkWord rest q i 0 ≡ 0
-  gone = put-same (t .links) q i Nothing 0 (link-row t q i (a .sound) (a .client) (a .target)) (omega arith)
+  gone = put-same (t .links) q i Nothing 0 (link-row t (a .sound) q (a .client) i (a .target)) (omega arith)
 
   pub beside : (j f : ℕ) → (j ≡ i → ⊥) → f < linkWidth → linkWord rest q j f ≡ linkWord (t .links) q j f
   beside j f e g = put-beside (t .links) q i Nothing j f e g
@@ -72,13 +72,13 @@ module _ {q i : ℕ} {t : Tables} (a : Came q i t) where
   pub received-zero : (stateOf t q ≡ askingAll → ⊥) → (j : ℕ) → j < targets → receivedOf t q j ≡ 0
   received-zero e j h = received-none t q j (not-all t q j e) (facts .received j h)
 
-  -- where only the head's link is in use, nothing is left
-  pub head-only : ((j : ℕ) → uses (stateOf t q) (maskOf t q) j ≡ eqb j coordinator) → (j : ℕ) → j < targets → linkWord rest q j 0 ≡ 0
-  head-only head j h =
+  -- where only the coordinator's link is in use, nothing is left
+  pub none-beside : ((j : ℕ) → uses (stateOf t q) (maskOf t q) j ≡ eqb j coordinator) → (j : ℕ) → j < targets → linkWord rest q j 0 ≡ 0
+  none-beside only j h =
       by-equal j i
       (λ e. rw e gone)
-      (λ e. let here : i ≡ coordinator = eqb-true i coordinator (sym (head i) ∙ used) in
-      beside j 0 e (omega arith) ∙ unused-empty t q j (facts .link j h) (head j ∙ ne-eqb j coordinator (λ z. e (z ∙ sym here))))
+      (λ e. let here : i ≡ coordinator = eqb-true i coordinator (sym (only i) ∙ used) in
+      beside j 0 e (omega arith) ∙ unused-empty t q j (facts .link j h) (only j ∙ ne-eqb j coordinator (λ z. e (z ∙ sym here))))
 
   -- "wait": replies are still to come. The row stays but for a setpoint or an n.
   module _ (clients′ : List ℕ) (v : Moving q clients′ rest t) (same : (f : ℕ) → f < setpointsField → clientWord clients′ q f ≡ clientWord (t .clients) q f)

@@ -16,6 +16,7 @@ use Rattle.tables.specs.Tables.{Tables, methodOf, serversOf, clientsOf, stepOf,
 use Rattle.rules.specs.Common.{entering, askingKeys, askingAll, coordinator}
 use Rattle.soundness.specs.Sound.{between, uses, holding, keyInRange, requestSound, replySound, receivedSound}
 use Rattle.soundness.specs.Facts.{Between, between-facts, facts-between, Long, Press, ServerFacts, EntryFacts, LogFacts, LinkFacts, ClientFacts, WriteFacts, ReadFacts, RecordsFacts, Sound}
+use Rattle.soundness.specs.Room.{server-fits}
 use Rattle.keeping.specs.Links.{linkWord, empty-same-words, pending-same, link-asks, asks-link}
 
 -- The press stays; the log and the servers' versions only grow in number.
@@ -156,8 +157,7 @@ module _ (q : ℕ) (t t′ : Tables) (s : Sound t) (g : Grows q t t′) where
   server-kept : Renewed q t t′ → (i : ℕ) → i < serversOf t → ServerFacts t′ i
   server-kept r i h =
       let f = s .server i h in
-      let few : i < 16 = omega (arith, s .scalars .press .servers .most) in
-      let more = g .numbers .held i few in
+      let more = g .numbers .held i (server-fits t s i h) in
       record {
         held = record { least = omega (arith, f .held .least); most = r .held i h };
         first = g .key i 0 h (f .held .least) ∙ f .first;
@@ -224,7 +224,7 @@ kept-same q t s =
 -- two steps of one client, one behind the other
 module _ (q : ℕ) (t t₁ t₂ : Tables) (s : Sound t) (a : Grows q t t₁) (b : Grows q t₁ t₂) where
   held-then : (i place : ℕ) → i < serversOf t → place < heldOf t i → place < heldOf t₁ i
-  held-then i place h l = omega (arith, a .numbers .held i (omega (arith, s .scalars .press .servers .most)))
+  held-then i place h l = omega (arith, a .numbers .held i (server-fits t s i h))
 
   pub grows-then : Grows q t t₂
   grows-then =

@@ -1,10 +1,10 @@
 -- "then ask each masked station for its key": the round of gets that A sends at its begin and B when the keys arrive.
-use Prim.Native.Nat.{ℕ, _+_, _*_, _≤_, _<_}
+use Prim.Native.Nat.{ℕ, _≤_, _<_}
 use mathlib.Core.Path.{_≡_, sym, _∙_, ap}
 use mathlib.Core.Bool.{true}
 use mathlib.Core.List.{List, [], _∷_}
 use native.Mathlib.Omega.{arith}
-use lib.ListN.{getD, length}
+use lib.ListN.{getD}
 use Rattle.keys.specs.Keys.{keyWord, key-back}
 use Rattle.keys.specs.Masks.{hasServer, Within, some-server}
 use Rattle.coordinator.specs.Latest.{latestKey, latestTag}
@@ -18,6 +18,8 @@ use Rattle.rules.specs.Common.{askingSetpoints, request}
 use Rattle.rules.specs.Begin.{sentGets}
 use Rattle.soundness.specs.Sound.{keyInRange, uses, stateAllowed}
 use Rattle.soundness.specs.Facts.{Sound}
+use Rattle.soundness.specs.Asked.{LinksThere}
+use Rattle.soundness.specs.Room.{few-servers}
 use Rattle.keeping.specs.Links.{linkWord}
 use Rattle.keeping.specs.States.{masked-below, range-below, uses-setpoints, request-setpoints}
 use Rattle.keeping.specs.Frame.{Numbers}
@@ -32,14 +34,14 @@ latest-in-range t i tag s h =
 
 -- the links of the client before held nothing; t′ has the links sent, the state and the mask
 module _ (q mask tag : ℕ) (links : List ℕ) (t t′ : Tables) (s : Sound t) (n : Numbers t t′) (client : q < clientsOf t) (within : tag < entriesOf t) (masked : Within mask (serversOf t))
-    (empty : (i : ℕ) → i < targets → linkWord links q i 0 ≡ 0) (long : linkWidth * (targets * q + targets) ≤ length links)
+    (empty : (i : ℕ) → i < targets → linkWord links q i 0 ≡ 0) (long : LinksThere links q)
     (sends : t′ .links ≡ sentGets q mask (t .log) tag (serversOf t) links)
     (state : stateOf t′ q ≡ askingSetpoints) (mask′ : maskOf t′ q ≡ mask) where
   abbrev get : ℕ → Content
   get i = request (latestKey (t .log) i tag) 0
 
-  few : serversOf t ≤ 16
-  few = s .scalars .press .servers .most
+  few : serversOf t ≤ targets
+  few = omega (arith, few-servers t s)
 
   has : (i : ℕ) → uses (stateOf t′ q) (maskOf t′ q) i ≡ hasServer mask i
   has i = rw (state, mask′) (uses-setpoints mask i)
@@ -48,7 +50,7 @@ module _ (q mask tag : ℕ) (links : List ℕ) (t t′ : Tables) (s : Sound t) (
   below i e = masked-below mask (serversOf t) i (masked .below) e
 
   got : (i f : ℕ) → f < linkWidth → hasServer mask i ≡ true → linkWord (t′ .links) q i f ≡ getD (1 ∷ keyWord (latestKey (t .log) i tag) ∷ 0 ∷ []) f 0
-  got i f g e = ap (λ (xs : List ℕ). linkWord xs q i f) sends ∙ sent-there q (serversOf t) (hasServer mask) get links (omega (arith, few)) long f g i (below i e) e
+  got i f g e = ap (λ (xs : List ℕ). linkWord xs q i f) sends ∙ sent-there q (serversOf t) (hasServer mask) get links few long f g i (below i e) e
 
   pub gets-sent : stateAllowed (methodOf t) q askingSetpoints ≡ true → countOf t′ q ≤ 255 → tagOf t′ q < entriesOf t′ → ((i : ℕ) → i < targets → receivedOf t′ q i ≡ 0) → Sent t′ q
   gets-sent allowed count tagged received =
@@ -60,6 +62,6 @@ module _ (q mask tag : ℕ) (links : List ℕ) (t t′ : Tables) (s : Sound t) (
         some = let x = some-server mask (serversOf t) masked in (x .0, omega (arith, x .1, few), has (x .0) ∙ x .2);
         asked = λ i h u. got i 0 (omega arith) (sym (has i) ∙ u);
         good = λ i h u. rw (state, got i 1 (omega arith) (sym (has i) ∙ u), request-setpoints, n .clients) (latest-in-range t i tag s within);
-        rest = λ i h u. ap (λ (xs : List ℕ). linkWord xs q i 0) sends ∙ (sent-not q (serversOf t) (hasServer mask) get links (omega (arith, few)) long 0 (omega arith) i (sym (has i) ∙ u) ∙ empty i h);
+        rest = λ i h u. ap (λ (xs : List ℕ). linkWord xs q i 0) sends ∙ (sent-not q (serversOf t) (hasServer mask) get links few long 0 (omega arith) i (sym (has i) ∙ u) ∙ empty i h);
         received = received;
       }

@@ -21,9 +21,10 @@ use Rattle.rules.specs.Common.{idle, askingAll, coordinator, pending}
 use Rattle.rules.specs.Choice.{qualifies}
 use Rattle.rules.specs.Reply.{emptied, receivedIn, setpointAt, keepSetpoint, forget, tagChosen, endedByC, onAll}
 use Rattle.soundness.specs.Sound.{uses, holding, keyOn}
-use Rattle.soundness.specs.Facts.{Between, between-facts}
+use Rattle.soundness.specs.Facts.{Between}
+use Rattle.soundness.specs.Room.{few-servers}
 use Rattle.keeping.specs.Links.{kindOn, numberOn, kind-empty, none-pending}
-use Rattle.keeping.specs.States.{arrived, received-some, some-received, uses-all, reply-all}
+use Rattle.keeping.specs.States.{holding-log, arrived, received-some, some-received, uses-all, all-told}
 use Rattle.keeping.specs.Frame.{Kept}
 use Rattle.keeping.specs.Moves.{moves-numbers, same-entries, same-holding}
 use Rattle.keeping.specs.Rows.{put, Put, putAll, lastPut, put-read, put-before, put-skip, put-elsewhere, put-length, loop-other, loop-there, loop-length}
@@ -51,7 +52,7 @@ module _ (q i : ℕ) (t : Tables) (a : Came q i t) (state : stateOf t q ≡ aski
   n-inside = lt-ltb (receivedField + i) clientWidth (omega (arith, a .target))
 
   n-between : Between 1 number (holding t i)
-  n-between = between-facts 1 number (holding t i) (rw (state, reply-all) at (asks a .reply (a .kind)))
+  n-between = all-told t i number (rw state at (asks a .reply (a .kind)))
 
   n-low : (f : ℕ) → f < receivedField → clientWord row q f ≡ clientWord (t .clients) q f
   n-low f h = put-skip q gotN (t .clients) f (λ e. omega arith, tt)
@@ -77,13 +78,13 @@ module _ (q i : ℕ) (t : Tables) (a : Came q i t) (state : stateOf t q ≡ aski
       waiting-kept a row n-moving (λ f h. n-low f (omega arith)) (λ j h e. n-beside j e) more
       (some-received after q i here (rw (n-here, held) n-between))
 
-  -- all replies are in: the number of log entries received is that of the head's reply, now or before
+  -- all replies are in: the number of log entries received is that of the coordinator's reply, now or before
   module _ (none : pending rest q ≡ false) where
     log-received : Between 1 (receivedIn row q coordinator) (entriesOf t)
     log-received =
         by-equal i coordinator
         (λ e.
-        let all : holding t i ≡ entriesOf t = rw (eq-eqb i coordinator e) in
+        let all = holding-log t i e in
         rw (sym (ap (receivedIn row q) e) ∙ n-here) (record { least = n-between .least; most = omega (arith, n-between .most) }))
         (λ d′.
         let e : coordinator ≡ i → ⊥ = λ z. d′ (sym z) in
@@ -102,8 +103,8 @@ module _ (q i : ℕ) (t : Tables) (a : Came q i t) (state : stateOf t q ≡ aski
         let below : chosen < n = last-below (qualifies (t .keys) (t .log) (maskOf t q) (receivedIn row q) (serversOf t)) n (log-received .least) in
         omega (arith, log-received .most)
 
-    servers-few : serversOf t ≤ 16
-    servers-few = a .sound .scalars .press .servers .most
+    setpoints-room : setpointsField + serversOf t ≤ clientWidth
+    setpoints-room = omega (arith, few-servers t (a .sound))
 
     -- the row: setpoints stored, the n forgotten, then tag and state
     abbrev shown : List ℕ
@@ -119,13 +120,13 @@ module _ (q i : ℕ) (t : Tables) (a : Came q i t) (state : stateOf t q ≡ aski
     endRow = putAll putsEnd q forgotten
 
     shown-other : (p f : ℕ) → f < clientWidth → ((p ≡ q) × (setpointsField ≤ f) × (f < setpointsField + serversOf t) → ⊥) → clientWord shown p f ≡ clientWord row p f
-    shown-other p f h e = loop-other q setpointsField (serversOf t) (omega (arith, servers-few)) (hasServer (maskOf t q)) (setpointAt chosen row q t) row p f h e
+    shown-other p f h e = loop-other q setpointsField (serversOf t) setpoints-room (hasServer (maskOf t q)) (setpointAt chosen row q t) row p f h e
 
     forgotten-other : (p f : ℕ) → f < clientWidth → ((p ≡ q) × (receivedField ≤ f) × (f < receivedField + targets) → ⊥) → clientWord forgotten p f ≡ clientWord shown p f
     forgotten-other p f h e = loop-other q receivedField targets (omega arith) (λ j. true) (λ j. 0) shown p f h e
 
     shown-long : length shown ≡ length (t .clients)
-    shown-long = loop-length q setpointsField (serversOf t) (omega (arith, servers-few)) (hasServer (maskOf t q)) (setpointAt chosen row q t) row ∙ put-length q gotN (t .clients)
+    shown-long = loop-length q setpointsField (serversOf t) setpoints-room (hasServer (maskOf t q)) (setpointAt chosen row q t) row ∙ put-length q gotN (t .clients)
 
     forgotten-long : length forgotten ≡ length (t .clients)
     forgotten-long = loop-length q receivedField targets (omega arith) (λ j. true) (λ j. 0) shown ∙ shown-long

@@ -3,9 +3,6 @@ use Prim.Native.Nat.{ℕ, _+_, _<_}
 use mathlib.Core.Path.{_≡_, refl, _∙_}
 use mathlib.Core.List.{List, [], _∷_}
 use native.Mathlib.Omega.{arith}
-use lib.Dec.{leb, ltb}
-use borrow.Author.Tests.{ltb-true}
-use Rattle.ranges.specs.Tests.{both-right}
 use Rattle.tables.specs.Layout.{clientWidth, clientWord, countField, maskField, receivedField, setpointsField, stateField, tagField}
 use Rattle.tables.specs.Links.{contentsOf}
 use Rattle.tables.specs.Tables.{Tables, entriesOf, stateOf, maskOf}
@@ -14,13 +11,13 @@ use Rattle.rules.specs.Common.{idle, entering, askingAll}
 use Rattle.rules.specs.Reply.{emptied, onEntered}
 use Rattle.soundness.specs.Sound.{keyOn}
 use Rattle.keeping.specs.Links.{numberOn}
-use Rattle.keeping.specs.States.{uses-entering, reply-entering}
+use Rattle.keeping.specs.States.{uses-entering, entered-tag}
 use Rattle.keeping.specs.Frame.{Kept}
 use Rattle.keeping.specs.Moves.{moves-numbers, same-entries}
 use Rattle.keeping.specs.Rows.{put, Put, putAll, lastPut, put-read, put-before, put-elsewhere, put-length}
 use Rattle.keeping.specs.Rounds.{idle-client}
 use Rattle.keeping.specs.Replied.{Moving, ended-moves, ended-write-kept}
-use Rattle.keeping.specs.Came.{Came, facts, asks, row-room, elsewhere, rest-long, received-zero, head-only}
+use Rattle.keeping.specs.Came.{Came, facts, asks, row-room, elsewhere, rest-long, received-zero, none-beside}
 
 module _ (q i : ℕ) (t : Tables) (a : Came q i t) (state : stateOf t q ≡ entering) where
   abbrev w : Contents
@@ -42,7 +39,7 @@ module _ (q i : ℕ) (t : Tables) (a : Came q i t) (state : stateOf t q ≡ ente
   entered-word g h = put-read q putsEntered (t .clients) g (clientWord (t .clients) q g) (row-room a) refl h refl
 
   tag-within : number < entriesOf t
-  tag-within = ltb-true number (entriesOf t) (both-right (leb 1 number) (ltb number (entriesOf t)) (rw (state, reply-entering) at (asks a .reply (a .kind))))
+  tag-within = entered-tag t i number (rw state at (asks a .reply (a .kind))) .1
 
   pub entered-delivered : Kept q t (onEntered w q i t .tables)
   unfolding onEntered
@@ -58,6 +55,6 @@ module _ (q i : ℕ) (t : Tables) (a : Came q i t) (state : stateOf t q ≡ ente
         count = rw (entered-word countField (omega arith)) (facts a .count .most);
         mask = rw (entered-word maskField (omega arith), n .servers) (facts a .mask);
         tag = rw (entered-word tagField (omega arith), same-entries q t after m) tag-within;
-        link = head-only a (λ j. rw state (uses-entering (maskOf t q) j));
+        link = none-beside a (λ j. rw state (uses-entering (maskOf t q) j));
         received = λ j h. put-before q putsEntered (t .clients) setpointsField (receivedField + j) refl (omega arith) ∙ received-zero a not-five j h;
       }))

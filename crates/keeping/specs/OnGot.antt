@@ -9,13 +9,14 @@ use borrow.Author.Tests.{lt-ltb}
 use Rattle.ranges.specs.Tests.{by-test}
 use Rattle.tables.specs.Layout.{clientWidth, clientWord, setpointsField, receivedField, countField, maskField, stateField, tagField}
 use Rattle.tables.specs.Links.{targets, contentsOf}
-use Rattle.tables.specs.Tables.{Tables, serversOf, stateOf, maskOf, tagOf, receivedOf}
+use Rattle.tables.specs.Tables.{Tables, serversOf, stateOf, tagOf, receivedOf}
 use Rattle.tables.specs.declared.links.Contents.{Contents}
 use Rattle.rules.specs.Common.{idle, askingSetpoints, askingAll, pending}
 use Rattle.rules.specs.Reply.{emptied, receivedIn, onGot}
 use Rattle.soundness.specs.Sound.{keyOn}
+use Rattle.soundness.specs.Room.{server-fits}
 use Rattle.keeping.specs.Links.{numberOn, none-pending}
-use Rattle.keeping.specs.States.{masked-below, none-received, not-all, uses-setpoints}
+use Rattle.keeping.specs.States.{masked-server, none-received, not-all, uses-setpoints}
 use Rattle.keeping.specs.Frame.{Kept}
 use Rattle.keeping.specs.Moves.{moves-numbers, same-entries}
 use Rattle.keeping.specs.Rows.{put, Put, putAll, put-read, put-before, put-skip, put-elsewhere, put-length}
@@ -34,10 +35,10 @@ module _ (q i : ℕ) (t : Tables) (a : Came q i t) (state : stateOf t q ≡ aski
   rest = emptied q i t
 
   server : i < serversOf t
-  server = masked-below (maskOf t q) (serversOf t) i (facts a .mask) (rw (state, uses-setpoints) at (used a))
+  server = masked-server t (a .sound) q i (a .client) (rw (state, uses-setpoints) at (used a))
 
   place : setpointsField + i < receivedField
-  place = omega (arith, server, a .sound .scalars .press .servers .most)
+  place = omega (arith, server-fits t (a .sound) i server)
 
   not-all-state : stateOf t q ≡ askingAll → ⊥
   not-all-state e = omega (arith, state)

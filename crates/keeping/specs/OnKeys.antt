@@ -1,31 +1,30 @@
 -- "B: … its reply has the last tag and all k keys; then as A."
-use Prim.Native.Nat.{ℕ, _+_, _*_, _-_, _≤_, _<_}
+use Prim.Native.Nat.{ℕ, _+_, _-_, _≤_, _<_}
 use mathlib.Core.Path.{_≡_, refl, _∙_}
 use mathlib.Core.List.{List, [], _∷_}
 use native.Mathlib.Omega.{arith}
-use lib.ListN.{length}
-use borrow.Author.Tests.{eq-eqb, eqb-true}
 use Rattle.keys.specs.Masks.{hasServer}
 use Rattle.coordinator.specs.Latest.{latestKey}
 use Rattle.tables.specs.Layout.{clientWidth, clientWord, countField, maskField, receivedField, recordField, setpointsField, stateField, tagField}
-use Rattle.tables.specs.Links.{targets, linkWidth, contentsOf}
+use Rattle.tables.specs.Links.{targets, contentsOf}
 use Rattle.tables.specs.Tables.{Tables, methodOf, serversOf, entriesOf, stateOf, maskOf}
 use Rattle.tables.specs.declared.links.Contents.{Contents}
 use Rattle.tables.specs.declared.links.Content.{Content}
-use Rattle.rules.specs.Common.{askingKeys, askingSetpoints, coordinator, request}
+use Rattle.rules.specs.Common.{askingKeys, askingSetpoints, request}
 use Rattle.rules.specs.Begin.{sentGets}
 use Rattle.rules.specs.Reply.{emptied, onKeys}
-use Rattle.soundness.specs.Sound.{holding, keyOn}
-use Rattle.soundness.specs.Facts.{between-facts}
+use Rattle.soundness.specs.Sound.{keyOn}
+use Rattle.soundness.specs.Asked.{LinksThere}
+use Rattle.soundness.specs.Room.{few-servers, client-links}
 use Rattle.keeping.specs.Links.{numberOn}
-use Rattle.keeping.specs.States.{uses-keys, reply-keys, allowed-setpoints}
+use Rattle.keeping.specs.States.{uses-keys, keys-target, holding-log, keys-told, allowed-setpoints}
 use Rattle.keeping.specs.Frame.{Kept}
 use Rattle.keeping.specs.Moves.{moves-numbers, same-entries}
 use Rattle.keeping.specs.Rows.{put, Put, putAll, lastPut, put-read, put-before, put-elsewhere, put-length}
 use Rattle.keeping.specs.Rounds.{sent-client, sent-others, sent-length}
 use Rattle.keeping.specs.Gets.{gets-sent}
 use Rattle.keeping.specs.Replied.{Moving, going-moves, going-kept}
-use Rattle.keeping.specs.Came.{Came, facts, asks, used, row-room, busy, elsewhere, rest-long, received-zero, head-only}
+use Rattle.keeping.specs.Came.{Came, facts, asks, used, row-room, busy, elsewhere, rest-long, received-zero, none-beside}
 
 module _ (q i : ℕ) (t : Tables) (a : Came q i t) (state : stateOf t q ≡ askingKeys) where
   abbrev w : Contents
@@ -49,20 +48,17 @@ module _ (q i : ℕ) (t : Tables) (a : Came q i t) (state : stateOf t q ≡ aski
   abbrev gets : List ℕ
   gets = sentGets q (maskOf t q) (t .log) lastKnown (serversOf t) rest
 
-  head : i ≡ coordinator
-  head = eqb-true i coordinator (rw (state, uses-keys) at (used a))
-
   known-within : lastKnown < entriesOf t
   known-within =
-      let f = between-facts 1 number (holding t i) (rw (state, reply-keys) at (asks a .reply (a .kind))) in
-      let all : holding t i ≡ entriesOf t = rw (eq-eqb i coordinator head) in
+      let f = keys-told t i number (rw state at (asks a .reply (a .kind))) in
+      let all = holding-log t i (keys-target (maskOf t q) i (rw state at (used a))) in
       omega (arith, f .least, f .most)
 
-  rest-room : linkWidth * (targets * q + targets) ≤ length rest
-  rest-room = rw (rest-long a) (omega (arith, a .sound .long .links, a .client))
+  rest-room : LinksThere rest q
+  rest-room = rw (rest-long a) (client-links t (a .sound) q (a .client))
 
   few : serversOf t ≤ targets
-  few = omega (arith, a .sound .scalars .press .servers .most)
+  few = omega (arith, few-servers t (a .sound))
 
   keys-moving : Moving q (putAll putsKeys q (t .clients)) gets t
   keys-moving =
@@ -85,7 +81,7 @@ module _ (q i : ℕ) (t : Tables) (a : Came q i t) (state : stateOf t q ≡ aski
       let n = moves-numbers q t after m in
       going-kept q clients′ gets t (a .sound) (a .client) (a .early) keys-moving (rw (keys-word stateField (omega arith), state)) (rw (keys-word stateField (omega arith), state)) (keys-word countField (omega arith)) (keys-word recordField (omega arith))
       (sent-client after q
-      (gets-sent q (maskOf t q) lastKnown rest t after (a .sound) n (a .client) known-within (busy a (λ e. omega (arith, state))) (head-only a (λ j. rw state (uses-keys (maskOf t q) j))) rest-room refl (keys-word stateField (omega arith)) (keys-word maskField (omega arith))
+      (gets-sent q (maskOf t q) lastKnown rest t after (a .sound) n (a .client) known-within (busy a (λ e. omega (arith, state))) (none-beside a (λ j. rw state (uses-keys (maskOf t q) j))) rest-room refl (keys-word stateField (omega arith)) (keys-word maskField (omega arith))
       (allowed-setpoints (methodOf t) q (rw state at (facts a .allowed)))
       (rw (keys-word countField (omega arith)) (facts a .count .most))
       (rw (keys-word tagField (omega arith), same-entries q t after m) known-within)

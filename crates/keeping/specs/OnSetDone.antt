@@ -19,13 +19,13 @@ use Rattle.rules.specs.Common.{writing, entering, askingAll, coordinator, reque
 use Rattle.rules.specs.Reply.{emptied, onSetDone}
 use Rattle.soundness.specs.Sound.{uses, keyOn, ownKey}
 use Rattle.soundness.specs.Facts.{Between}
+use Rattle.soundness.specs.Room.{client-fits, link-row}
 use Rattle.keeping.specs.Links.{linkWord, numberOn, none-pending, put-same, put-other, put-beside}
 use Rattle.keeping.specs.States.{key-own, none-received, not-all, uses-entering, request-entering, allowed-entering}
 use Rattle.keeping.specs.Frame.{Kept}
 use Rattle.keeping.specs.Moves.{Moves, moves-numbers, same-entries}
 use Rattle.keeping.specs.Rows.{put, Put, putAll, lastPut, put-read, put-before, put-elsewhere, put-length}
 use Rattle.keeping.specs.Rounds.{Sent, sent-client}
-use Rattle.keeping.specs.Requests.{link-row}
 use Rattle.keeping.specs.Replied.{repliedTables, Moving, going-moves, going-kept}
 use Rattle.keeping.specs.Came.{Came, facts, row-room, busy, kinds, elsewhere, rest-long, received-zero, waiting-kept}
 
@@ -75,8 +75,8 @@ module _ (q i : ℕ) (t : Tables) (a : Came q i t) (state : stateOf t q ≡ writ
   next-word : (g : ℕ) → g < clientWidth → clientWord (next .clients) q g ≡ lastPut putsNext (clientWord (t .clients) q g) g
   next-word g h = put-read q putsNext (t .clients) g (clientWord (t .clients) q g) (row-room a) refl h refl
 
-  head-word : (f : ℕ) → f < linkWidth → linkWord enters q coordinator f ≡ getD (1 ∷ keyWord (keyOf (countOf t q) q) ∷ maskOf t q ∷ []) f 0
-  head-word f g = put-same rest q coordinator enter f (rw (rest-long a) (link-row t q coordinator (a .sound) (a .client) (omega arith))) g
+  enter-word : (f : ℕ) → f < linkWidth → linkWord enters q coordinator f ≡ getD (1 ∷ keyWord (keyOf (countOf t q) q) ∷ maskOf t q ∷ []) f 0
+  enter-word f g = put-same rest q coordinator enter f (rw (rest-long a) (link-row t (a .sound) q (a .client) coordinator (omega arith))) g
 
   next-sent : pending rest q ≡ false → Sent next q
   next-sent none =
@@ -84,8 +84,8 @@ module _ (q i : ℕ) (t : Tables) (a : Came q i t) (state : stateOf t q ≡ writ
       let st = next-word stateField (omega arith) in
       let mask = next-word maskField (omega arith) in
       let count : Between 1 (countOf t q) 255 = rw state at (facts a .count) in
-      let head : (j : ℕ) → uses (stateOf next q) (maskOf next q) j ≡ eqb j coordinator = λ j. rw (st, mask) (uses-entering (maskOf t q) j) in
-      let few : q < 16 = omega (arith, a .client, a .sound .scalars .press .clients .most) in
+      let only : (j : ℕ) → uses (stateOf next q) (maskOf next q) j ≡ eqb j coordinator = λ j. rw (st, mask) (uses-entering (maskOf t q) j) in
+      let fits = client-fits t (a .sound) q (a .client) in
       let word = countOf t q * 256 + q in
       let key : ownKey q word ≡ true = key-own (clientsOf t) q word (record { least = omega (arith, count .least); most = omega (arith, count .most) }) (omega arith) in
       let masked = busy a (λ e. omega (arith, state)) in
@@ -94,12 +94,12 @@ module _ (q i : ℕ) (t : Tables) (a : Came q i t) (state : stateOf t q ≡ writ
         count = rw (st, next-word countField (omega arith)) count;
         mask = rw (mask, n .servers) masked;
         tag = rw (next-word tagField (omega arith), same-entries q t next next-moves) (facts a .tag);
-        some = (coordinator, omega arith, head coordinator);
-        asked = λ j h u. rw (eqb-true j coordinator (sym (head j) ∙ u)) (head-word 0 (omega arith));
+        some = (coordinator, omega arith, only coordinator);
+        asked = λ j h u. rw (eqb-true j coordinator (sym (only j) ∙ u)) (enter-word 0 (omega arith));
         good = λ j h u.
-            rw (eqb-true j coordinator (sym (head j) ∙ u), st, head-word 1 (omega arith), head-word 2 (omega arith), request-entering next q word (maskOf t q), n .servers)
+            rw (eqb-true j coordinator (sym (only j) ∙ u), st, enter-word 1 (omega arith), enter-word 2 (omega arith), request-entering next q word (maskOf t q), n .servers)
             (both (ownKey q word) (maskWithin (maskOf t q) (serversOf t)) key (within-test (maskOf t q) (serversOf t) masked));
-        rest = λ j h u. put-beside rest q coordinator enter j 0 (eqb-false j coordinator (sym (head j) ∙ u)) (omega arith) ∙ none-pending rest q j h (kinds a j h) none;
+        rest = λ j h u. put-beside rest q coordinator enter j 0 (eqb-false j coordinator (sym (only j) ∙ u)) (omega arith) ∙ none-pending rest q j h (kinds a j h) none;
         received = λ j h. put-before q putsNext (t .clients) setpointsField (receivedField + j) refl (omega arith) ∙ received-zero a not-five j h;
       }
 

@@ -21,12 +21,11 @@ use Rattle.tables.specs.Tables.{Tables, methodOf, serversOf, clientsOf, stepOf,
 use Rattle.tables.specs.Links.{linkWidth, linkRow}
 use Rattle.rules.specs.Open.{cleared, holdOne, openedCounts, allServers, opened}
 use Rattle.soundness.specs.Sound.{keyInRange, isOpen}
-use Rattle.soundness.specs.Facts.{Long, Press, ServerFacts, LogFacts, ClientFacts, Sound}
+use Rattle.soundness.specs.Facts.{Long, Press, ServerFacts, LogFacts, ClientFacts, facts-none, Sound}
 use Rattle.refusals.specs.Refusals.{openRefusal}
 use Rattle.keeping.specs.Accepted.{Openable, openable}
 use Rattle.keeping.specs.Links.{linkWord}
 use Rattle.keeping.specs.Rounds.{idle-client}
-use Rattle.keeping.specs.Records.{facts-none}
 
 -- a cleared table has its length, and holds 0 everywhere
 cleared-length : (words : List ℕ) → length (cleared words) ≡ length words

@@ -1,48 +1,20 @@
 -- The records: a client's record in progress, over a record begun, tagged or ended.
 use Prim.Native.Nat.{ℕ, _+_, _<_}
 use mathlib.Core.Path.{_≡_, refl, sym, _∙_, ap}
-use mathlib.Core.Bool.{Bool, true, false, _&&_, and-false}
+use mathlib.Core.Bool.{Bool, true, false, and-false}
 use mathlib.Core.List.{List, [], _∷_}
 use native.Mathlib.Omega.{arith}
 use lib.ListN.{getD, length}
-use lib.Dec.{eqb, ltb}
-use borrow.Author.Tests.{eq-eqb, ne-eqb, eqb-true, ltb-true, lt-ltb}
-use Rattle.ranges.specs.Tests.{by-equal, both, both-left, both-right}
+use lib.Dec.{eqb}
+use borrow.Author.Tests.{eq-eqb, ne-eqb, eqb-true}
+use Rattle.ranges.specs.Tests.{by-equal, both, both-left}
 use Rattle.ranges.specs.Sum.{countBelow, one, sum-same, sum-set, sum-more, one-true, one-false}
 use Rattle.tables.specs.Rows.{HasRow, row-same, row-other, row-length, word-same, word-other}
 use Rattle.tables.specs.Layout.{recordWidth, recordWord, putBegun, clientOfRecord, tagOfRecord, endOfRecord}
 use Rattle.tables.specs.Tables.{Tables, clientsOf, stateOf, recordOf}
 use Rattle.rules.specs.Common.{endedRecord, taggedRecord}
 use Rattle.soundness.specs.Sound.{isOpen, openSound}
-
--- A client that does something of a kind has one record of it in progress, at its place; else it has none.
-pub record Doing (records : List ℕ) (begun q place : ℕ) : Type 0 where
-  pub once : countBelow (isOpen records q) begun ≡ 1
-  pub within : place < begun
-  pub here : isOpen records q place ≡ true
-
-module _ (records : List ℕ) (begun q place : ℕ) where
-  pub doing-facts : openSound true records begun q place ≡ true → Doing records begun q place
-  unfolding openSound
-  doing-facts e =
-      let l = both-left (eqb (countBelow (isOpen records q) begun) 1) (ltb place begun && isOpen records q place) e in
-      let r = both-right (eqb (countBelow (isOpen records q) begun) 1) (ltb place begun && isOpen records q place) e in
-      record { once = eqb-true _ _ l; within = ltb-true _ _ (both-left (ltb place begun) (isOpen records q place) r); here = both-right (ltb place begun) (isOpen records q place) r }
-
-  pub facts-doing : Doing records begun q place → openSound true records begun q place ≡ true
-  unfolding openSound
-  facts-doing d =
-      both (eqb (countBelow (isOpen records q) begun) 1) (ltb place begun && isOpen records q place)
-      (eq-eqb _ _ (d .once))
-      (both (ltb place begun) (isOpen records q place) (lt-ltb _ _ (d .within)) (d .here))
-
-  pub none-facts : openSound false records begun q place ≡ true → countBelow (isOpen records q) begun ≡ 0
-  unfolding openSound
-  none-facts e = eqb-true _ _ e
-
-  pub facts-none : countBelow (isOpen records q) begun ≡ 0 → openSound false records begun q place ≡ true
-  unfolding openSound
-  facts-none e = eq-eqb _ _ e
+use Rattle.soundness.specs.Facts.{Doing, doing-facts, facts-doing, none-facts, facts-none}
 
 -- The record list changed, but for this client no record in progress came or went.
 module _ (records records′ : List ℕ) (begun q place : ℕ) (same : (n : ℕ) → n < begun → isOpen records′ q n ≡ isOpen records q n) where

@@ -13,11 +13,12 @@ use Rattle.tables.specs.Links.{targets, linkWidth}
 use Rattle.tables.specs.Tables.{Tables, tablesOf, clientsOf, stepOf, entriesOf, writesOf, readsOf, stateOf, countOf, recordOf}
 use Rattle.rules.specs.Common.{idle, nextStep, counted, endedRecord, taggedRecord}
 use Rattle.soundness.specs.Sound.{isWriting, isReading, openSound}
-use Rattle.soundness.specs.Facts.{ClientFacts, WriteFacts, ReadFacts, Sound}
+use Rattle.soundness.specs.Facts.{Doing, doing-facts, ClientFacts, WriteFacts, ReadFacts, Sound}
+use Rattle.soundness.specs.Room.{write-open, write-row, read-row}
 use Rattle.keeping.specs.Links.{linkWord}
 use Rattle.keeping.specs.Frame.{Kept, write-kept, read-kept}
 use Rattle.keeping.specs.Moves.{Moves, moves-numbers, same-entries, moved-kept, counted-other, counted-step, counted-length}
-use Rattle.keeping.specs.Records.{Doing, doing-facts, open-kept, tagged-word, tagged-other, tagged-here, tagged-open, ended-word, records-same, records-idle, records-ended}
+use Rattle.keeping.specs.Records.{open-kept, tagged-word, tagged-other, tagged-here, tagged-open, ended-word, records-same, records-idle, records-ended}
 
 abbrev pub repliedTables : List ℕ → List ℕ → List ℕ → List ℕ → Tables → Tables
 repliedTables clients′ links′ writes′ reads′ t = tablesOf (counted (t .counts)) clients′ links′ (t .keys) (t .values) (t .log) writes′ reads′
@@ -112,12 +113,6 @@ module _ (q : ℕ) (clients′ links′ : List ℕ) (t : Tables) (s : Sound t) (
   abbrev ended : Tables
   ended = repliedTables clients′ links′ wrote′ (t .reads) t
 
-  doing-write : Doing (t .writes) (writesOf t) q (recordOf t q)
-  doing-write = doing-facts (t .writes) (writesOf t) q (recordOf t q) (rw was at (s .records q client .write))
-
-  write-room : HasRow recordWidth (t .writes) (recordOf t q)
-  write-room = omega (arith, doing-write .within, s .scalars .writes, s .long .writes)
-
   pub ended-moves : Moves q t ended
   ended-moves = replied-moves q clients′ links′ wrote′ (t .reads) t s client early v wrote-long refl
 
@@ -132,7 +127,7 @@ module _ (q : ℕ) (clients′ links′ : List ℕ) (t : Tables) (s : Sound t) (
       replied-kept q clients′ links′ wrote′ (t .reads) t s client early v wrote-long refl count c
       ended-record
       (read-stays q clients′ links′ wrote′ (t .reads) t s client early v wrote-long refl refl)
-      (records-ended isWriting q t ended (t .writes) (writesOf t) (state-stays v) (place-stays v) (λ x g. s .records x g .write) (nextStep t) doing-write write-room (omega arith) (rw state))
+      (records-ended isWriting q t ended (t .writes) (writesOf t) (state-stays v) (place-stays v) (λ x g. s .records x g .write) (nextStep t) (write-open t s q client was) (write-row t s q client was) (omega arith) (rw state))
       (records-idle isReading q t ended (t .reads) (readsOf t) (state-stays v) (place-stays v) (λ x g. s .records x g .read) not-other (rw state))
 
 -- A READ ends: its record gets its tag and its end, and the client is idle.
@@ -161,7 +156,7 @@ module _ (q tag : ℕ) (clients′ links′ : List ℕ) (t : Tables) (s : Sound 
   doing-read = doing-facts tagged′ (readsOf t) q (recordOf t q) (rw was at (tagged-before q client))
 
   read-room : HasRow recordWidth (t .reads) (recordOf t q)
-  read-room = omega (arith, doing-read .within, s .scalars .reads, s .long .reads)
+  read-room = read-row t s q client was
 
   pub finished-moves : Moves q t finished
   finished-moves = replied-moves q clients′ links′ (t .writes) read′ t s client early v refl read-long

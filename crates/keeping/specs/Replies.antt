@@ -38,7 +38,7 @@ module _ (q i : ℕ) (t : Tables) (s : Sound t) (e : deliveryRefusal q i t ≡ 0
   by-content (Request w) h = kept-same q t s
   by-content (Reply w) h =
       let d = deliverable q i t e in
-      let target = target-below q i t s d in
+      let target = target-below t s i (d .target) in
       let kind = s .client q (d .client) .link i target .kind in
       let came : Came q i t = record { sound = s; client = d .client; target = target; early = d .early; kind = reply-kind (t .links) q i w kind h } in
       subst (λ (w : Contents). Kept q t (onReplyIn (stateOf t q) w q i t .tables)) (reply-words (t .links) q i w kind h) (in-state q i t came)

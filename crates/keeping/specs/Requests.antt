@@ -6,34 +6,30 @@ use mathlib.Core.List.{[], _∷_}
 use native.Mathlib.Omega.{arith}
 use lib.ListN.{getD, set}
 use lib.Dec.{leb, ltb}
-use borrow.Author.Tests.{eq-eqb, eqb-true, ltb-true, lt-ltb, le-leb}
+use borrow.Author.Tests.{ltb-true, lt-ltb, le-leb}
 use Rattle.ranges.specs.Tests.{by-test, by-equal, both, both-left, both-right}
 use Rattle.keys.specs.Keys.{keyWord, keyAtWord, key-back}
 use Rattle.keys.specs.Masks.{maskWithin, within-true}
-use Rattle.tables.specs.Rows.{HasRow}
 use Rattle.tables.specs.Layout.{lastStep, countAt, stepField, entriesField, serverPlaces, logPlaces, putEntry, methodField, readsField, serversField, writesField}
-use Rattle.tables.specs.Links.{targets, linkWidth, linkRow, link-length, contentsOf}
+use Rattle.tables.specs.Links.{targets, linkWidth, link-length, contentsOf}
 use Rattle.tables.specs.Tables.{Tables, serversOf, clientsOf, stepOf, entriesOf, heldOf, stateOf, maskOf, contentAt}
 use Rattle.server.specs.Held.{stored, appended, firstBearing}
 use Rattle.coordinator.specs.Log.{entered, enterLeft}
-use Rattle.rules.specs.Common.{writing, entering, askingKeys, askingSetpoints, askingAll, coordinator, reply}
+use Rattle.rules.specs.Common.{writing, entering, askingKeys, askingSetpoints, askingAll, reply}
 use Rattle.rules.specs.Request.{answered, storedBy, enteredBy, onSet, onEnter, onWhichKeys, onGet, onGetAll, onRequestIn, onRequest, requestDelivered}
 use Rattle.soundness.specs.Sound.{uses, requestSound, replySound, receivedSound, holding, keyOn, ownKey, keyInRange, sound}
 use Rattle.tables.specs.declared.links.Contents.{Contents}
 use Rattle.tables.specs.declared.links.Content.{Content}
 use Rattle.tables.specs.declared.links.Content.the-variants.{Nothing, Request, Reply}
 use Rattle.soundness.specs.Facts.{facts-between, ClientFacts, LinkFacts, Sound}
+use Rattle.soundness.specs.Room.{link-row}
 use Rattle.refusals.specs.Refusals.{deliveryRefusal}
 use Rattle.keeping.specs.Accepted.{Deliverable, deliverable, target-below, holding-some}
 use Rattle.keeping.specs.Links.{linkWord, kindOn, numberOn, kind-full, pending-at, LinkAsks, request-kind, request-words, put-same, put-other, link-asks, asks-link}
-use Rattle.keeping.specs.States.{received-none, none-received, not-empty, by-state, masked-below, own-key, own-in-range, uses-writing, uses-keys, request-writing, request-entering, reply-writing, reply-entering, reply-keys, reply-setpoints, reply-all}
+use Rattle.keeping.specs.States.{received-none, none-received, not-empty, by-state, keys-target, masked-server, holding-log, own-key, own-in-range, uses-writing, request-writing, request-entering, reply-writing, reply-entering, reply-keys, reply-setpoints, reply-all}
 use Rattle.keeping.specs.Appends.{stored-step, stored-kept, entered-step, entry-more, entered-kept}
 use Rattle.keeping.specs.Moves.{Moves, Anew, moves-numbers, moved-kept, counted-other, counted-step, counted-length}
 use Rattle.keeping.specs.Frame.{Numbers, Kept, kept-same, kept-then, reply-kept, link-kept, received-kept, write-kept, read-kept}
-
--- a link of a client has its row
-pub link-row : (t : Tables) (q i : ℕ) → Sound t → q < clientsOf t → i < targets → HasRow linkWidth (t .links) (linkRow q i)
-link-row t q i s h l = omega (arith, s .long .links)
 
 -- The reply takes the request's place.
 module _ (q i number : ℕ) (t : Tables) (s : Sound t) (client : q < clientsOf t) (target : i < targets) (early : stepOf t < lastStep)
@@ -63,7 +59,7 @@ module _ (q i number : ℕ) (t : Tables) (s : Sound t) (client : q < clientsOf t
   answered-numbers = moves-numbers q t after answered-moves
 
   new : (f : ℕ) → f < linkWidth → linkWord (after .links) q i f ≡ getD (2 ∷ 0 ∷ number ∷ []) f 0
-  new f h = put-same (t .links) q i (reply number) f (link-row t q i s client target) h
+  new f h = put-same (t .links) q i (reply number) f (link-row t s q client i target) h
 
   before : LinkFacts t q i
   before = s .client q client .link i target
@@ -127,13 +123,13 @@ module _ (q i : ℕ) (t : Tables) (s : Sound t) (d : Deliverable q i t) (asked :
   c = s .client q (d .client)
 
   asks : LinkAsks t q i
-  asks = link-asks t q i (c .link i (target-below q i t s d))
+  asks = link-asks t q i (c .link i (target-below t s i (d .target)))
 
   used : uses (stateOf t q) (maskOf t q) i ≡ true
   used = asks .used (λ e. omega arith)
 
   reply-in : (number : ℕ) → replySound (stateOf t q) i number t ≡ true → Kept q t (answered q i number t .tables)
-  reply-in number good = answered-kept q i number t s (d .client) (target-below q i t s d) (d .early) asked good
+  reply-in number good = answered-kept q i number t s (d .client) (target-below t s i (d .target)) (d .early) asked good
 
   -- the key of a WRITE's request is the client's own
   own : (state : ℕ) → stateOf t q ≡ state → (requestSound state q (keyOn t q i) (numberOn t q i) t ≡ true → ownKey q (keyOn t q i) ≡ true) → keyInRange (clientsOf t) (keyWord (keyAtWord (keyOn t q i))) ≡ true
@@ -145,7 +141,7 @@ module _ (q i : ℕ) (t : Tables) (s : Sound t) (d : Deliverable q i t) (asked :
   set-delivered : stateOf t q ≡ writing → Kept q t (onSet w q i t .tables)
   unfolding onSet appended
   set-delivered e =
-      let server = masked-below (maskOf t q) (serversOf t) i (c .mask) (rw (e, uses-writing) at used) in
+      let server = masked-server t s q i (d .client) (rw (e, uses-writing) at used) in
       let good = own writing e (λ r. rw request-writing at r) in
       by-test (ltb (heldOf t i) serverPlaces)
       (λ b.
@@ -153,7 +149,7 @@ module _ (q i : ℕ) (t : Tables) (s : Sound t) (d : Deliverable q i t) (asked :
       let after = storedBy (stored (t .counts) (t .keys) (t .values) i (w .key) (w .number)) t in
       let k = stored-kept q i (w .key) (w .number) t s (d .client) server room good in
       let step = stored-step q i (w .key) (w .number) t s (d .client) server room good in
-      rw b (kept-then q t after (answered q i 0 after .tables) s k (answered-kept q i 0 after (k .sound) (rw (k .grows .numbers .clients) (d .client)) (target-below q i t s d) (rw step (d .early)) asked (rw e (reply-writing after i 0)))))
+      rw b (kept-then q t after (answered q i 0 after .tables) s k (answered-kept q i 0 after (k .sound) (rw (k .grows .numbers .clients) (d .client)) (target-below t s i (d .target)) (rw step (d .early)) asked (rw e (reply-writing after i 0)))))
       (λ b. rw b (kept-same q t s))
 
   enter-delivered : stateOf t q ≡ entering → Kept q t (onEnter w q i t .tables)
@@ -171,14 +167,13 @@ module _ (q i : ℕ) (t : Tables) (s : Sound t) (d : Deliverable q i t) (asked :
       let after = enteredBy (enterLeft true (set (t .counts) entriesField (entriesOf t + 1)) (putEntry (t .log) (entriesOf t) (w .key) (w .number))) q t in
       let tagged : replySound (stateOf after q) i (entriesOf t) after ≡ true =
       rw (e, reply-entering after i (entriesOf t)) (both (leb 1 (entriesOf t)) (ltb (entriesOf t) (entriesOf after)) (le-leb _ _ (s .scalars .entries .least)) (lt-ltb (entriesOf t) (entriesOf after) (rw more (omega arith)))) in
-      rw b (kept-then q t after (answered q i (entriesOf t) after .tables) s k (answered-kept q i (entriesOf t) after (k .sound) (rw (k .grows .numbers .clients) (d .client)) (target-below q i t s d) (rw step (d .early)) asked tagged)))
+      rw b (kept-then q t after (answered q i (entriesOf t) after .tables) s k (answered-kept q i (entriesOf t) after (k .sound) (rw (k .grows .numbers .clients) (d .client)) (target-below t s i (d .target)) (rw step (d .early)) asked tagged)))
       (λ b. rw b (kept-same q t s))
 
   keys-delivered : stateOf t q ≡ askingKeys → Kept q t (onWhichKeys q i t .tables)
   unfolding onWhichKeys
   keys-delivered e =
-      let head : i ≡ coordinator = eqb-true i coordinator (rw (e, uses-keys) at used) in
-      let all : holding t i ≡ entriesOf t = rw (eq-eqb i coordinator head) in
+      let all = holding-log t i (keys-target (maskOf t q) i (rw e at used)) in
       reply-in (entriesOf t) (rw (e, reply-keys t i (entriesOf t)) (facts-between 1 (entriesOf t) (holding t i) (record { least = s .scalars .entries .least; most = omega arith })))
 
   get-delivered : stateOf t q ≡ askingSetpoints → Kept q t (onGet w q i t .tables)
@@ -190,7 +185,7 @@ module _ (q i : ℕ) (t : Tables) (s : Sound t) (d : Deliverable q i t) (asked :
 
   all-delivered : stateOf t q ≡ askingAll → Kept q t (onGetAll q i t .tables)
   unfolding onGetAll
-  all-delivered e = reply-in (holding t i) (rw (e, reply-all t i (holding t i)) (facts-between 1 (holding t i) (holding t i) (record { least = holding-some q i t s d; most = omega arith })))
+  all-delivered e = reply-in (holding t i) (rw (e, reply-all t i (holding t i)) (facts-between 1 (holding t i) (holding t i) (record { least = holding-some t s i (d .target); most = omega arith })))
 
   in-state : Kept q t (onRequestIn (stateOf t q) w q i t .tables)
   unfolding onRequestIn
@@ -208,7 +203,7 @@ module _ (q i : ℕ) (t : Tables) (s : Sound t) (e : deliveryRefusal q i t ≡ 0
   by-content Nothing h = kept-same q t s
   by-content (Request w) h =
       let d = deliverable q i t e in
-      let kind = s .client q (d .client) .link i (target-below q i t s d) .kind in
+      let kind = s .client q (d .client) .link i (target-below t s i (d .target)) .kind in
       subst (λ (w : Contents). Kept q t (onRequestIn (stateOf t q) w q i t .tables)) (request-words (t .links) q i w kind h) (in-state q i t s d (request-kind (t .links) q i w kind h))
   by-content (Reply w) h = kept-same q t s
 

@@ -1,5 +1,5 @@
 -- A round of requests just sent: each link that the state uses holds a request, every other link nothing. And an idle client: nothing on any link.
-use Prim.Native.Nat.{ℕ, _+_, _*_, _^_, _≤_, _<_}
+use Prim.Native.Nat.{ℕ, _^_, _≤_, _<_}
 use mathlib.Core.Path.{_≡_, refl, _∙_}
 use mathlib.Core.Bool.{Bool, true, false, cond}
 use mathlib.Core.List.{List}
@@ -15,6 +15,7 @@ use Rattle.tables.specs.declared.links.Content.{Content}
 use Rattle.rules.specs.Common.{idle}
 use Rattle.soundness.specs.Sound.{uses, requestSound, keyOn, isWriting, stateAllowed}
 use Rattle.soundness.specs.Facts.{Between, LinkFacts, ClientFacts}
+use Rattle.soundness.specs.Asked.{LinksThere}
 use Rattle.keeping.specs.Links.{linkWord, kindOn, numberOn, kind-full, pending-at, put-same, put-other, put-beside, link-asks, asks-link}
 use Rattle.keeping.specs.States.{uses-idle, arrived, none-received, not-all, not-used, not-empty, allowed-idle}
 
@@ -99,12 +100,12 @@ module _ (t : Tables) (q : ℕ) (c : Sent t q) where
       }
 
 -- The loop that sends: a content to each target below k that passes a test.
-module _ (q k : ℕ) (p : ℕ → Bool) (content : ℕ → Content) (links : List ℕ) (few : k ≤ targets) (long : linkWidth * (targets * q + targets) ≤ length links) where
+module _ (q k : ℕ) (p : ℕ → Bool) (content : ℕ → Content) (links : List ℕ) (few : k ≤ targets) (long : LinksThere links q) where
   abbrev send : ℕ → List ℕ → List ℕ
   send i xs = putLink xs q i (content i)
 
   abbrev Roomy : List ℕ → Type 0
-  Roomy xs = linkWidth * (targets * q + targets) ≤ length xs
+  Roomy xs = LinksThere xs q
 
   roomy : (i : ℕ) (xs : List ℕ) → Roomy xs → Roomy (send i xs)
   roomy i xs r = rw (link-length xs q i (content i)) r

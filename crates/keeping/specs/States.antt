@@ -1,17 +1,17 @@
 -- What each state of a client asks: the links it uses, the states its method allows, the n it has received.
-use Prim.Native.Nat.{ℕ, _%_, _^_, _<_}
+use Prim.Native.Nat.{ℕ, _%_, _^_, _≤_, _<_}
 use mathlib.Core.Path.{_≡_, refl, sym}
 use mathlib.Core.Bool.{Bool, true, false, cond, not, _&&_, _||_, and-false, or-true, true≢false}
 use native.Mathlib.Omega.{arith}
 use lib.Dec.{eqb, leb, ltb}
-use borrow.Author.Tests.{eq-eqb, ne-eqb, eqb-true, ltb-true, ltb-false, lt-ltb}
+use borrow.Author.Tests.{eq-eqb, ne-eqb, eqb-true, leb-true, ltb-true, ltb-false, lt-ltb}
 use Rattle.ranges.specs.Tests.{by-test, by-equal, both, both-left, both-right, not-both}
 use Rattle.keys.specs.Masks.{hasServer, maskWithin, no-server}
-use Rattle.tables.specs.Tables.{Tables, serversOf, clientsOf, entriesOf, stateOf, maskOf, receivedOf, contentAt}
+use Rattle.tables.specs.Tables.{Tables, serversOf, clientsOf, entriesOf, heldOf, stateOf, maskOf, receivedOf, contentAt}
 use Rattle.tables.specs.Links.{isEmpty}
 use Rattle.rules.specs.Common.{idle, writing, entering, askingKeys, askingSetpoints, askingAll, coordinator}
 use Rattle.soundness.specs.Sound.{uses, stateAllowed, receivedSound, requestSound, replySound, between, holding, ownKey, keyInRange}
-use Rattle.soundness.specs.Facts.{Between, between-facts, facts-between}
+use Rattle.soundness.specs.Facts.{Between, between-facts, facts-between, Sound}
 
 -- the links that a state uses
 module _ (mask i : ℕ) where
@@ -50,9 +50,23 @@ module _ (mask i : ℕ) where
       (λ nd. by-equal state askingAll e
       (λ ne. absurd (true≢false (sym (rw (ne-eqb state 1 na, ne-eqb state 4 nd, ne-eqb state 2 nb, ne-eqb state 3 nc, ne-eqb state 5 ne) at u))))))))
 
+-- where a state uses the coordinator alone, a link in use is the coordinator's
+module _ (mask i : ℕ) where
+  pub entering-target : uses entering mask i ≡ true → i ≡ coordinator
+  unfolding uses
+  entering-target u = eqb-true i coordinator u
+
+  pub keys-target : uses askingKeys mask i ≡ true → i ≡ coordinator
+  unfolding uses
+  keys-target u = eqb-true i coordinator u
+
 -- a server of the mask is below k
 pub masked-below : (mask k i : ℕ) → mask < 2 ^ k → hasServer mask i ≡ true → i < k
 masked-below mask k i h e = by-test (ltb i k) (λ b. ltb-true _ _ b) (λ b. absurd (not-both e (no-server mask k i h (ltb-false _ _ b))))
+
+-- so is one of the mask of a client
+pub masked-server : (t : Tables) → Sound t → (q i : ℕ) → q < clientsOf t → hasServer (maskOf t q) i ≡ true → i < serversOf t
+masked-server t s q i h e = masked-below (maskOf t q) (serversOf t) i (s .client q h .mask) e
 
 -- the states that a method and part allow
 module _ (m q : ℕ) where
@@ -98,6 +112,14 @@ module _ (m q : ℕ) where
   pub allowed-by-C : (m ≡ 1 → ⊥) → (m ≡ 2 → ⊥) → stateAllowed m q askingAll ≡ true
   unfolding stateAllowed
   allowed-by-C d e = rw (ne-eqb m 1 d, ne-eqb m 2 e)
+
+-- what a target holds: the log's entries, or a server's versions
+module _ (t : Tables) (i : ℕ) where
+  pub holding-log : i ≡ coordinator → holding t i ≡ entriesOf t
+  holding-log e = rw (eq-eqb i coordinator e)
+
+  pub holding-server : (i ≡ coordinator → ⊥) → holding t i ≡ heldOf t i
+  holding-server d = rw (ne-eqb i coordinator d)
 
 -- the n received: some where a reply was awaited and is in, else none
 abbrev pub arrived : Tables → ℕ → ℕ → Bool
@@ -194,3 +216,17 @@ module _ (t : Tables) (i number : ℕ) where
   pub reply-all : replySound askingAll i number t ≡ between 1 number (holding t i)
   unfolding replySound
   reply-all = refl
+
+  -- a tag that was entered is one of the log's, from 1
+  pub entered-tag : replySound entering i number t ≡ true → (1 ≤ number) × (number < entriesOf t)
+  unfolding replySound
+  entered-tag e = (leb-true _ _ (both-left (leb 1 number) (ltb number (entriesOf t)) e), ltb-true _ _ (both-right (leb 1 number) (ltb number (entriesOf t)) e))
+
+  -- a number told is at least 1 and no more than is held
+  pub keys-told : replySound askingKeys i number t ≡ true → Between 1 number (holding t i)
+  unfolding replySound
+  keys-told e = between-facts 1 number (holding t i) e
+
+  pub all-told : replySound askingAll i number t ≡ true → Between 1 number (holding t i)
+  unfolding replySound
+  all-told e = between-facts 1 number (holding t i) e

@@ -14,6 +14,7 @@ use Rattle.rules.specs.Common.{askingKeys, askingSetpoints, askingAll}
 use Rattle.rules.specs.Common as rules
 use Rattle.rules.specs.Begin.{nextCount, begunWrite, Asking, askingBy, lastTag, begunRead}
 use Rattle.soundness.specs.Sound.{isReading}
+use Rattle.soundness.specs.Room.{few-servers, client-row}
 use Rattle.refusals.specs.Refusals.{writeRefusal, readRefusal}
 use Rattle.keeping.specs.Accepted.{writable, readable}
 use Rattle.keeping.specs.Begins.{begun-other, begun-more, begun-step}
@@ -40,8 +41,8 @@ module _ (t : Tables) (h : History) (numbers : List ℕ) (a : Agrees t h numbers
     written : (f : ℕ) → f < setpointsField → clientWord (begunWrite q mask setpoints t .clients) q f ≡ lastPut puts (clientWord (t .clients) q f) f
     unfolding begunWrite
     written f l =
-        loop-other q setpointsField (serversOf t) (omega (arith, a .sound .scalars .press .servers .most)) (λ i. true) (λ i. getD setpoints i 0) (putAll puts q (t .clients)) q f (omega arith) (λ z. omega (arith, z .1))
-        ∙ put-read q puts (t .clients) f _ (omega (arith, a .sound .long .clients, client)) refl (omega arith) refl
+        loop-other q setpointsField (serversOf t) (omega (arith, few-servers t (a .sound))) (λ i. true) (λ i. getD setpoints i 0) (putAll puts q (t .clients)) q f (omega arith) (λ z. omega (arith, z .1))
+        ∙ put-read q puts (t .clients) f _ (client-row t (a .sound) q client) refl (omega arith) refl
 
     write-counts : Counts t (begunWrite q mask setpoints t) (entriesOf t) (writesOf t + 1) (readsOf t)
     unfolding begunWrite
@@ -83,7 +84,7 @@ module _ (t : Tables) (h : History) (numbers : List ℕ) (a : Agrees t h numbers
     reader = readable q mask t e .begin .client
 
     asked : (puts : List Put) → inRow puts ≡ true → (f : ℕ) → f < clientWidth → clientWord (putAll puts q (t .clients)) q f ≡ lastPut puts (clientWord (t .clients) q f) f
-    asked puts inside f l = put-read q puts (t .clients) f _ (omega (arith, a .sound .long .clients, reader)) inside l refl
+    asked puts inside f l = put-read q puts (t .clients) f _ (client-row t (a .sound) q reader) inside l refl
 
     -- whatever the method, the client reads and knows the place of its record
     abbrev Asks : Asking → Type 0

@@ -202,7 +202,7 @@ module _ (t t′ : Tables) (numbers : List ℕ) (n q : ℕ) (here : recordOf t�
   pub same-reading : (d : Doing) → Alike (t .reads) (t′ .reads) (recordOf t q) → Reading t numbers q d → Reading t′ (more numbers n) q d
   same-reading d w r = rw (r .is) (reading-on d w r (r .deliveries))
 
--- another client, whose row and head's link and record in progress stay
+-- another client, whose row and coordinator's link and record in progress stay
 pub activity-on : (t t′ : Tables) (numbers : List ℕ) (n q : ℕ) (d : Doing) → ((f : ℕ) → f < clientWidth → clientWord (t′ .clients) q f ≡ clientWord (t .clients) q f) →
     ((f : ℕ) → f < linkWidth → linkWord (t′ .links) q coordinator f ≡ linkWord (t .links) q coordinator f) →
     (isWriting (stateOf t q) ≡ true → Alike (t .writes) (t′ .writes) (recordOf t q)) → (isReading (stateOf t q) ≡ true → Alike (t .reads) (t′ .reads) (recordOf t q)) →

@@ -15,9 +15,9 @@ use Rattle.tables.specs.Tables.{Tables, clientsOf, stepOf, entriesOf, writesOf,
 use Rattle.rules.specs.Common.{idle, entering, coordinator, endedRecord, taggedRecord}
 use Rattle.rules.specs.Common as rules
 use Rattle.soundness.specs.Sound.{isWriting, isReading, isOpen}
-use Rattle.soundness.specs.Facts.{Sound}
-use Rattle.keeping.specs.Records.{doing-facts, open-client, begun-here, tagged-here, tagged-word, ended-word}
-use Rattle.keeping.specs.Records as keeping
+use Rattle.soundness.specs.Facts as underway
+use Rattle.soundness.specs.Room.{write-open, read-open, write-row, read-row, next-write, next-read}
+use Rattle.keeping.specs.Records.{open-client, begun-here, tagged-here, tagged-word, ended-word}
 use Rattle.keeping.specs.Frame.{Kept}
 use Rattle.keeping.specs.Links.{kindOn, numberOn}
 use Rattle.listing.specs.Register.{endIn}
@@ -43,32 +43,10 @@ pub record Counts (t t′ : Tables) (logged begunWrites begunReads : ℕ) : Type
 open-end : (records : List ℕ) (q place : ℕ) → isOpen records q place ≡ true → recordWord records place endOfRecord ≡ 0
 open-end records q place e = eqb-true _ _ (both-right (eqb (recordWord records place clientOfRecord) q) (eqb (recordWord records place endOfRecord) 0) e)
 
--- a client's record in progress
-module _ (t : Tables) (s : Sound t) (q : ℕ) (client : q < clientsOf t) where
-  pub write-open : isWriting (stateOf t q) ≡ true → keeping.Doing (t .writes) (writesOf t) q (recordOf t q)
-  write-open w = doing-facts (t .writes) (writesOf t) q (recordOf t q) (rw w at (s .records q client .write))
-
-  pub read-open : isReading (stateOf t q) ≡ true → keeping.Doing (t .reads) (readsOf t) q (recordOf t q)
-  read-open w = doing-facts (t .reads) (readsOf t) q (recordOf t q) (rw w at (s .records q client .read))
-
-  pub write-room : isWriting (stateOf t q) ≡ true → HasRow recordWidth (t .writes) (recordOf t q)
-  write-room w = omega (arith, write-open w .within, s .scalars .writes, s .long .writes)
-
-  pub read-room : isReading (stateOf t q) ≡ true → HasRow recordWidth (t .reads) (recordOf t q)
-  read-room w = omega (arith, read-open w .within, s .scalars .reads, s .long .reads)
-
-  -- what changes in its own record is no other client's
-  pub own-write : isWriting (stateOf t q) ≡ true → (writes′ : List ℕ) → But (t .writes) writes′ (recordOf t q) →
-      (p : ℕ) → p < clientsOf t → (p ≡ q → ⊥) → isWriting (stateOf t p) ≡ true → Alike (t .writes) writes′ (recordOf t p)
-  own-write w writes′ but p l d v f h =
-      let other = doing-facts (t .writes) (writesOf t) p (recordOf t p) (rw v at (s .records p l .write)) in
-      but (recordOf t p) f h (λ e. d (sym (open-client (t .writes) p (recordOf t p) (other .here)) ∙ ap (λ (n : ℕ). recordWord (t .writes) n clientOfRecord) e ∙ open-client (t .writes) q (recordOf t q) (write-open w .here)))
-
-  pub own-read : isReading (stateOf t q) ≡ true → (reads′ : List ℕ) → But (t .reads) reads′ (recordOf t q) →
-      (p : ℕ) → p < clientsOf t → (p ≡ q → ⊥) → isReading (stateOf t p) ≡ true → Alike (t .reads) reads′ (recordOf t p)
-  own-read w reads′ but p l d v f h =
-      let other = doing-facts (t .reads) (readsOf t) p (recordOf t p) (rw v at (s .records p l .read)) in
-      but (recordOf t p) f h (λ e. d (sym (open-client (t .reads) p (recordOf t p) (other .here)) ∙ ap (λ (n : ℕ). recordWord (t .reads) n clientOfRecord) e ∙ open-client (t .reads) q (recordOf t q) (read-open w .here)))
+-- what changes in a client's own record in progress is no other client's
+others-alike : (records records′ : List ℕ) (begun p q place place′ : ℕ) → underway.Doing records begun p place → underway.Doing records begun q place′ → But records records′ place′ → (p ≡ q → ⊥) → Alike records records′ place
+others-alike records records′ begun p q place place′ other own but d f h =
+    but place f h (λ e. d (sym (open-client records p place (other .here)) ∙ ap (λ (n : ℕ). recordWord records n clientOfRecord) e ∙ open-client records q place′ (own .here)))
 
 -- a history in which only what the clients are at has changed
 abbrev pub movedOn : History → (ℕ → Doing) → History
@@ -94,6 +72,10 @@ module _ (t t′ : Tables) (h : History) (numbers : List ℕ) (a : Agrees t h nu
   abbrev numbers′ : List ℕ
   numbers′ = more numbers step′
 
+  -- where the client's record in progress stands
+  abbrev own-place : ℕ
+  own-place = recordOf t q
+
   clock-on : length numbers′ ≡ suc (h .clock)
   clock-on = more-length numbers step′ ∙ ap suc (a .clock)
 
@@ -110,6 +92,10 @@ module _ (t t′ : Tables) (h : History) (numbers : List ℕ) (a : Agrees t h nu
       (λ r apart z. activity-on t t′ numbers step′ r (h .doing r) (λ f g. k .grows .row r f apart g) (λ f g. k .grows .link r coordinator f apart (omega arith) g) (leaves .writes r z apart) (leaves .reads r z apart) (a .clients r z))
       p (rw (k .grows .numbers .clients) at l)
 
+  -- no READ ended meanwhile
+  late-on : t′ .reads ≡ t .reads → readsOf t′ ≡ readsOf t → stepOf t′ ≡ step′ → (place : ℕ) → place < readsOf t′ → endIn (t′ .reads) place ≤ stepOf t′
+  late-on same begun step place l = let was : place < readsOf t = omega arith in rw same (omega (arith, a .late place was))
+
   -- no record changes
   module _ (same-writes : t′ .writes ≡ t .writes) (same-reads : t′ .reads ≡ t .reads) (c : Counts t t′ (entriesOf t) (writesOf t) (readsOf t)) where
     pub all-stay : Leaves q t t′
@@ -120,7 +106,7 @@ module _ (t t′ : Tables) (h : History) (numbers : List ℕ) (a : Agrees t h nu
       sound = k .sound;
       clock = clock-on;
       entries = c .entries ∙ a .entries;
-      late = λ place l. let was : place < readsOf t = omega (arith, c .reads) in rw same-reads (omega (arith, c .step, a .late place was));
+      late = late-on same-reads (c .reads) (c .step);
       writes = λ tag l u. rw (same-writes, c .writes) (one-more (t .writes) (writesOf t) numbers tag (h .write tag) step′ (a .writes tag l u));
       reads = rw (same-reads, c .reads) (reads-more (t .reads) (readsOf t) numbers (h .reads) (a .reads) step′);
       clients = clients;
@@ -138,17 +124,11 @@ module _ (t t′ : Tables) (h : History) (numbers : List ℕ) (a : Agrees t h nu
         (λ e. rw e own)
         (λ d. rw (changed-other (h .doing) q (h .doing q) p d) at (clients-on all-stay (h .doing q) own p l)))
 
-  late-on : t′ .reads ≡ t .reads → readsOf t′ ≡ readsOf t → stepOf t′ ≡ step′ → (place : ℕ) → place < readsOf t′ → endIn (t′ .reads) place ≤ stepOf t′
-  late-on same begun step place l = let was : place < readsOf t = omega arith in rw same (omega (arith, a .late place was))
-
   -- a WRITE begins
   module _ (number : ℕ) (begins : t′ .writes ≡ putBegun (t .writes) (writesOf t) q number step′) (same-reads : t′ .reads ≡ t .reads) (c : Counts t t′ (entriesOf t) (writesOf t + 1) (readsOf t))
       (few : writesOf t < recordPlaces) (state : stateOf t′ q ≡ rules.writing) (here : recordOf t′ q ≡ writesOf t) (mask : ℕ) (setpoints : List ℕ) where
-    write-row : HasRow recordWidth (t .writes) (writesOf t)
-    write-row = omega (arith, a .sound .long .writes)
-
     write-word : (f : ℕ) → f < recordWidth → recordWord (t′ .writes) (writesOf t) f ≡ getD (q ∷ number ∷ 0 ∷ step′ ∷ 0 ∷ []) f 0
-    write-word f g = rw begins (begun-here (t .writes) (writesOf t) q number step′ f g write-row)
+    write-word f g = rw begins (begun-here (t .writes) (writesOf t) q number step′ f g (next-write t (a .sound) few))
 
     write-but : But (t .writes) (t′ .writes) (writesOf t)
     write-but place f g d = rw begins (begun-but (t .writes) (writesOf t) q number step′ place f g d)
@@ -183,11 +163,8 @@ module _ (t t′ : Tables) (h : History) (numbers : List ℕ) (a : Agrees t h nu
   -- a READ begins
   module _ (mask : ℕ) (begins : t′ .reads ≡ putBegun (t .reads) (readsOf t) q mask step′) (same-writes : t′ .writes ≡ t .writes) (c : Counts t t′ (entriesOf t) (writesOf t) (readsOf t + 1))
       (few : readsOf t < recordPlaces) (state : isReading (stateOf t′ q) ≡ true) (here : recordOf t′ q ≡ readsOf t) where
-    read-row : HasRow recordWidth (t .reads) (readsOf t)
-    read-row = omega (arith, a .sound .long .reads)
-
     read-word : (f : ℕ) → f < recordWidth → recordWord (t′ .reads) (readsOf t) f ≡ getD (q ∷ mask ∷ 0 ∷ step′ ∷ 0 ∷ []) f 0
-    read-word f g = rw begins (begun-here (t .reads) (readsOf t) q mask step′ f g read-row)
+    read-word f g = rw begins (begun-here (t .reads) (readsOf t) q mask step′ f g (next-read t (a .sound) few))
 
     read-but : But (t .reads) (t′ .reads) (readsOf t)
     read-but place f g d = rw begins (begun-but (t .reads) (readsOf t) q mask step′ place f g d)
@@ -202,7 +179,7 @@ module _ (t t′ : Tables) (h : History) (numbers : List ℕ) (a : Agrees t h nu
           (λ e. rw e (omega (arith, read-word endOfRecord (omega arith))))
           (λ d. let was : place < readsOf t = omega (arith, c .reads) in omega (arith, read-but place endOfRecord (omega arith) d, a .late place was, c .step));
       writes = λ tag l u. rw (same-writes, c .writes) (one-more (t .writes) (writesOf t) numbers tag (h .write tag) step′ (a .writes tag l u));
-      reads = rw (begins, c .reads) (reads-begun (t .reads) (readsOf t) numbers′ (h .reads) (reads-more (t .reads) (readsOf t) numbers (h .reads) (a .reads) step′) q mask step′ read-row);
+      reads = rw (begins, c .reads) (reads-begun (t .reads) (readsOf t) numbers′ (h .reads) (reads-more (t .reads) (readsOf t) numbers (h .reads) (a .reads) step′) q mask step′ (next-read t (a .sound) few));
       clients = clients-on (record {
         writes = λ p l d w f g. rw same-writes;
         reads = λ p l d w f g. read-but (recordOf t p) f g (λ e. omega (arith, read-open t (a .sound) p l w .within));
@@ -222,17 +199,14 @@ module _ (t t′ : Tables) (h : History) (numbers : List ℕ) (a : Agrees t h nu
   -- a WRITE gets its tag
   module _ (w : isWriting (stateOf t q) ≡ true) (u : Untagged t numbers q (h .doing q)) (tags : t′ .writes ≡ taggedRecord (recordOf t q) (entriesOf t) (t .writes)) (same-reads : t′ .reads ≡ t .reads)
       (c : Counts t t′ (entriesOf t + 1) (writesOf t) (readsOf t)) (state : stateOf t′ q ≡ entering) (here : recordOf t′ q ≡ recordOf t q) (kind : kindOn t′ q coordinator ≡ 2) (number : numberOn t′ q coordinator ≡ entriesOf t) where
-    abbrev own-place : ℕ
-    own-place = recordOf t q
-
-    open-here : keeping.Doing (t .writes) (writesOf t) q own-place
+    open-here : underway.Doing (t .writes) (writesOf t) q own-place
     open-here = write-open t (a .sound) q client w
 
     tag-but : But (t .writes) (t′ .writes) own-place
     tag-but place f g d = rw tags (tagged-but (t .writes) own-place (entriesOf t) place f g d)
 
     tag-here : recordWord (t′ .writes) own-place tagOfRecord ≡ suc (h .tags)
-    tag-here = rw tags (tagged-here (t .writes) own-place (entriesOf t) (write-room t (a .sound) q client w)) ∙ a .entries
+    tag-here = rw tags (tagged-here (t .writes) own-place (entriesOf t) (write-row t (a .sound) q client w)) ∙ a .entries
 
     tag-beside : (f : ℕ) → f < recordWidth → (f ≡ tagOfRecord → ⊥) → recordWord (t′ .writes) own-place f ≡ recordWord (t .writes) own-place f
     tag-beside f g d = rw tags (tagged-word (t .writes) own-place (entriesOf t) own-place f g d)
@@ -274,7 +248,7 @@ module _ (t t′ : Tables) (h : History) (numbers : List ℕ) (a : Agrees t h nu
           one-but (t .writes) (t′ .writes) (writesOf t) (writesOf t) numbers′ tag (h .write tag) own-place o tag-but
           (λ e. omega (arith, ap (λ (n : ℕ). recordWord (t .writes) n tagOfRecord) e, o .bears, u .tag)) (λ e. d (sym e ∙ tag-here)) (omega arith) (λ i y z. y)));
       reads = rw (same-reads, c .reads) (reads-more (t .reads) (readsOf t) numbers (h .reads) (a .reads) step′);
-      clients = clients-on (record { writes = own-write t (a .sound) q client w (t′ .writes) tag-but; reads = λ p l d v f g. rw same-reads })
+      clients = clients-on (record { writes = λ p l d v. others-alike (t .writes) (t′ .writes) (writesOf t) p q (recordOf t p) own-place (write-open t (a .sound) p l v) open-here tag-but d; reads = λ p l d v f g. rw same-reads })
           (tagged (suc (h .tags)))
           (be-tagged t′ numbers′ q (tagged (suc (h .tags))) state kind (record { is = ap tagged (sym (number ∙ a .entries)); tag = rw here (tag-here ∙ sym (number ∙ a .entries)) }));
     }
@@ -285,37 +259,34 @@ module _ (t t′ : Tables) (h : History) (numbers : List ℕ) (a : Agrees t h nu
     abbrev ending : Particulars → Particulars
     ending e = particulars (e .isWrite) (e .tag) (e .client) (e .mask) (e .begin) step′
 
-    abbrev own-record : ℕ
-    own-record = recordOf t q
-
-    end-but : But (t .writes) (t′ .writes) own-record
-    end-but place f g d = rw ends (ended-but (t .writes) own-record step′ place f g d)
+    end-but : But (t .writes) (t′ .writes) own-place
+    end-but place f g d = rw ends (ended-but (t .writes) own-place step′ place f g d)
 
     end-beside : (place f : ℕ) → f < recordWidth → (f ≡ endOfRecord → ⊥) → recordWord (t′ .writes) place f ≡ recordWord (t .writes) place f
-    end-beside place f g d = rw ends (ended-word (t .writes) own-record step′ place f g d)
+    end-beside place f g d = rw ends (ended-word (t .writes) own-place step′ place f g d)
 
-    end-here : recordWord (t′ .writes) own-record endOfRecord ≡ step′
-    end-here = rw ends (word-same recordWidth (t .writes) own-record endOfRecord step′ (write-room t (a .sound) q client w) (omega arith))
+    end-here : recordWord (t′ .writes) own-place endOfRecord ≡ step′
+    end-here = rw ends (word-same recordWidth (t .writes) own-place endOfRecord step′ (write-row t (a .sound) q client w) (omega arith))
 
     abbrev was : OneWrite (t .writes) (writesOf t) numbers tag (h .write tag)
     was = a .writes tag some-tag logged
 
-    was-here : own-record ≡ was .place
-    was-here = was .unique own-record (write-open t (a .sound) q client w .within) bears-tag
+    was-here : own-place ≡ was .place
+    was-here = was .unique own-place (write-open t (a .sound) q client w .within) bears-tag
 
-    end-particulars : ofRecord true 0 (t′ .writes) own-record ≡ ending (ofRecord true 0 (t .writes) own-record)
-    end-particulars = rw (end-here, end-beside own-record tagOfRecord (omega arith) (λ e. omega arith), end-beside own-record clientOfRecord (omega arith) (λ e. omega arith), end-beside own-record beginOfRecord (omega arith) (λ e. omega arith))
+    end-particulars : ofRecord true 0 (t′ .writes) own-place ≡ ending (ofRecord true 0 (t .writes) own-place)
+    end-particulars = rw (end-here, end-beside own-place tagOfRecord (omega arith) (λ e. omega arith), end-beside own-place clientOfRecord (omega arith) (λ e. omega arith), end-beside own-place beginOfRecord (omega arith) (λ e. omega arith))
 
-    end-tells : Tells numbers′ (ended (h .clock) (h .write tag)) (ofRecord true 0 (t′ .writes) own-record)
+    end-tells : Tells numbers′ (ended (h .clock) (h .write tag)) (ofRecord true 0 (t′ .writes) own-place)
     end-tells =
         let before = tells-more numbers step′ (h .write tag) _ (tells-as numbers (h .write tag) (ap (ofRecord true 0 (t .writes)) was-here) (was .tells)) in
         record { is = rw number-now (ap ending (before .is)) ∙ sym end-particulars; begun = before .begun; ended = now-known }
 
     end-one : OneWrite (t′ .writes) (writesOf t) numbers′ tag (ended (h .clock) (h .write tag))
     end-one = record {
-      place = own-record;
+      place = own-place;
       within = write-open t (a .sound) q client w .within;
-      bears = end-beside own-record tagOfRecord (omega arith) (λ e. omega arith) ∙ bears-tag;
+      bears = end-beside own-place tagOfRecord (omega arith) (λ e. omega arith) ∙ bears-tag;
       unique = λ i l e. was .unique i l (sym (end-beside i tagOfRecord (omega arith) (λ z. omega arith)) ∙ e) ∙ sym was-here;
       tells = end-tells;
     }
@@ -330,49 +301,46 @@ module _ (t t′ : Tables) (h : History) (numbers : List ℕ) (a : Agrees t h nu
           (λ l m. end-one)
           (λ n d l m.
           let o = one-more (t .writes) (writesOf t) numbers n (h .write n) step′ (a .writes n l m) in
-          one-but (t .writes) (t′ .writes) (writesOf t) (writesOf t) numbers′ n (h .write n) own-record o end-but
+          one-but (t .writes) (t′ .writes) (writesOf t) (writesOf t) numbers′ n (h .write n) own-place o end-but
           (λ e. d (sym (o .bears) ∙ ap (λ (i : ℕ). recordWord (t .writes) i tagOfRecord) e ∙ bears-tag))
-          (λ e. d (sym e ∙ end-beside own-record tagOfRecord (omega arith) (λ z. omega arith) ∙ bears-tag)) (omega arith) (λ i y z. y)));
+          (λ e. d (sym e ∙ end-beside own-place tagOfRecord (omega arith) (λ z. omega arith) ∙ bears-tag)) (omega arith) (λ i y z. y)));
       reads = rw (same-reads, c .reads) (reads-more (t .reads) (readsOf t) numbers (h .reads) (a .reads) step′);
-      clients = clients-on (record { writes = own-write t (a .sound) q client w (t′ .writes) end-but; reads = λ p l d v f g. rw same-reads }) nothing (be-idle t′ numbers′ q nothing state refl);
+      clients = clients-on (record { writes = λ p l d v. others-alike (t .writes) (t′ .writes) (writesOf t) p q (recordOf t p) own-place (write-open t (a .sound) p l v) (write-open t (a .sound) q client w) end-but d; reads = λ p l d v f g. rw same-reads }) nothing (be-idle t′ numbers′ q nothing state refl);
     }
 
   -- a READ ends
   module _ (w : isReading (stateOf t q) ≡ true) (r : Reading t numbers q (h .doing q)) (tag : ℕ) (shown : List ℕ)
       (ends : t′ .reads ≡ endedRecord (recordOf t q) step′ (taggedRecord (recordOf t q) tag (t .reads))) (same-writes : t′ .writes ≡ t .writes) (c : Counts t t′ (entriesOf t) (writesOf t) (readsOf t)) (state : stateOf t′ q ≡ idle) where
-    abbrev read-place : ℕ
-    read-place = recordOf t q
-
     abbrev with-tag : List ℕ
-    with-tag = taggedRecord read-place tag (t .reads)
+    with-tag = taggedRecord own-place tag (t .reads)
 
-    open-read : keeping.Doing (t .reads) (readsOf t) q read-place
+    open-read : underway.Doing (t .reads) (readsOf t) q own-place
     open-read = read-open t (a .sound) q client w
 
-    room : HasRow recordWidth (t .reads) read-place
-    room = read-room t (a .sound) q client w
+    room : HasRow recordWidth (t .reads) own-place
+    room = read-row t (a .sound) q client w
 
-    over-but : But (t .reads) (t′ .reads) read-place
-    over-but place f g d = rw ends (ended-but with-tag read-place step′ place f g d ∙ tagged-but (t .reads) read-place tag place f g d)
+    over-but : But (t .reads) (t′ .reads) own-place
+    over-but place f g d = rw ends (ended-but with-tag own-place step′ place f g d ∙ tagged-but (t .reads) own-place tag place f g d)
 
-    over-end : recordWord (t′ .reads) read-place endOfRecord ≡ step′
-    over-end = rw ends (word-same recordWidth with-tag read-place endOfRecord step′ (rw (word-length recordWidth (t .reads) read-place tagOfRecord tag) room) (omega arith))
+    over-end : recordWord (t′ .reads) own-place endOfRecord ≡ step′
+    over-end = rw ends (word-same recordWidth with-tag own-place endOfRecord step′ (rw (word-length recordWidth (t .reads) own-place tagOfRecord tag) room) (omega arith))
 
-    over-tag : recordWord (t′ .reads) read-place tagOfRecord ≡ tag
-    over-tag = rw ends (ended-word with-tag read-place step′ read-place tagOfRecord (omega arith) (λ e. omega arith) ∙ tagged-here (t .reads) read-place tag room)
+    over-tag : recordWord (t′ .reads) own-place tagOfRecord ≡ tag
+    over-tag = rw ends (ended-word with-tag own-place step′ own-place tagOfRecord (omega arith) (λ e. omega arith) ∙ tagged-here (t .reads) own-place tag room)
 
-    over-beside : (f : ℕ) → f < recordWidth → (f ≡ endOfRecord → ⊥) → (f ≡ tagOfRecord → ⊥) → recordWord (t′ .reads) read-place f ≡ recordWord (t .reads) read-place f
-    over-beside f g d e = rw ends (ended-word with-tag read-place step′ read-place f g d ∙ tagged-word (t .reads) read-place tag read-place f g e)
+    over-beside : (f : ℕ) → f < recordWidth → (f ≡ endOfRecord → ⊥) → (f ≡ tagOfRecord → ⊥) → recordWord (t′ .reads) own-place f ≡ recordWord (t .reads) own-place f
+    over-beside f g d e = rw ends (ended-word with-tag own-place step′ own-place f g d ∙ tagged-word (t .reads) own-place tag own-place f g e)
 
     abbrev finished : Transaction
     finished = readOf q (r .mask) shown tag (r .begin) (h .clock) (suc (r .deliveries))
 
-    over-tells : Tells numbers′ finished (ofRead (t′ .reads) read-place)
+    over-tells : Tells numbers′ finished (ofRead (t′ .reads) own-place)
     over-tells = record {
       is = sym (rw (
         over-tag,
         over-end,
-        over-beside clientOfRecord (omega arith) (λ e. omega arith) (λ e. omega arith) ∙ open-client (t .reads) q read-place (open-read .here),
+        over-beside clientOfRecord (omega arith) (λ e. omega arith) (λ e. omega arith) ∙ open-client (t .reads) q own-place (open-read .here),
         over-beside numberOfRecord (omega arith) (λ e. omega arith) (λ e. omega arith) ∙ r .masked,
         over-beside beginOfRecord (omega arith) (λ e. omega arith) (λ e. omega arith) ∙ r .start ∙ sym (number-more numbers step′ (r .begin) (r .known)),
         number-now,
@@ -387,11 +355,11 @@ module _ (t t′ : Tables) (h : History) (numbers : List ℕ) (a : Agrees t h nu
       clock = clock-on;
       entries = c .entries ∙ a .entries;
       late = λ place l.
-          by-equal place read-place
+          by-equal place own-place
           (λ e. rw e (omega (arith, over-end, c .step)))
           (λ d. let before : place < readsOf t = omega (arith, c .reads) in omega (arith, over-but place endOfRecord (omega arith) d, a .late place before, c .step));
       writes = λ n l u. rw (same-writes, c .writes) (one-more (t .writes) (writesOf t) numbers n (h .write n) step′ (a .writes n l u));
       reads = rw (c .reads, ends) (reads-ended (t .reads) (readsOf t) numbers′ (h .reads) (reads-more (t .reads) (readsOf t) numbers (h .reads) (a .reads) step′)
-          read-place tag step′ (open-read .within) room (open-end (t .reads) q read-place (open-read .here)) (λ i l. omega (arith, a .late i l)) finished (rw ends at over-tells));
-      clients = clients-on (record { writes = λ p l d v f g. rw same-writes; reads = own-read t (a .sound) q client w (t′ .reads) over-but }) nothing (be-idle t′ numbers′ q nothing state refl);
+          own-place tag step′ (open-read .within) room (open-end (t .reads) q own-place (open-read .here)) (λ i l. omega (arith, a .late i l)) finished (rw ends at over-tells));
+      clients = clients-on (record { writes = λ p l d v f g. rw same-writes; reads = λ p l d v. others-alike (t .reads) (t′ .reads) (readsOf t) p q (recordOf t p) own-place (read-open t (a .sound) p l v) open-read over-but d }) nothing (be-idle t′ numbers′ q nothing state refl);
     }

@@ -5,9 +5,6 @@ use mathlib.Core.Bool.{Bool, true, false, cond}
 use mathlib.Core.List.{List}
 use native.Mathlib.Omega.{arith}
 use native.Mathlib.Numerals.{add-one}
-use lib.Dec.{leb, ltb}
-use borrow.Author.Tests.{eqb-true, leb-true, ltb-true}
-use Rattle.ranges.specs.Tests.{both-left, both-right}
 use Rattle.keys.specs.Keys.{keyOf}
 use Rattle.tables.specs.Rows.{HasRow, word-same, word-other, word-length}
 use Rattle.tables.specs.Layout.{clientWidth, clientWord, putClientWord, stateField, tagField, recordField, setpointsField, receivedField, entriesField, writesField, readsField}
@@ -23,13 +20,13 @@ use Rattle.rules.specs.Common as rules
 use Rattle.rules.specs.Begin.{sentGets}
 use Rattle.rules.specs.Reply.{said, moved, emptied, readShown, endedRead, onSetDone, onEntered, onKeys, gotSetpoint, onGot, gotNumber, tagChosen, concluded, endedByC, onAll, onReplyIn, onReply, replyDelivered}
 use Rattle.soundness.specs.Sound.{isReading, keyOn}
+use Rattle.soundness.specs.Room.{client-row, link-row}
 use Rattle.refusals.specs.Refusals.{deliveryRefusal}
 use Rattle.keeping.specs.Accepted.{Deliverable, deliverable, target-below}
 use Rattle.keeping.specs.Frame.{Kept}
 use Rattle.keeping.specs.Links.{kindOn, numberOn, reply-kind, reply-words, put-same}
-use Rattle.keeping.specs.States.{by-state, uses-entering, reply-entering}
+use Rattle.keeping.specs.States.{by-state, entering-target, entered-tag}
 use Rattle.keeping.specs.Moves.{counted-other, counted-step}
-use Rattle.keeping.specs.Requests.{link-row}
 use Rattle.keeping.specs.Came.{Came, asks, used, rest-long}
 use Rattle.keeping.specs.Replies.{replyDelivered-kept}
 use Rattle.serial.specs.Steps.{replied}
@@ -76,7 +73,7 @@ module _ (t : Tables) (h : History) (numbers : List ℕ) (a : Agrees t h numbers
     activity = a .clients q client
 
     row-has : HasRow clientWidth (t .clients) q
-    row-has = omega (arith, a .sound .long .clients, client)
+    row-has = client-row t (a .sound) q client
 
     -- a READ goes on: it waits, or asks again
     module _ (clients links : List ℕ) (reads : isReading (stateOf t q) ≡ true) (state : isReading (clientWord clients q stateField) ≡ true) (place : clientWord clients q recordField ≡ recordOf t q)
@@ -119,7 +116,7 @@ module _ (t : Tables) (h : History) (numbers : List ℕ) (a : Agrees t h numbers
     abbrev rest : List ℕ
     rest = emptied q i t
 
-    -- a station acknowledged: the WRITE waits for more, or goes to the head
+    -- a station acknowledged: the WRITE waits for more, or goes to the coordinator
     module _ (state : stateOf t q ≡ rules.writing) where
       abbrev u : Untagged t numbers q (h .doing q)
       u = activity .storing state
@@ -145,7 +142,7 @@ module _ (t : Tables) (h : History) (numbers : List ℕ) (a : Agrees t h numbers
       enter-place = word-other clientWidth (t .clients) q stateField entering q recordField (omega arith) (omega arith) (λ e. omega (arith, e .1))
 
       enter-kind : kindOn enters q coordinator ≡ 1
-      enter-kind = put-same rest q coordinator enter 0 (rw (rest-long came) (link-row t q coordinator (a .sound) client (omega arith))) (omega arith)
+      enter-kind = put-same rest q coordinator enter 0 (rw (rest-long came) (link-row t (a .sound) q client coordinator (omega arith))) (omega arith)
 
       write-enters : Kept q t enters → AnswersReply (said Next enters)
       write-enters k =
@@ -165,16 +162,14 @@ module _ (t : Tables) (h : History) (numbers : List ℕ) (a : Agrees t h numbers
     unfolding onEntered
     entered-answers state k =
         let t′ = onEntered w q i t .tables in
-        let head : i ≡ coordinator = eqb-true i coordinator (rw (state, uses-entering) at (used came)) in
-        let g = activity .tagged state (subst (λ (j : ℕ). kindOn t q j ≡ 2) head (came .kind)) in
-        let same : numberOn t q coordinator ≡ numberOn t q i = ap (numberOn t q) (sym head) in
+        let at = entering-target (maskOf t q) i (rw state at (used came)) in
+        let g = activity .tagged state (subst (λ (j : ℕ). kindOn t q j ≡ 2) at (came .kind)) in
+        let same : numberOn t q coordinator ≡ numberOn t q i = ap (numberOn t q) (sym at) in
         let number = numberOn t q i in
-        let sent = rw (state, reply-entering) at (asks came .reply (came .kind)) in
-        let least = leb-true 1 number (both-left (leb 1 number) (ltb number (entriesOf t)) sent) in
-        let most = ltb-true number (entriesOf t) (both-right (leb 1 number) (ltb number (entriesOf t)) sent) in
+        let tag = entered-tag t i number (rw state at (asks came .reply (came .kind))) in
         let row = putClientWord (t .clients) q tagField number in
         let idles : stateOf t′ q ≡ idle = word-same clientWidth row q stateField idle (rw (word-length clientWidth (t .clients) q tagField number) row-has) (omega arith) in
-        let b = write-ends t t′ h numbers a q client k (rw state) number least (omega (arith, a .entries)) (g .tag ∙ same) refl refl (counts t′ refl) idles in
+        let b = write-ends t t′ h numbers a q client k (rw state) number (tag .0) (omega (arith, a .entries, tag .1)) (g .tag ∙ same) refl refl (counts t′ refl) idles in
         record { agrees = as-next t h numbers a t′ (after (replied q i (nothingShown (Write number))) h) (rw (g .is ∙ ap tagged same) b); step = next-step t′ refl }
 
     keys-answers : stateOf t q ≡ askingKeys → Kept q t (onKeys w q i t .tables) → AnswersReply (onKeys w q i t)
@@ -221,7 +216,7 @@ module _ (t : Tables) (h : History) (numbers : List ℕ) (a : Agrees t h numbers
   by-content d Nothing e = λ k. reply-refused 9
   by-content d (Request x) e = λ k. reply-refused 9
   by-content d (Reply x) e =
-      let target = target-below q i t (a .sound) d in
+      let target = target-below t (a .sound) i (d .target) in
       let kind = a .sound .client q (d .client) .link i target .kind in
       let came : Came q i t = record { sound = a .sound; client = d .client; target = target; early = d .early; kind = reply-kind (t .links) q i x kind e } in
       subst (λ (y : Contents). Kept q t (onReplyIn (stateOf t q) y q i t .tables) → AnswersReply (onReplyIn (stateOf t q) y q i t)) (reply-words (t .links) q i x kind e) (in-state came)

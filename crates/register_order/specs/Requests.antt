@@ -8,11 +8,11 @@ use native.Mathlib.Numerals.{add-one}
 use lib.ListN.{length, getD, set}
 use lib.Seq.{getD-set-same, getD-set-other}
 use lib.Dec.{ltb}
-use borrow.Author.Tests.{eqb-true, eq-eqb, ne-eqb}
+use borrow.Author.Tests.{eq-eqb, ne-eqb}
 use Rattle.ranges.specs.Tests.{by-test, either}
 use Rattle.tables.specs.Layout.{countAt, countWords, stepField, entriesField, writesField, readsField, heldField, logPlaces, putEntry, versionWord}
 use Rattle.tables.specs.Links.{targets, linkWidth}
-use Rattle.tables.specs.Tables.{Tables, serversOf, clientsOf, stepOf, entriesOf, writesOf, readsOf, heldOf, stateOf, maskOf, recordOf, contentAt}
+use Rattle.tables.specs.Tables.{Tables, clientsOf, stepOf, entriesOf, writesOf, readsOf, heldOf, stateOf, maskOf, recordOf, contentAt}
 use Rattle.tables.specs.declared.links.Contents.{Contents}
 use Rattle.tables.specs.declared.links.Content.{Content}
 use Rattle.tables.specs.declared.links.Content.the-variants.{Nothing, Request, Reply}
@@ -25,13 +25,14 @@ use Rattle.rules.specs.Common as rules
 use Rattle.rules.specs.Request.{answered, refused, storedBy, enteredBy, onSet, onEnter, onWhichKeys, onGet, onGetAll, onRequestIn, onRequest, requestDelivered}
 use Rattle.soundness.specs.Sound.{uses, isReading}
 use Rattle.soundness.specs.Facts.{ClientFacts}
+use Rattle.soundness.specs.Room.{server-fits, link-row}
 use Rattle.refusals.specs.Refusals.{deliveryRefusal}
 use Rattle.keeping.specs.Accepted.{Deliverable, deliverable, target-below}
 use Rattle.keeping.specs.Frame.{Kept}
 use Rattle.keeping.specs.Links.{linkWord, kindOn, link-asks, request-kind, put-same}
-use Rattle.keeping.specs.States.{by-state, masked-below, uses-writing, uses-entering}
+use Rattle.keeping.specs.States.{by-state, entering-target, masked-server, uses-writing}
 use Rattle.keeping.specs.Moves.{counted-other, counted-step, counted-length}
-use Rattle.keeping.specs.Requests.{link-row, requestDelivered-kept}
+use Rattle.keeping.specs.Requests.{requestDelivered-kept}
 use Rattle.serial.specs.Steps.{requested, Played}
 use Rattle.serial.specs.History.{reading, History, atCoordinator, after}
 use Rattle.serial.specs.Consequences.{accepted}
@@ -58,7 +59,7 @@ module _ (t : Tables) (h : History) (numbers : List ℕ) (a : Agrees t h numbers
     client = d .client
 
     target : i < targets
-    target = target-below q i t (a .sound) d
+    target = target-below t (a .sound) i (d .target)
 
     facts : ClientFacts t q
     facts = a .sound .client q client
@@ -104,8 +105,8 @@ module _ (t : Tables) (h : History) (numbers : List ℕ) (a : Agrees t h numbers
       stored : stateOf t q ≡ rules.writing → AnswersRequest (answered q i number u)
       stored e =
           let x = activity .storing e in
-          let server = masked-below (maskOf t q) (serversOf t) i (facts .mask) (rw (e, uses-writing) at used) in
-          let apart : atCoordinator i ≡ false = ne-eqb i coordinator (λ z. omega (arith, a .sound .scalars .press .servers .most)) in
+          let server = masked-server t (a .sound) q i client (rw (e, uses-writing) at used) in
+          let apart : atCoordinator i ≡ false = ne-eqb i coordinator (λ z. omega (arith, server-fits t (a .sound) i server)) in
           let b = quiet-passed t left′ h numbers a q client k same-writes same-reads counts (be-storing left′ (more numbers (stepOf t + 1)) q (h .doing q) (state′ ∙ e) (untagged-on t left′ numbers (stepOf t + 1) q place′ (h .doing q) (λ f g. rw same-writes) x)) in
           answers (rw (apart, x .is) b)
 
@@ -142,7 +143,7 @@ module _ (t : Tables) (h : History) (numbers : List ℕ) (a : Agrees t h numbers
       unfolding onGetAll
       all-answers e k = read-on _ t refl refl refl (λ f l. refl) k (rw e)
 
-      -- the head appends the WRITE, and its place is the tag
+      -- the coordinator appends the WRITE, and its place is the tag
       abbrev longer : List ℕ
       longer = set (t .counts) entriesField (entriesOf t + 1)
 
@@ -161,17 +162,17 @@ module _ (t : Tables) (h : History) (numbers : List ℕ) (a : Agrees t h numbers
           }
 
       log-word : i ≡ coordinator → (f : ℕ) → f < linkWidth → linkWord (logged .tables .links) q coordinator f ≡ getD (2 ∷ 0 ∷ entriesOf t ∷ []) f 0
-      log-word head f l =
-          subst (λ (j : ℕ). linkWord (logged .tables .links) q j f ≡ getD (2 ∷ 0 ∷ entriesOf t ∷ []) f 0) head
-          (put-same (t .links) q i (reply (entriesOf t)) f (link-row t q i (a .sound) client target) l)
+      log-word at f l =
+          subst (λ (j : ℕ). linkWord (logged .tables .links) q j f ≡ getD (2 ∷ 0 ∷ entriesOf t ∷ []) f 0) at
+          (put-same (t .links) q i (reply (entriesOf t)) f (link-row t (a .sound) q client i target) l)
 
       log-answers : stateOf t q ≡ entering → Kept q t (logged .tables) → AnswersRequest logged
       log-answers e k =
-          let head : i ≡ coordinator = eqb-true i coordinator (rw (e, uses-entering) at used) in
-          let x = activity .asking e (subst (λ (j : ℕ). kindOn t q j ≡ 1) head asked) in
+          let at = entering-target (maskOf t q) i (rw e at used) in
+          let x = activity .asking e (subst (λ (j : ℕ). kindOn t q j ≡ 1) at asked) in
           let c = log-counts k in
-          let agrees = write-tags t (logged .tables) h numbers a q client k (rw e) x refl refl c e refl (log-word head 0 (omega arith)) (log-word head 2 (omega arith)) in
-          record { agrees = as-next t h numbers a (logged .tables) (after (requested q i Ok) h) (rw (eq-eqb i coordinator head, x .is) agrees); step = c .step ∙ add-one (stepOf t) }
+          let agrees = write-tags t (logged .tables) h numbers a q client k (rw e) x refl refl c e refl (log-word at 0 (omega arith)) (log-word at 2 (omega arith)) in
+          record { agrees = as-next t h numbers a (logged .tables) (after (requested q i Ok) h) (rw (eq-eqb i coordinator at, x .is) agrees); step = c .step ∙ add-one (stepOf t) }
 
       enter-answers : stateOf t q ≡ entering → Kept q t (onEnter w q i t .tables) → AnswersRequest (onEnter w q i t)
       unfolding onEnter entered
@@ -192,7 +193,7 @@ module _ (t : Tables) (h : History) (numbers : List ℕ) (a : Agrees t h numbers
 
   by-content : Deliverable q i t → (c : Content) → contentAt t q i ≡ c → Kept q t (onRequest c q i t .tables) → AnswersRequest (onRequest c q i t)
   by-content d Nothing e k = request-refused 9
-  by-content d (Request w) e k = in-state d (request-kind (t .links) q i w (a .sound .client q (d .client) .link i (target-below q i t (a .sound) d) .kind) e) w k
+  by-content d (Request w) e k = in-state d (request-kind (t .links) q i w (a .sound .client q (d .client) .link i (target-below t (a .sound) i (d .target)) .kind) e) w k
   by-content d (Reply w) e k = request-refused 9
 
   pub request-answers : deliveryRefusal q i t ≡ 0 → AnswersRequest (requestDelivered q i t)

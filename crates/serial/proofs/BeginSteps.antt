@@ -6,12 +6,11 @@ use mathlib.Core.List.{List, [], _∷_}
 use native.Mathlib.Omega.{arith}
 use native.Mathlib.Numerals.{add-one}
 use lib.ListN.{getD, set, length, length-set}
-use lib.Dec.{eqb, ltb}
-use borrow.Author.Tests.{ltb-true, ltb-false}
-use Rattle.ranges.specs.Tests.{by-test, not-both}
+use lib.Dec.{eqb}
+use Rattle.ranges.specs.Tests.{by-test}
 use Rattle.ranges.specs.Sum.{one, sum-part, one-true}
 use Rattle.keys.specs.Keys.{keyOf, opening, FitsByte, at-word-fits}
-use Rattle.keys.specs.Masks.{hasServer, serversIn, Within, no-server, some-server}
+use Rattle.keys.specs.Masks.{hasServer, serversIn, Within, some-server}
 use Rattle.coordinator.specs.Latest.{latestKey}
 use Rattle.tables.specs.Rows.{HasRow, word-same, word-other}
 use Rattle.tables.specs.Layout.{clientWidth, clientWord, putClientWord, stateField, countField, maskField, tagField, recordField, setpointsField, writesField, readsField, recordPlaces, countWords}
@@ -24,14 +23,16 @@ use Rattle.rules.specs.Common.{idle, askingKeys, askingSetpoints, askingAll, co
 use Rattle.rules.specs.Common as rules
 use Rattle.rules.specs.Begin.{storedSetpoints, nextCount, begunWrite, sentGets, sendAsk, sentAsks, asking, lastTag, askingByA, askingByB, askingByC, begunReadWith, begunRead}
 use Rattle.rules.specs.declared.Answer.the-variants.{Ok}
+use Rattle.soundness.specs.Asked.{LinksThere}
+use Rattle.keeping.specs.States.{masked-below}
 use Rattle.keeping.specs.Rows.{Put, put, putAll, put-read, put-elsewhere, put-length, loop-other}
 use Rattle.keeping.specs.Rounds.{sent-length}
 use Rattle.serial.specs.Steps.{Event, begun-write, begun-read}
 use Rattle.serial.specs.History.{changed, History, extraOf}
 use Rattle.serial.proofs.Press.{Shared, renumbered, Client, clientOf, Press, pressOf, stateIn, countIn, rowOf, linksOf, sharedOf, view, sends, world}
 use Rattle.serial.proofs.View.{within-at, within-same, row-put-other, link-put, link-put-other, view-is, sharedIn, shared-step, shared-writes, shared-reads}
-use Rattle.serial.proofs.Loops.{HasLinks, sent-links, sent-others, loop-rows}
-use Rattle.serial.proofs.Ready.{Ready, few, in-range, has-row, has-link, row-at, link-at}
+use Rattle.serial.proofs.Loops.{sent-links, sent-others, loop-rows}
+use Rattle.serial.proofs.Ready.{Ready, few, in-range, has-row, has-link, has-links, row-at, link-at}
 use Rattle.serial.proofs.Invariant.{Idle, Tied}
 use Rattle.serial.proofs.Kept.{Kept, resting}
 use Rattle.serial.proofs.Links.{come-changed, come-none, no-coordinator, sends-come}
@@ -59,10 +60,7 @@ module _ (state mask place q : ℕ) (clients : List ℕ) (has : HasRow clientWid
   started-count : clientWord (startedClient state mask place q clients) q countField ≡ clientWord clients q countField
   started-count = put-read q puts clients countField _ has refl (omega arith) refl
 
--- a mask that is accepted has servers, all of them below k
-pub mask-bound : (mask k : ℕ) → Within mask k → (i : ℕ) → hasServer mask i ≡ true → i < k
-mask-bound mask k w i e = by-test (ltb i k) (λ b. ltb-true i k b) (λ b. absurd (not-both e (no-server mask k i (w .below) (ltb-false i k b))))
-
+-- a mask that is accepted has servers
 pub mask-some : (mask k : ℕ) → k ≤ 16 → Within mask k → 0 < serversIn mask
 mask-some mask k l w =
     let s = some-server mask k w in
@@ -81,11 +79,11 @@ module _ (floor : ℕ → ℕ) (t : Tables) (h : History) (tied : Tied floor (vi
   empty : (i : ℕ) → i < targets → linkAt (t .links) q i .content ≡ Nothing
   empty i l = sym (link-at t q i l) ∙ idling .links i l
 
-  long : HasLinks (t .links) q
-  long = omega (arith, ready .client, ready .sound .long .links)
+  long : LinksThere (t .links) q
+  long = has-links t q ready
 
   bound : (i : ℕ) → hasServer mask i ≡ true → i < serversOf t
-  bound = mask-bound mask (serversOf t) w
+  bound i e = masked-below mask (serversOf t) i (w .below) e
 
   some-masked : 0 < serversIn mask
   some-masked = mask-some mask (serversOf t) (few t q ready) w

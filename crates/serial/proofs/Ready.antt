@@ -4,13 +4,15 @@ use mathlib.Core.Path.{_≡_, sym, ap, _∙_}
 use native.Mathlib.Omega.{arith}
 use Rattle.ranges.specs.Tests.{by-equal}
 use Rattle.tables.specs.Rows.{HasRow}
-use Rattle.tables.specs.Layout.{clientWidth, clientWord, serverPlaces}
+use Rattle.tables.specs.Layout.{clientWidth, clientWord}
 use Rattle.tables.specs.Links.{targets, linkWidth, linkRow}
 use Rattle.tables.specs.Tables.{Tables, serversOf, clientsOf, contentAt}
 use Rattle.tables.specs.declared.links.Content.{Content}
 use Rattle.tables.specs.declared.links.Content.the-variants.{Nothing}
 use Rattle.rules.specs.Common.{coordinator}
 use Rattle.soundness.specs.Facts.{Sound}
+use Rattle.soundness.specs.Asked.{LinksThere}
+use Rattle.soundness.specs.Room.{few-servers, client-fits, client-row, client-links, link-row}
 use Rattle.serial.proofs.Press.{weight, view}
 use Rattle.serial.proofs.View.{within-at}
 
@@ -20,22 +22,19 @@ pub record Ready (t : Tables) (q : ℕ) : Type 0 where
 
 module _ (t : Tables) (q : ℕ) (r : Ready t q) where
   pub few : serversOf t ≤ 16
-  few = r .sound .scalars .press .servers .most
+  few = few-servers t (r .sound)
 
   pub in-range : q < 16
-  in-range = omega (arith, r .client, r .sound .scalars .press .clients .most)
+  in-range = client-fits t (r .sound) q (r .client)
 
   pub has-row : HasRow clientWidth (t .clients) q
-  has-row = omega (arith, r .client, r .sound .long .clients)
+  has-row = client-row t (r .sound) q (r .client)
 
   pub has-link : (i : ℕ) → i < targets → HasRow linkWidth (t .links) (linkRow q i)
-  has-link i l = omega (arith, r .client, r .sound .long .links)
+  has-link = link-row t (r .sound) q (r .client)
 
-  pub has-keys : (i : ℕ) → i < serversOf t → HasRow serverPlaces (t .keys) i
-  has-keys i l = omega (arith, r .sound .long .keys)
-
-  pub has-values : (i : ℕ) → i < serversOf t → HasRow serverPlaces (t .values) i
-  has-values i l = omega (arith, r .sound .long .values)
+  pub has-links : LinksThere (t .links) q
+  has-links = client-links t (r .sound) q (r .client)
 
 -- a word of the row and a link as the view has them
 pub row-at : (t : Tables) (q f : ℕ) → f < clientWidth → view t .client q .row f ≡ clientWord (t .clients) q f

@@ -27,6 +27,7 @@ use Rattle.rules.specs.Begin.{sentGets}
 use Rattle.rules.specs.Reply.{said, emptied, showSetpoint, shownSetpoints, readShown, onSetDone, onEntered, onKeys, gotSetpoint, onGot, gotNumber, receivedIn, setpointAt, keepSetpoint, forget, tagChosen, concluded, onAll, onReplyIn, onReply, replyDelivered}
 use Rattle.rules.specs.declared.Delivered.{Delivered}
 use Rattle.rules.specs.declared.Arrival.the-variants as arrival
+use Rattle.soundness.specs.Asked.{LinksThere}
 use Rattle.keeping.specs.Rows.{loop-other, loop-length, loop-there}
 use Rattle.serial.specs.Steps.{replied}
 use Rattle.serial.specs.History.{changed, History}
@@ -37,8 +38,8 @@ use Rattle.serial.proofs.View.{within-at, row-put, row-put-other, link-
 use Rattle.serial.proofs.Links.{come-changed, all-empty, no-coordinator, sends-come}
 use Rattle.serial.proofs.Budget.{Budget, no-rest}
 use Rattle.serial.proofs.Spending.{further, done-budget, last-budget}
-use Rattle.serial.proofs.Loops.{HasLinks, sent-links, sent-others, loop-rows, pending-come, none-come}
-use Rattle.serial.proofs.Ready.{Ready, few, in-range, has-row, has-link, row-at, link-at, not-empty, at-coordinator}
+use Rattle.serial.proofs.Loops.{sent-links, sent-others, loop-rows, pending-come, none-come}
+use Rattle.serial.proofs.Ready.{Ready, few, in-range, has-row, has-link, has-links, row-at, link-at, not-empty, at-coordinator}
 use Rattle.serial.proofs.Invariant.{Writing, Entering, AskingKeys, Getting, AskingAll, Activity, at-rest, at-writing, at-entering, at-keys, at-getting, at-all, Tied}
 use Rattle.serial.proofs.Kept.{Kept, Does, passed-tied}
 use Rattle.serial.proofs.Replies.{done-wait-kept, done-next-kept, got-wait-kept, got-end-kept, told-wait-kept, told-end-kept, entered-kept, keys-kept}
@@ -215,8 +216,8 @@ module _ (floor : ℕ → ℕ) (t : Tables) (h : History) (tied : Tied floor (vi
         bound : (j : ℕ) → hasServer (maskOf t q) j ≡ true → j < serversOf t
         bound j m = a .bound j (rw mask-at m)
 
-        long : HasLinks (emptied q i t) q
-        long = rw (link-length (t .links) q i Nothing) (omega (arith, ready .client, ready .sound .long .links))
+        long : LinksThere (emptied q i t) q
+        long = rw (link-length (t .links) q i Nothing) (has-links t q ready)
 
         empty : i ≡ coordinator → (j : ℕ) → j < targets → linkAt (emptied q i t) q j .content ≡ Nothing
         empty at j l =

@@ -23,6 +23,7 @@ use Rattle.rules.specs.Common.{entering, askingKeys, askingSetpoints, askingAll
 use Rattle.rules.specs.Common as rules
 use Rattle.rules.specs.Request.{refused, onSet, onEnter, onWhichKeys, onGet, onGetAll, onRequestIn, onRequest, requestDelivered}
 use Rattle.rules.specs.declared.Answer.the-variants.{Ok}
+use Rattle.soundness.specs.Room.{server-fits, keys-row, values-row, next-entry}
 use Rattle.serial.specs.Steps.{requested}
 use Rattle.serial.specs.History.{changed, History}
 use Rattle.serial.specs.Claim.{IsReply, LeavesReply}
@@ -31,7 +32,7 @@ use Rattle.serial.proofs.Press.{Shared, renumbered, Client, Press, pres
 use Rattle.serial.proofs.View.{link-put, link-put-other, view-is, sharedIn, shared-step, shared-held, shared-entries}
 use Rattle.serial.proofs.Links.{come-changed}
 use Rattle.serial.proofs.Versions.{found-place}
-use Rattle.serial.proofs.Ready.{Ready, few, in-range, has-link, has-keys, has-values, row-at, link-at, not-empty, at-coordinator}
+use Rattle.serial.proofs.Ready.{Ready, few, in-range, has-link, row-at, link-at, not-empty, at-coordinator}
 use Rattle.serial.proofs.Invariant.{Writing, Entering, AskingKeys, Getting, AskingAll, Activity, at-rest, at-writing, at-entering, at-keys, at-getting, at-all, Tied}
 use Rattle.serial.proofs.Kept.{Kept, Does, passed-tied}
 use Rattle.serial.proofs.Budget.{waits, due, Budget, waiting-room, entry-room}
@@ -120,8 +121,8 @@ module _ (floor : ℕ → ℕ) (t : Tables) (h : History) (tied : Tied floor (vi
         (replied-fair (set (t .counts) (heldField + i) (heldOf t i + 1)) (putVersionWord (t .keys) i (heldOf t i) (keyWord (w .key))) (putVersionWord (t .values) i (heldOf t i) (w .number)) (t .log) (t .writes) 0
         (rw (length-set (t .counts) (heldField + i) (heldOf t i + 1)) counts-long) (getD-set-other (t .counts) (heldField + i) stepField (heldOf t i + 1) 0 (λ e. omega arith))
         (versionMore (sharedOf t) i (keyWord (w .key)) (w .number))
-        (shared-held (t .counts) (heldOf t i + 1) _ _ _ counts-long i (omega (arith, few t q ready)) ∙ rw (add-one (heldOf t i)))
-        (set-kept floor (view t) h tied (few t q ready) q (in-range t q ready) (stepOf t + 1) (writesOf t) (readsOf t) i w link hi state a (has-keys t q ready i l) (has-values t q ready i l) room)
+        (shared-held (t .counts) (heldOf t i + 1) _ _ _ counts-long i (server-fits t (ready .sound) i l) ∙ rw (add-one (heldOf t i)))
+        (set-kept floor (view t) h tied (few t q ready) q (in-range t q ready) (stepOf t + 1) (writesOf t) (readsOf t) i w link hi state a (keys-row t (ready .sound) i l) (values-row t (ready .sound) i l) room)
         (set-budget (view t) budget q (in-range t q ready) i hi w link state (keyWord (w .key)) (w .number)))
 
     -- an entry finds room
@@ -137,7 +138,7 @@ module _ (floor : ℕ → ℕ) (t : Tables) (h : History) (tied : Tied floor (vi
         (rw (length-set (t .counts) entriesField (entriesOf t + 1)) counts-long) (getD-set-other (t .counts) entriesField stepField (entriesOf t + 1) 0 (λ e. omega arith))
         (entryMore (sharedOf t) (w .key) (w .number))
         (shared-entries (t .counts) (entriesOf t + 1) _ _ _ counts-long ∙ rw (add-one (entriesOf t)))
-        (rw at (enter-kept floor (view t) h tied (few t q ready) q (in-range t q ready) (stepOf t + 1) (writesOf t) (readsOf t) w state a (head .0) (head .1) (head .2) (omega (arith, ready .sound .long .log))))
+        (rw at (enter-kept floor (view t) h tied (few t q ready) q (in-range t q ready) (stepOf t + 1) (writesOf t) (readsOf t) w state a (head .0) (head .1) (head .2) (next-entry t (ready .sound) room)))
         (rw at (enter-budget (view t) budget q (in-range t q ready) w there state (w .key) (w .number) (entriesOf t))))
 
     -- the head or a server tells how much it holds

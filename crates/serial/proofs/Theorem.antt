@@ -81,12 +81,12 @@ module _ (floor : ℕ → ℕ) (t : Tables) (h : History) (sound : Sound t) (tie
   step-fair (request q i) =
       let f = by-refusal (FairRequest floor h (stepOf t) q i) (deliveryRefusal q i t) (requestDelivered q i t) t
       (λ m e. refused-fair floor t h tied budget q i m (rw (← e) (delivery-number t q i)))
-      (λ e. let a = deliverable q i t e in request-fair floor t h tied budget q (ready q (a .client)) i (target-below q i t sound a)) in
+      (λ e. let a = deliverable q i t e in request-fair floor t h tied budget q (ready q (a .client)) i (target-below t sound i (a .target))) in
       record { kept = f .kept; budget = f .budget; answers = f .answers; room = f .room; step = f .step }
   step-fair (reply q i) =
       let f = by-refusal-arrived (FairReply floor h (stepOf t) q i) (deliveryRefusal q i t) (replyDelivered q i t) t
       (λ m e. refused-reply floor t h tied budget q i m (rw (← e) (delivery-number t q i)))
-      (λ e. let a = deliverable q i t e in reply-fair floor t h tied budget q (ready q (a .client)) i (target-below q i t sound a)) in
+      (λ e. let a = deliverable q i t e in reply-fair floor t h tied budget q (ready q (a .client)) i (target-below t sound i (a .target))) in
       record { kept = f .kept; budget = f .budget; answers = tt; room = f .room; step = f .step }
 
   -- and leaves sound tables

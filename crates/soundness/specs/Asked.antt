@@ -30,10 +30,14 @@ pub record ClientsThere (counts clients links : List ℕ) : Type 0 where
   pub rows : RowsThere counts clients
   pub linked : linkWidth * (targets * countAt counts clientsField) ≤ length links
 
+-- all links of one client
+abbrev pub LinksThere : List ℕ → ℕ → Type 0
+LinksThere links q = linkWidth * linkRow q targets ≤ length links
+
 -- one client's row, and all its links
 pub record ClientThere (clients links : List ℕ) (q : ℕ) : Type 0 where
   pub row : HasRow clientWidth clients q
-  pub linked : linkWidth * linkRow q targets ≤ length links
+  pub linked : LinksThere links q
 
 -- one client's row, and one of its links
 pub record LinkThere (clients links : List ℕ) (q i : ℕ) : Type 0 where

@@ -5,13 +5,12 @@ use mathlib.Core.Bool.{Bool, true, false, not, _&&_}
 use mathlib.Core.List.{List}
 use native.Mathlib.Omega.{arith}
 use lib.Dec.{eqb}
-use borrow.Author.Tests.{eq-eqb, ne-eqb, eqb-true}
-use Rattle.ranges.specs.Tests.{both-left}
+use borrow.Author.Tests.{eq-eqb, ne-eqb}
 use Rattle.ranges.specs.Sum.{sumBelow, countBelow, one, sum-same, sum-add, sum-nothing, sum-set, count-both}
 use Rattle.tables.specs.Layout.{recordWord, clientOfRecord, endOfRecord}
 use Rattle.tables.specs.Tables.{Tables, clientsOf, readsOf, stateOf, recordOf}
 use Rattle.soundness.specs.Sound.{isReading, isOpen, openSound}
-use Rattle.soundness.specs.Facts.{Sound}
+use Rattle.soundness.specs.Facts.{Sound, doing-facts, none-facts}
 
 -- one of the numbers below p is c: a test of it counts once
 count-one : (c : ℕ) (b : Bool) (p : ℕ) → c < p → sumBelow (λ q. one (eqb c q && b)) p ≡ one b
@@ -39,9 +38,8 @@ isFinished records n = not (eqb (recordWord records n endOfRecord) 0)
 
 -- a client has one record in progress where it is doing a transaction of that kind, and else none
 open-count : (doing : Bool) (records : List ℕ) (begun q place : ℕ) → openSound doing records begun q place ≡ true → countBelow (isOpen records q) begun ≡ one doing
-unfolding openSound
-open-count true records begun q place e = eqb-true _ _ (both-left _ _ e)
-open-count false records begun q place e = eqb-true _ _ e
+open-count true records begun q place e = doing-facts records begun q place e .once
+open-count false records begun q place e = none-facts records begun q place e
 
 pub reads-balance : (t : Tables) → Sound t → readsOf t ≡ countBelow (isFinished (t .reads)) (readsOf t) + countBelow (λ q. isReading (stateOf t q)) (clientsOf t)
 reads-balance t s =

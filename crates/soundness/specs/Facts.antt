@@ -2,14 +2,14 @@
 -- `sound-facts` and `facts-sound` tie the two, component by component.
 use Prim.Native.Nat.{ℕ, _*_, _^_, _≤_, _<_}
 use mathlib.Core.Path.{_≡_}
-use mathlib.Core.Bool.{Bool, true, cond, _||_}
+use mathlib.Core.Bool.{Bool, true, false, cond, _&&_, _||_}
 use mathlib.Core.List.{List, [], _∷_}
 use lib.ListN.{length}
 use lib.Dec.{eqb, leb, ltb}
 use borrow.Author.Tests.{leb-true, le-leb, ltb-true, lt-ltb, eqb-true, eq-eqb, ne-eqb}
 use Rattle.ranges.specs.Tests.{by-equal, both, both-left, both-right}
 use Rattle.ranges.specs.All.{allBelow, all-at, all-of}
-use Rattle.ranges.specs.Sum.{sumBelow}
+use Rattle.ranges.specs.Sum.{sumBelow, countBelow}
 use Rattle.keys.specs.Masks.{maskWithin, Within, within-true, within-test}
 use Rattle.tables.specs.Rows.{wordAt}
 use Rattle.tables.specs.Layout.{countWords, lastStep, clientWidth, serverPlaces, logPlaces, entryWidth, recordPlaces, recordWidth, versionWord, entryMask, recordWord, clientOfRecord, numberOfRecord, tagOfRecord}
@@ -18,7 +18,7 @@ use Rattle.tables.specs.Tables.{Tables, methodOf, serversOf, clientsOf, stepOf,
 use Rattle.rules.specs.Common.{idle, pending}
 use Rattle.rules.specs.Open.{allServers}
 use Rattle.ranges.specs.Every.{passed, every-passed}
-use Rattle.soundness.specs.Sound.{longEnough, between, pressFits, scalarsSound, keyInRange, serverSound, entrySound, logSound, isWriting, isReading, stateAllowed, contentSound, linkSound, receivedSound, clientSound, writeSound, readSound, openSound, recordsSound, sound}
+use Rattle.soundness.specs.Sound.{longEnough, between, pressFits, scalarsSound, keyInRange, serverSound, entrySound, logSound, isWriting, isReading, stateAllowed, contentSound, linkSound, receivedSound, clientSound, writeSound, readSound, isOpen, openSound, recordsSound, sound}
 
 pub record Between (low n high : ℕ) : Type 0 where
   pub least : low ≤ n
@@ -316,6 +316,35 @@ module _ (t : Tables) (n : ℕ) where
   pub facts-read : ReadFacts t n → readSound t n ≡ true
   unfolding readSound
   facts-read f = every-passed readTests (lt-ltb _ _ (f .client), (within-test _ _ (f .mask), (lt-ltb _ _ (f .tag), tt)))
+
+-- A client that does something of a kind has one record of it in progress, at its place; else it has none.
+pub record Doing (records : List ℕ) (begun q place : ℕ) : Type 0 where
+  pub once : countBelow (isOpen records q) begun ≡ 1
+  pub within : place < begun
+  pub here : isOpen records q place ≡ true
+
+module _ (records : List ℕ) (begun q place : ℕ) where
+  pub doing-facts : openSound true records begun q place ≡ true → Doing records begun q place
+  unfolding openSound
+  doing-facts e =
+      let l = both-left (eqb (countBelow (isOpen records q) begun) 1) (ltb place begun && isOpen records q place) e in
+      let r = both-right (eqb (countBelow (isOpen records q) begun) 1) (ltb place begun && isOpen records q place) e in
+      record { once = eqb-true _ _ l; within = ltb-true _ _ (both-left (ltb place begun) (isOpen records q place) r); here = both-right (ltb place begun) (isOpen records q place) r }
+
+  pub facts-doing : Doing records begun q place → openSound true records begun q place ≡ true
+  unfolding openSound
+  facts-doing d =
+      both (eqb (countBelow (isOpen records q) begun) 1) (ltb place begun && isOpen records q place)
+      (eq-eqb _ _ (d .once))
+      (both (ltb place begun) (isOpen records q place) (lt-ltb _ _ (d .within)) (d .here))
+
+  pub none-facts : openSound false records begun q place ≡ true → countBelow (isOpen records q) begun ≡ 0
+  unfolding openSound
+  none-facts e = eqb-true _ _ e
+
+  pub facts-none : countBelow (isOpen records q) begun ≡ 0 → openSound false records begun q place ≡ true
+  unfolding openSound
+  facts-none e = eq-eqb _ _ e
 
 -- A client's record in progress, of either kind.
 pub record RecordsFacts (t : Tables) (q : ℕ) : Type 0 where

@@ -6,7 +6,7 @@ use mathlib.Core.List.{List}
 use native.Mathlib.Omega.{arith}
 use lib.ListN.{length, length-set}
 use lib.Dec.{eqb}
-use borrow.Author.Tests.{lt-ltb, eq-eqb, ne-eqb}
+use borrow.Author.Tests.{lt-ltb, eq-eqb}
 use Rattle.ranges.specs.Tests.{by-test, by-equal, not-both, both}
 use Rattle.ranges.specs.All.{any-at, all-of}
 use Rattle.ranges.specs.First.{firstBelow, first-found}
@@ -24,13 +24,14 @@ use Rattle.rules.specs.Common.{askingKeys, askingSetpoints, askingAll, coordina
 use Rattle.rules.specs.Choice.{qualifies}
 use Rattle.rules.specs.Reply.{receivedIn}
 use Rattle.soundness.specs.Sound.{uses, holding}
-use Rattle.soundness.specs.Facts.{Sound, Between, between-facts}
+use Rattle.soundness.specs.Facts.{Sound, Between}
+use Rattle.soundness.specs.Room.{few-servers, server-fits, client-fits, client-row, client-links, write-row, read-row, log-entries}
 use Rattle.choice.specs.Ready.{ChoiceReady}
 use Rattle.choice.specs.Cases.{serves}
 use Rattle.replies.specs.Ready.{KeysReady, Concludable, toldRow, AllReady, Brings, ReplyReady}
 use Rattle.keeping.specs.Accepted.{Deliverable}
-use Rattle.keeping.specs.States.{uses-keys, uses-setpoints, uses-all, by-state, arrived, received-none, received-some, reply-keys, reply-all}
-use Rattle.store.specs.Ready.{few-servers, few-clients, client-row, client-links, write-record, read-record, target-below, answerable, reply-used, reply-sound, masked-server}
+use Rattle.keeping.specs.States.{uses-setpoints, uses-all, by-state, keys-target, masked-server, holding-log, holding-server, arrived, received-none, received-some, keys-told, all-told}
+use Rattle.store.specs.Ready.{target, answerable, reply-used, reply-sound}
 
 -- the first number that passes is below n where 0 passes
 first-below : (p : ℕ → Bool) (n : ℕ) → p 0 ≡ true → 0 < n → firstBelow p n < n
@@ -53,16 +54,15 @@ module _ (t : Tables) (s : Sound t) where
         by-test (arrived t q j) (λ b. received-some t q j b r .most) (λ b. omega (arith, received-none t q j b r))
 
     -- state 3: the number is that of entries
-    keys-told : stateOf t q ≡ askingKeys → KeysReady (t .counts) (t .clients) (t .log) q (w .number)
-    keys-told z =
-        let h : eqb i coordinator ≡ true = sym (uses-keys (maskOf t q) i) ∙ (rw z at (reply-used t s q i d w e)) in
-        let b = between-facts 1 (w .number) (holding t i) (sym (reply-keys t i (w .number)) ∙ (rw z at (reply-sound t s q i d w e))) in
-        let m : w .number ≤ entriesOf t = rw h at (b .most) in
-        record { row = client-row t s q (d .client); servers = few-servers t s; some = b .least; logged = omega (arith, m, s .scalars .entries .most, s .long .log) }
+    keys-ready : stateOf t q ≡ askingKeys → KeysReady (t .counts) (t .clients) (t .log) q (w .number)
+    keys-ready z =
+        let b = keys-told t i (w .number) (rw z at (reply-sound t s q i d w e)) in
+        let m : w .number ≤ entriesOf t = rw (holding-log t i (keys-target (maskOf t q) i (rw z at (reply-used t s q i d w e)))) at (b .most) in
+        record { row = client-row t s q (d .client); servers = few-servers t s; some = b .least; logged = log-entries t s (w .number) m }
 
     -- state 4: a masked server answered
     got-from : stateOf t q ≡ askingSetpoints → i < 16
-    got-from z = omega (arith, masked-server t s q i d (sym (uses-setpoints (maskOf t q) i) ∙ (rw z at (reply-used t s q i d w e))), few-servers t s)
+    got-from z = server-fits t s i (masked-server t s q i (d .client) (sym (uses-setpoints (maskOf t q) i) ∙ (rw z at (reply-used t s q i d w e))))
 
     -- state 5
     module _ (z : stateOf t q ≡ askingAll) where
@@ -70,13 +70,13 @@ module _ (t : Tables) (s : Sound t) where
       told = toldRow (t .clients) q i (w .number)
 
       number-between : Between 1 (w .number) (holding t i)
-      number-between = between-facts 1 (w .number) (holding t i) (sym (reply-all t i (w .number)) ∙ (rw z at (reply-sound t s q i d w e)))
+      number-between = all-told t i (w .number) (rw z at (reply-sound t s q i d w e))
 
       told-here : receivedIn told q i ≡ w .number
-      told-here = word-same clientWidth (t .clients) q (receivedField + i) (w .number) (client-row t s q (d .client)) (omega (arith, target-below t s q i d))
+      told-here = word-same clientWidth (t .clients) q (receivedField + i) (w .number) (client-row t s q (d .client)) (omega (arith, target t s q i d))
 
       told-other : (j : ℕ) → j < targets → (j ≡ i → ⊥) → receivedIn told q j ≡ receivedOf t q j
-      told-other j l n = word-other clientWidth (t .clients) q (receivedField + i) (w .number) q (receivedField + j) (omega (arith, target-below t s q i d)) (omega arith) (λ y. n (omega (arith, y .1)))
+      told-other j l n = word-other clientWidth (t .clients) q (receivedField + i) (w .number) q (receivedField + j) (omega (arith, target t s q i d)) (omega arith) (λ y. n (omega (arith, y .1)))
 
       told-most : (j : ℕ) → j < targets → receivedIn told q j ≤ holding t j
       told-most j l = by-equal j i (λ y. rw (y, told-here) (number-between .most)) (λ y. rw (told-other j l y) (received-most j l))
@@ -86,7 +86,7 @@ module _ (t : Tables) (s : Sound t) where
       told-some none j l u =
           by-equal j i (λ y. rw (y, told-here) (number-between .least))
           (λ y.
-          let same : linkAt (putLink (t .links) q i Nothing) q j ≡ linkAt (t .links) q j = link-other (t .links) q i Nothing q j (target-below t s q i d) l (λ x. y (x .1)) in
+          let same : linkAt (putLink (t .links) q i Nothing) q j ≡ linkAt (t .links) q j = link-other (t .links) q i Nothing q j (target t s q i d) l (λ x. y (x .1)) in
           let free : isEmpty (contentAt t q j) ≡ true =
           by-test (isEmpty (contentAt t q j)) (λ b. b)
           (λ b. absurd (not-both (any-at (λ k. not (isEmpty (linkAt (putLink (t .links) q i Nothing) q k .content))) targets j l (rw (same, b))) none)) in
@@ -101,15 +101,15 @@ module _ (t : Tables) (s : Sound t) where
 
       server-most : (j : ℕ) → j < serversOf t → receivedIn told q j ≤ serverPlaces
       server-most j l =
-          let n : eqb j coordinator ≡ false = ne-eqb j coordinator (λ y. omega (arith, few-servers t s)) in
-          let m : receivedIn told q j ≤ heldOf t j = rw n at (told-most j (omega (arith, few-servers t s))) in
+          let f = server-fits t s j l in
+          let m : receivedIn told q j ≤ heldOf t j = rw (holding-server t j (λ y. omega arith)) at (told-most j (omega arith)) in
           omega (arith, m, s .server j l .held .most)
 
       choice-ready : ChoiceReady told (t .keys) (t .values) q (serversOf t)
       choice-ready =
           record {
             servers = few-servers t s;
-            received = λ j l. record { server = omega (arith, few-servers t s); row = told-row; held = omega (arith, server-most j l, s .long .keys); count = server-most j l };
+            received = λ j l. record { server = server-fits t s j l; row = told-row; held = omega (arith, server-most j l, s .long .keys); count = server-most j l };
             valued = s .long .values;
           }
 
@@ -121,7 +121,7 @@ module _ (t : Tables) (s : Sound t) where
           (λ b.
           let u : uses (stateOf t q) (maskOf t q) j ≡ true = rw (z, uses-all (maskOf t q) j, b) in
           rw b (lt-ltb (firstBearing (t .keys) j (latestKey (t .log) j 0) (receivedIn told q j)) (receivedIn told q j)
-          (first-below (bears (t .keys) j (latestKey (t .log) j 0)) (receivedIn told q j) (opening-key j l) (told-some none j (omega (arith, few-servers t s)) u))))
+          (first-below (bears (t .keys) j (latestKey (t .log) j 0)) (receivedIn told q j) (opening-key j l) (told-some none j (omega (arith, server-fits t s j l)) u))))
           (λ b. rw b))
 
       concludable : pending (putLink (t .links) q i Nothing) q ≡ false →
@@ -131,23 +131,23 @@ module _ (t : Tables) (s : Sound t) where
           let m : receivedIn told q coordinator ≤ entriesOf t = told-most coordinator (omega arith) in
           record {
             row = told-row;
-            recorded = read-record t s q (d .client) (rw z);
+            recorded = read-row t s q (d .client) (rw z);
             some = told-some none coordinator (omega arith) u;
             entries = omega (arith, m, s .scalars .entries .most);
-            logged = omega (arith, m, s .scalars .entries .most, s .long .log);
+            logged = log-entries t s (receivedIn told q coordinator) m;
             opening = opening-qualifies none;
           }
 
       all-ready : AllReady (t .counts) (t .clients) (t .links) (t .keys) (t .values) (t .log) (t .reads) q i (w .number)
-      all-ready = record { row = client-row t s q (d .client); target = target-below t s q i d; linked = client-links t s q (d .client); last = λ none. (choice-ready, concludable none) }
+      all-ready = record { row = client-row t s q (d .client); target = target t s q i d; linked = client-links t s q (d .client); last = λ none. (choice-ready, concludable none) }
 
     brings : Brings (t .counts) (t .clients) (t .links) (t .keys) (t .values) (t .log) (t .writes) (t .reads) q i (w .number)
     brings =
         record {
-          done = λ z. record { client = omega (arith, few-clients t s, d .client); row = client-row t s q (d .client); count = omega (arith, s .client q (d .client) .count .most) };
-          entered = λ z. record { row = client-row t s q (d .client); recorded = write-record t s q (d .client) (rw z) };
-          told = keys-told;
-          got = λ z. (got-from z, record { row = client-row t s q (d .client); recorded = read-record t s q (d .client) (rw z) });
+          done = λ z. record { client = client-fits t s q (d .client); row = client-row t s q (d .client); count = omega (arith, s .client q (d .client) .count .most) };
+          entered = λ z. record { row = client-row t s q (d .client); recorded = write-row t s q (d .client) (rw z) };
+          told = keys-ready;
+          got = λ z. (got-from z, record { row = client-row t s q (d .client); recorded = read-row t s q (d .client) (rw z) });
           all = λ a b c f. all-ready (by-state (maskOf t q) i (stateOf t q) (reply-used t s q i d w e) (λ y. absurd (a y)) (λ y. absurd (b y)) (λ y. absurd (c y)) (λ y. absurd (f y)) (λ y. y));
         }
 

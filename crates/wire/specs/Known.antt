@@ -3,18 +3,21 @@ use Prim.Native.Nat.{ℕ, _/_, _%_, _≤_, _<_}
 use mathlib.Core.Path.{_≡_, sym, _∙_}
 use mathlib.Core.Bool.{true, _&&_}
 use native.Mathlib.Omega.{arith}
-use lib.Dec.{leb, ltb}
-use borrow.Author.Tests.{ltb-true, leb-true, eqb-true, eq-eqb, ne-eqb}
-use Rattle.ranges.specs.Tests.{by-test, both-left, both-right}
+use Rattle.ranges.specs.Tests.{both-left, both-right}
 use Rattle.keys.specs.Masks.{hasServer, maskWithin, Within, within-true}
 use Rattle.tables.specs.Links.{targets}
 use Rattle.tables.specs.Tables.{Tables, serversOf, clientsOf, entriesOf, heldOf, stateOf, maskOf}
 use Rattle.rules.specs.Common.{writing, entering, askingKeys, askingSetpoints, askingAll, coordinator}
-use Rattle.soundness.specs.Sound.{between, keyInRange, uses, holding, ownKey, requestSound, replySound, keyOn}
-use Rattle.soundness.specs.Facts.{Between, between-facts, Sound}
+use Rattle.soundness.specs.Sound.{keyInRange, uses, holding, ownKey, requestSound, replySound, keyOn}
+use Rattle.soundness.specs.Facts.{Between, Sound}
+use Rattle.soundness.specs.Room.{server-fits}
+use Rattle.soundness.specs.Room as room
 use Rattle.refusals.specs.Refusals.{isTarget}
+use Rattle.keeping.specs.Accepted.{by-target}
+use Rattle.keeping.specs.Accepted as accepted
 use Rattle.keeping.specs.Links.{kindOn, numberOn, LinkAsks, link-asks}
-use Rattle.keeping.specs.States.{uses-writing, uses-keys, uses-setpoints, masked-below, own-key, request-writing, request-entering, request-setpoints, reply-entering, reply-keys, reply-all}
+use Rattle.keeping.specs.States.{uses-writing, uses-setpoints, keys-target, masked-server, holding-log, holding-server, own-key, request-writing, request-entering, request-setpoints, keys-told, all-told}
+use Rattle.keeping.specs.States as states
 
 -- the client and the target are there
 pub record Present (q i : ℕ) (t : Tables) : Type 0 where
@@ -29,29 +32,23 @@ pub record OwnKey (q word : ℕ) : Type 0 where
 
 module _ (t : Tables) (s : Sound t) (q i : ℕ) (a : Present q i t) where
   pub few-servers : serversOf t ≤ 16
-  few-servers = s .scalars .press .servers .most
+  few-servers = room.few-servers t s
 
   pub client-fits : q < 16
-  client-fits = omega (arith, a .client, s .scalars .press .clients .most)
-
-  by-target : {C : Type 0} → (i < serversOf t → C) → (i ≡ coordinator → C) → C
-  by-target server head =
-      by-test (ltb i (serversOf t))
-      (λ b. server (ltb-true _ _ b))
-      (λ b. head (eqb-true i coordinator (rw b at (a .target))))
+  client-fits = room.client-fits t s q (a .client)
 
   pub target-below : i < targets
-  target-below = by-target (λ h. omega (arith, few-servers)) (λ e. omega arith)
+  target-below = accepted.target-below t s i (a .target)
 
   -- a target that is not the coordinator is a server
   pub is-server : (i ≡ coordinator → ⊥) → i < serversOf t
-  is-server d = by-target (λ h. h) (λ e. absurd (d e))
+  is-server d = by-target t s i (a .target) (λ h. h) (λ e. absurd (d e))
 
   pub asks : LinkAsks t q i
   asks = link-asks t q i (s .client q (a .client) .link i target-below)
 
-  masked : hasServer (maskOf t q) i ≡ true → i < serversOf t
-  masked e = masked-below (maskOf t q) (serversOf t) i (s .client q (a .client) .mask) e
+  masked : hasServer (maskOf t q) i ≡ true → i < 16
+  masked e = server-fits t s i (masked-server t s q i (a .client) e)
 
   own : ownKey q (keyOn t q i) ≡ true → OwnKey q (keyOn t q i)
   own e = let f = own-key (clientsOf t) q (keyOn t q i) e in record { some = omega (arith, f .0 .least, f .0 .most); few = omega arith; client = f .1 }
@@ -65,13 +62,13 @@ module _ (t : Tables) (s : Sound t) (q i : ℕ) (a : Present q i t) where
     used-in state e = rw e at used
 
     pub writing-server : stateOf t q ≡ writing → i < 16
-    writing-server e = omega (arith, masked (sym (uses-writing (maskOf t q) i) ∙ used-in writing e), few-servers)
+    writing-server e = masked (sym (uses-writing (maskOf t q) i) ∙ used-in writing e)
 
     pub setpoints-server : stateOf t q ≡ askingSetpoints → i < 16
-    setpoints-server e = omega (arith, masked (sym (uses-setpoints (maskOf t q) i) ∙ used-in askingSetpoints e), few-servers)
+    setpoints-server e = masked (sym (uses-setpoints (maskOf t q) i) ∙ used-in askingSetpoints e)
 
-    pub keys-head : stateOf t q ≡ askingKeys → i ≡ coordinator
-    keys-head e = eqb-true i coordinator (sym (uses-keys (maskOf t q) i) ∙ used-in askingKeys e)
+    keys-asked : stateOf t q ≡ askingKeys → i ≡ coordinator
+    keys-asked e = keys-target (maskOf t q) i (used-in askingKeys e)
 
   -- a request
   module _ (asked : kindOn t q i ≡ 1) where
@@ -99,19 +96,14 @@ module _ (t : Tables) (s : Sound t) (q i : ℕ) (a : Present q i t) where
     came-in state e = rw e at (asks .reply came)
 
     pub entered-tag : stateOf t q ≡ entering → (1 ≤ numberOn t q i) × (numberOn t q i < entriesOf t)
-    entered-tag e =
-        let r = sym (reply-entering t i (numberOn t q i)) ∙ came-in entering e in
-        (leb-true _ _ (both-left _ _ r), ltb-true _ _ (both-right (leb 1 (numberOn t q i)) _ r))
-
-    at-head : i ≡ coordinator → between 1 (numberOn t q i) (holding t i) ≡ true → Between 1 (numberOn t q i) (entriesOf t)
-    at-head c b = between-facts 1 (numberOn t q i) (entriesOf t) (rw (eq-eqb i coordinator c) at b)
+    entered-tag e = states.entered-tag t i (numberOn t q i) (came-in entering e)
 
     pub keys-held : stateOf t q ≡ askingKeys → Between 1 (numberOn t q i) (entriesOf t)
-    keys-held e = at-head (keys-head (λ z. omega arith) e) (sym (reply-keys t i (numberOn t q i)) ∙ came-in askingKeys e)
+    keys-held e = rw (holding-log t i (keys-asked (λ z. omega arith) e)) at (keys-told t i (numberOn t q i) (came-in askingKeys e))
 
     module _ (e : stateOf t q ≡ askingAll) where
       pub log-held : i ≡ coordinator → Between 1 (numberOn t q i) (entriesOf t)
-      log-held c = at-head c (sym (reply-all t i (numberOn t q i)) ∙ came-in askingAll e)
+      log-held c = rw (holding-log t i c) at (all-told t i (numberOn t q i) (came-in askingAll e))
 
       pub all-held : (i ≡ coordinator → ⊥) → Between 1 (numberOn t q i) (heldOf t i)
-      all-held d = between-facts 1 (numberOn t q i) (heldOf t i) (rw (ne-eqb i coordinator d) at (sym (reply-all t i (numberOn t q i)) ∙ came-in askingAll e))
+      all-held d = rw (holding-server t i d) at (all-told t i (numberOn t q i) (came-in askingAll e))

@@ -1,8 +1,8 @@
 -- `store::begin_read_sound` meets its contract: a fault refuses, and where there is none sound tables are ready for the inner step.
 use Rattle.tables.specs.Tables.{tablesOf}
-use Rattle.store.specs.Ready.{read-ready, read-begins, few-clients}
+use Rattle.soundness.specs.Room.{client-fits}
+use Rattle.store.specs.Ready.{read-ready, read-begins}
 use Rattle.store.specs.Cases.{read-refused, read-able, read-accepted}
-use native.Mathlib.Omega.{arith}
 use borrow.Author.Needs.{needs}
 use Rattle.store.proofs.begin_read_sound.Statement.{statement}
 use Rattle.store.proofs.begin_read_sound.Tie as tie
@@ -11,8 +11,12 @@ returns : tie.Need-returns
 returns c = let a = c .before .before .before .before .before .before .before .before .before .before .before .before .args in read-refused (tablesOf (a .counts .now) (a .clients .now) (a .links .now) (a .keys .now) (a .values .now) (a .log .now) (a .writes .now) (a .reads .now)) (c .before .before .before .before .before .before .before .before .before .before .before .before .pre) (a .client) (a .mask) (c .before .read-fault .ensures (a .links .now) (a .keys .now) (a .values .now) (a .log .now) (a .writes .now) (a .reads .now)) (c .if1 .taken)
 
 begin-read-requires : tie.Need-begin-read-requires
-begin-read-requires c κs = let a = c .before .before .before .before .before .before .before .before .before .before .before .before .before .before .before .before .args in let r = read-able (tablesOf (a .counts .now) (a .clients .now) (a .links .now) (a .keys .now) (a .values .now) (a .log .now) (a .writes .now) (a .reads .now)) (c .before .before .before .before .before .before .before .before .before .before .before .before .before .before .before .before .pre) (a .client) (a .mask) (c .before .before .before .before .before .read-fault .ensures (a .links .now) (a .keys .now) (a .values .now) (a .log .now) (a .writes .now) (a .reads .now)) (c .before .before .before .before .if1 .left) in
-    (read-ready (tablesOf (a .counts .now) (a .clients .now) (a .links .now) (a .keys .now) (a .values .now) (a .log .now) (a .writes .now) (a .reads .now)) (c .before .before .before .before .before .before .before .before .before .before .before .before .before .before .before .before .pre) (a .client) (a .mask) r, (read-begins (tablesOf (a .counts .now) (a .clients .now) (a .links .now) (a .keys .now) (a .values .now) (a .log .now) (a .writes .now) (a .reads .now)) (c .before .before .before .before .before .before .before .before .before .before .before .before .before .before .before .before .pre) (a .client) (a .mask) r, omega (arith, few-clients (tablesOf (a .counts .now) (a .clients .now) (a .links .now) (a .keys .now) (a .values .now) (a .log .now) (a .writes .now) (a .reads .now)) (c .before .before .before .before .before .before .before .before .before .before .before .before .before .before .before .before .pre), r .begin .client)))
+begin-read-requires c κs =
+    let a = c .before .before .before .before .before .before .before .before .before .before .before .before .before .before .before .before .args in
+    let t = tablesOf (a .counts .now) (a .clients .now) (a .links .now) (a .keys .now) (a .values .now) (a .log .now) (a .writes .now) (a .reads .now) in
+    let s = c .before .before .before .before .before .before .before .before .before .before .before .before .before .before .before .before .pre in
+    let r = read-able t s (a .client) (a .mask) (c .before .before .before .before .before .read-fault .ensures (a .links .now) (a .keys .now) (a .values .now) (a .log .now) (a .writes .now) (a .reads .now)) (c .before .before .before .before .if1 .left) in
+    (read-ready t s (a .client) (a .mask) r, (read-begins t s (a .client) (a .mask) r, client-fits t s (a .client) (r .begin .client)))
 
 returns-2 : tie.Need-returns-2
 returns-2 c = let a = c .before .before .before .before .before .before .before .before .before .before .before .before .before .before .before .before .before .before .before .before .before .before .before .before .before .args in read-accepted (tablesOf (a .counts .now) (a .clients .now) (a .links .now) (a .keys .now) (a .values .now) (a .log .now) (a .writes .now) (a .reads .now)) (c .before .before .before .before .before .before .before .before .before .before .before .before .before .before .before .before .before .before .before .before .before .before .before .before .before .pre) (a .client) (a .mask) (c .before .before .before .before .before .before .before .before .before .before .before .before .before .before .read-fault .ensures (a .links .now) (a .keys .now) (a .values .now) (a .log .now) (a .writes .now) (a .reads .now)) (c .before .before .before .before .before .before .before .before .before .before .before .before .before .if1 .left) (c .before .before .before .before .before .before .before .before .begin-read .ensures (a .keys .now) (a .values .now) (a .writes .now))
