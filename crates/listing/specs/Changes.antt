@@ -16,14 +16,9 @@ use Rattle.listing.specs.Register.{isFinished, placesBelow, inserted, in
 use Rattle.listing.specs.Places.{each-by-end, by-end-more}
 use Rattle.listing.specs.Lengths.{few-lines}
 
--- ---- places that pass a test, where the test changes
+-- ---- places that pass a test
 
-pub places-same : (p q : ℕ → Bool) (n : ℕ) → ((i : ℕ) → i < n → p i ≡ q i) → placesBelow p n ≡ placesBelow q n
-unfolding placesBelow
-places-same p q zero h = refl
-places-same p q (suc n) h = rw (places-same p q n (λ i l. h i (omega arith)), h n (omega arith))
-
-pub places-nothing : (p : ℕ → Bool) (n : ℕ) → ((i : ℕ) → i < n → p i ≡ false) → placesBelow p n ≡ []
+places-nothing : (p : ℕ → Bool) (n : ℕ) → ((i : ℕ) → i < n → p i ≡ false) → placesBelow p n ≡ []
 unfolding placesBelow
 places-nothing p zero h = refl
 places-nothing p (suc n) h = rw (places-nothing p n (λ i l. h i (omega arith)), h n (omega arith))

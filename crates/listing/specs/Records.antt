@@ -1,17 +1,13 @@
--- What a begin, a tag and an end of `rules` do to the order of READs and to the WRITEs of a tag.
+-- What a begin and an end of `rules` do to the order of READs.
 use Prim.Native.Nat.{ℕ, _+_, _<_}
-use mathlib.Core.Path.{_≡_, ap, _∙_}
-use mathlib.Core.Bool.{false}
-use mathlib.Core.List.{List, [], _∷_, _++_, append-nil}
+use mathlib.Core.Path.{_≡_, _∙_}
+use mathlib.Core.List.{List, [], _∷_, _++_}
 use native.Mathlib.Omega.{arith}
-use lib.Dec.{eqb}
-use borrow.Author.Tests.{ne-eqb}
 use Rattle.tables.specs.Rows.{HasRow, word-same, word-other, word-length, row-same, row-other}
 use Rattle.tables.specs.Layout.{recordWidth, recordWord, tagOfRecord, endOfRecord, putBegun}
 use Rattle.rules.specs.Common.{endedRecord, taggedRecord}
-use Rattle.listing.specs.Register.{hasTag, placesBelow, endIn, byEndBelow}
-use Rattle.listing.specs.Places.{places-more}
-use Rattle.listing.specs.Changes.{places-same, by-end-begun, by-end-ended}
+use Rattle.listing.specs.Register.{endIn, byEndBelow}
+use Rattle.listing.specs.Changes.{by-end-begun, by-end-ended}
 
 -- ---- a begin, in the next place
 
@@ -30,14 +26,6 @@ module _ (records : List ℕ) (n client number begin : ℕ) (room : HasRow recor
       by-end-begun records begun n
       (λ place h. begun-word place endOfRecord h (omega arith))
       (row-same recordWidth records n row endOfRecord room (omega arith) (omega arith))
-
-  -- it bears no tag but 0
-  pub write-begun : (tag : ℕ) → 0 < tag → placesBelow (hasTag begun tag) (n + 1) ≡ placesBelow (hasTag records tag) n
-  write-begun tag h =
-      let none : hasTag begun tag n ≡ false = rw (row-same recordWidth records n row tagOfRecord room (omega arith) (omega arith)) (ne-eqb 0 tag (λ e. omega arith)) in
-      places-more (hasTag begun tag) n
-      ∙ rw (none) (append-nil (placesBelow (hasTag begun tag) n))
-      ∙ places-same (hasTag begun tag) (hasTag records tag) n (λ place l. ap (λ (k : ℕ). eqb k tag) (begun-word place tagOfRecord l (omega arith)))
 
 -- ---- a tag and an end, of a record that is there
 
