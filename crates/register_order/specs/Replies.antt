@@ -1,10 +1,11 @@
 -- The delivery of a reply keeps the tie: it leaves the records, or ends the client's own, at the step's number.
 use Prim.Native.Nat.{ℕ, suc, _+_, _-_, _<_}
 use mathlib.Core.Path.{_≡_, refl, sym, ap, _∙_, subst}
-use mathlib.Core.Bool.{Bool, true, false, cond}
+use mathlib.Core.Bool.{true}
 use mathlib.Core.List.{List}
 use native.Mathlib.Omega.{arith}
 use native.Mathlib.Numerals.{add-one}
+use Rattle.ranges.specs.Tests.{either}
 use Rattle.keys.specs.Keys.{keyOf}
 use Rattle.tables.specs.Rows.{HasRow, word-same, word-other, word-length}
 use Rattle.tables.specs.Layout.{clientWidth, clientWord, putClientWord, stateField, tagField, recordField, setpointsField, receivedField, entriesField, writesField, readsField}
@@ -44,10 +45,9 @@ module _ (t : Tables) (h : History) (numbers : List ℕ) (a : Agrees t h numbers
   pub reply-refused : (n : ℕ) → AnswersReply (said (Refused n) t)
   reply-refused n = record { agrees = passed-agrees t h numbers a; step = refl }
 
-  -- what a test decides
-  by-cond : (b : Bool) (x y : Arrived) → (Kept q t (x .tables) → AnswersReply x) → (Kept q t (y .tables) → AnswersReply y) → Kept q t (cond b x y .tables) → AnswersReply (cond b x y)
-  by-cond true x y f g = f
-  by-cond false x y f g = g
+  -- a delivery that leaves sound tables keeps the tie
+  abbrev Keeps : Arrived → Type 0
+  Keeps x = Kept q t (x .tables) → AnswersReply x
 
   abbrev step′ : ℕ
   step′ = stepOf t + 1
@@ -152,7 +152,7 @@ module _ (t : Tables) (h : History) (numbers : List ℕ) (a : Agrees t h numbers
 
       done-answers : Kept q t (onSetDone q i t .tables) → AnswersReply (onSetDone q i t)
       unfolding onSetDone
-      done-answers = by-cond (pending rest q) (said Wait waits) (said Next enters) write-waits write-enters
+      done-answers = either Keeps (pending rest q) {x = said Wait waits} {y = said Next enters} write-waits write-enters
 
     abbrev w : Contents
     w = contentsOf (keyOn t q i) (numberOn t q i)
@@ -189,7 +189,7 @@ module _ (t : Tables) (h : History) (numbers : List ℕ) (a : Agrees t h numbers
     unfolding onGot
     got-answers state =
         let l : setpointsField + i < clientWidth = omega (arith, came .target) in
-        by-cond (pending rest q) (said Wait (moved (gotSetpoint w q i t) rest t)) (endedRead q (tagOf t q) (gotSetpoint w q i t) rest t)
+        either Keeps (pending rest q) {x = said Wait (moved (gotSetpoint w q i t) rest t)} {y = endedRead q (tagOf t q) (gotSetpoint w q i t) rest t}
         (λ k. read-waits (gotSetpoint w q i t) rest (rw state) (rw (below (setpointsField + i) (w .number) stateField l (omega arith), state)) (below (setpointsField + i) (w .number) recordField l (omega arith)) k)
         (λ k. read-over (tagOf t q) (gotSetpoint w q i t) rest (rw state) k)
 
@@ -198,7 +198,7 @@ module _ (t : Tables) (h : History) (numbers : List ℕ) (a : Agrees t h numbers
     all-answers state =
         let row = gotNumber w q i t in
         let l : receivedField + i < clientWidth = omega (arith, came .target) in
-        by-cond (pending rest q) (said Wait (moved row rest t)) (endedByC (tagChosen row q t) row q rest t)
+        either Keeps (pending rest q) {x = said Wait (moved row rest t)} {y = endedByC (tagChosen row q t) row q rest t}
         (λ k. read-waits row rest (rw state) (rw (below (receivedField + i) (w .number) stateField l (omega arith), state)) (below (receivedField + i) (w .number) recordField l (omega arith)) k)
         (λ k. read-over (tagChosen row q t) (concluded (tagChosen row q t) row q t) rest (rw state) k)
 

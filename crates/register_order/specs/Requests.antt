@@ -1,7 +1,7 @@
 -- The delivery of a request keeps the tie. One at target 16 of a client that waits for its tag gives the WRITE its tag; any other leaves all records.
 use Prim.Native.Nat.{ℕ, suc, _+_, _≤_, _<_}
 use mathlib.Core.Path.{_≡_, refl, ap, _∙_, subst}
-use mathlib.Core.Bool.{Bool, true, false, cond}
+use mathlib.Core.Bool.{true, false}
 use mathlib.Core.List.{List, [], _∷_}
 use native.Mathlib.Omega.{arith}
 use native.Mathlib.Numerals.{add-one}
@@ -70,10 +70,9 @@ module _ (t : Tables) (h : History) (numbers : List ℕ) (a : Agrees t h numbers
     activity : Activity t numbers q (h .doing q)
     activity = a .clients q client
 
-    -- what a test decides
-    by-cond : (b : Bool) (x y : Left) → (Kept q t (x .tables) → AnswersRequest x) → (Kept q t (y .tables) → AnswersRequest y) → Kept q t (cond b x y .tables) → AnswersRequest (cond b x y)
-    by-cond true x y f g = f
-    by-cond false x y f g = g
+    -- a delivery that leaves sound tables keeps the tie
+    abbrev Keeps : Left → Type 0
+    Keeps x = Kept q t (x .tables) → AnswersRequest x
 
     -- The reply takes the request's place in tables u, which differ from t in versions alone.
     module _ (number : ℕ) (u : Tables) (rows : u .clients ≡ t .clients) (same-writes : u .writes ≡ t .writes) (same-reads : u .reads ≡ t .reads)
@@ -123,7 +122,7 @@ module _ (t : Tables) (h : History) (numbers : List ℕ) (a : Agrees t h numbers
       unfolding onSet
       set-answers e =
           let x = appended (t .counts) (t .keys) (t .values) i (w .key) (w .number) in
-          by-cond (x .done) (answered q i 0 (storedBy x t)) (refused 8 t)
+          either Keeps (x .done) {x = answered q i 0 (storedBy x t)} {y = refused 8 t}
           (λ k. stored 0 (storedBy x t) refl refl refl (λ f l. append-count (t .counts) (t .keys) (t .values) i (w .key) (w .number) f (λ z. omega arith)) k e)
           (λ k. request-refused 8)
 
@@ -135,7 +134,7 @@ module _ (t : Tables) (h : History) (numbers : List ℕ) (a : Agrees t h numbers
       unfolding onGet
       get-answers e =
           let place = firstBearing (t .keys) i (w .key) (heldOf t i) in
-          by-cond (ltb place (heldOf t i)) (answered q i (versionWord (t .values) i place) t) (refused 8 t)
+          either Keeps (ltb place (heldOf t i)) {x = answered q i (versionWord (t .values) i place) t} {y = refused 8 t}
           (λ k. read-on (versionWord (t .values) i place) t refl refl refl (λ f l. refl) k (rw e))
           (λ k. request-refused 8)
 

@@ -35,15 +35,11 @@ left = leftBy played start
 abbrev pub lines : List Particulars
 lines = particulars false 0 1 3 4 14 ∷ particulars true 1 0 0 2 15 ∷ []
 
-pub sample-told : map (told (stepNumbers played [] 1)) (row (history played (openedWith 2 (1200 ∷ 30 ∷ [])))) ≡ lines
-unfolding zeros start sample changed readsOf rowTo store.open′ store.beginWrite store.beginRead store.deliverRequest store.deliverReply openRefusal writeRefusal readRefusal deliveryRefusal longEnough pressFits turns sound scalarsSound keyInRange serverSound entrySound logSound stateAllowed uses requestSound replySound contentSound linkSound receivedSound clientSound writeSound readSound openSound recordsSound allBelow anyBelow sumBelow linkAt putLink firstFrom lastBelow appended log.entered begunWrite begunRead onSet onEnter onWhichKeys onGet onGetAll onRequestIn requestDelivered onSetDone onEntered onKeys onGot onAll onReplyIn replyDelivered
-sample-told = refl
-
-pub sample-listed : map (described left) (register left) ≡ lines
-unfolding zeros start sample placesBelow passing inserted insertedAll listedTo store.open′ store.beginWrite store.beginRead store.deliverRequest store.deliverReply openRefusal writeRefusal readRefusal deliveryRefusal longEnough pressFits turns sound scalarsSound keyInRange serverSound entrySound logSound stateAllowed uses requestSound replySound contentSound linkSound receivedSound clientSound writeSound readSound openSound recordsSound allBelow anyBelow sumBelow linkAt putLink firstFrom lastBelow appended log.entered begunWrite begunRead onSet onEnter onWhichKeys onGet onGetAll onRequestIn requestDelivered onSetDone onEntered onKeys onGot onAll onReplyIn replyDelivered
-sample-listed = refl
+pub sample-lines : (map (told (stepNumbers played [] 1)) (row (history played (openedWith 2 (1200 ∷ 30 ∷ [])))) ≡ lines) × (map (described left) (register left) ≡ lines)
+unfolding zeros start sample changed readsOf rowTo store.open′ store.beginWrite store.beginRead store.deliverRequest store.deliverReply openRefusal writeRefusal readRefusal deliveryRefusal longEnough pressFits turns sound scalarsSound keyInRange serverSound entrySound logSound stateAllowed uses requestSound replySound contentSound linkSound receivedSound clientSound writeSound readSound openSound recordsSound allBelow anyBelow sumBelow linkAt putLink firstFrom lastBelow appended log.entered begunWrite begunRead onSet onEnter onWhichKeys onGet onGetAll onRequestIn requestDelivered onSetDone onEntered onKeys onGot onAll onReplyIn replyDelivered placesBelow passing inserted insertedAll listedTo
+sample-lines = (refl, refl)
 
 -- the tables of `listing`'s sample list the same
 pub sample-same : map (described left) (register left) ≡ map (described listing.sample) (register listing.sample)
 unfolding listing.sample placesBelow passing inserted insertedAll listedTo
-sample-same = sample-listed
+sample-same = sample-lines .1
