@@ -15,12 +15,12 @@ use Rattle.formats.specs.declared.state.Field.{Field}
 use Rattle.formats.specs.declared.state.State.{State}
 use Rattle.formats.specs.Grammar.{Grammar, end, field, good, size, lay, zeros, frame}
 use Rattle.formats.specs.RoundTrip.{length-frame}
-use Rattle.formats.specs.Table.{numberPlace, sorts, bitsOf}
+use Rattle.formats.specs.Table.{numberPlace, sorts, bitsOf, entriesSaid}
 use Rattle.formats.specs.TableLaws.{rowOf, bits-most, columns-small, entries-fit}
 use Rattle.formats.specs.Format.{sortOf, widthOf, nextOf, start, format}
 use Rattle.formats.specs.FormatLaws.{limitsOf, limits-width, rowed-tells, rest, rest-start, rest-one}
 use Rattle.formats.specs.Writing.{wroteOf, bytesAfter}
-use Rattle.formats.specs.Walk.{stateAt, walk, walk-rowed, some-left, sized, frame-bits, entriesSaid, kind-below, entries-few}
+use Rattle.formats.specs.Walk.{stateAt, walk, walk-rowed, some-left, sized, frame-bits, kind-below, entries-few}
 
 -- the bit where value i begins
 abbrev pub bitOf : List ℕ → ℕ → ℕ

@@ -137,6 +137,10 @@ mostEntries = 256
 unfoldable pub entriesIn : ℕ → ℕ → ℕ
 entriesIn kind v = cond (eqb (sortAt kind manyPlace) less) (v + 1) v
 
+-- how many a frame's values say that there are
+abbrev pub entriesSaid : List ℕ → ℕ
+entriesSaid vs = entriesIn (getD vs 0 0) (getD vs manyPlace 0)
+
 -- an entry has a setpoint or a mask beside its key
 unfoldable pub hasNumbers : ℕ → Bool
 hasNumbers kind = not (eqb (sortAt kind numberPlace) none)

@@ -14,7 +14,7 @@ use Rattle.ranges.specs.Tests.{by-equal, by-test, both-left, both-right}
 use Rattle.ranges.specs.Sum.{sumBelow, sum-more}
 use Rattle.formats.specs.declared.state.State.{State}
 use Rattle.formats.specs.Grammar.{Grammar, good, size, frame}
-use Rattle.formats.specs.Table.{manyPlace, entryPlace, numberPlace, kinds, headerBits, mostEntries, sortAt, bitsOf, mostOf, entriesIn, bodyBits, entryBits, frameLength}
+use Rattle.formats.specs.Table.{manyPlace, entryPlace, numberPlace, kinds, headerBits, mostEntries, sortAt, bitsOf, mostOf, entriesIn, entriesSaid, bodyBits, entryBits, frameLength}
 use Rattle.formats.specs.TableLaws.{row-right, bitsFrom, few-entries, entries-most}
 use Rattle.formats.specs.Format.{sortOf, widthOf, allowed, nextOf, start, format}
 use Rattle.formats.specs.FormatLaws.{Rowed, rowed-start, rest, rest-start, rest-one, rest-end, next-place, next-left, next-kind, place-last, place-inner, left-entries, left-one-less, at-most}
@@ -71,17 +71,13 @@ module _ (vs : List ℕ) where
   walk-kind (suc (suc i)) h =
       next-kind (stateAt vs (suc i)) _ (λ e. place-some (suc i) (omega arith) (sym (walk-place (suc i)) ∙ e)) ∙ walk-kind (suc i) (omega arith)
 
-  -- how many entries the values say there are
-  abbrev pub entriesSaid : ℕ
-  entriesSaid = entriesIn (getD vs 0 0) (getD vs manyPlace 0)
-
   left-first : (i : ℕ) → i < entryPlace → (stateAt vs i) .left ≡ entryPlace - i
   unfolding stateAt
   left-first zero h = refl
   left-first (suc i) h =
       next-left _ _ ∙ sym (left-one-less _ _ (λ e. omega (arith, walk-place i ∙ place-early i (omega arith)))) ∙ omega (arith, left-first i (omega arith))
 
-  pub walk-left : (i : ℕ) → entryPlace ≤ i → (stateAt vs i) .left ≡ 3 * entriesSaid - (i - entryPlace)
+  pub walk-left : (i : ℕ) → entryPlace ≤ i → (stateAt vs i) .left ≡ 3 * entriesSaid vs - (i - entryPlace)
   unfolding stateAt
   walk-left zero h = let z : ⊥ = omega arith in absurd z
   walk-left (suc i) h =
@@ -89,7 +85,7 @@ module _ (vs : List ℕ) where
       let v = getD vs i 0 in
       by-equal i manyPlace
       (λ e.
-      let n : entriesIn (st .kind) v ≡ entriesSaid = ap₂ entriesIn (walk-kind i (omega arith)) (ap (λ (k : ℕ). getD vs k 0) e) in
+      let n : entriesIn (st .kind) v ≡ entriesSaid vs = ap₂ entriesIn (walk-kind i (omega arith)) (ap (λ (k : ℕ). getD vs k 0) e) in
       next-left st v ∙ sym (left-entries st v (walk-place i ∙ place-early i (omega arith) ∙ e) refl) ∙ omega arith)
       (λ d.
       next-left st v ∙ sym (left-one-less st v (λ e. omega (arith, walk-place i, place-late i (omega arith)))) ∙ omega (arith, walk-left i (omega arith)))

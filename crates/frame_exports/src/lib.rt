@@ -4,8 +4,8 @@ ghost use mathlib.Core.Path.{_≡_};
 ghost use Prim.Native.Nat.{_-_};
 ghost use Rattle.frames.specs.Frames.{readingOf, keysRead, numbersRead, found};
 ghost use Rattle.frame_exports.specs.Numbers.{digitsOf, pairOf, headOf, tailOf, partsOf, refusedNumber, writtenNumber};
-ghost use Rattle.frame_exports.specs.Fields.{messageBy, fieldsOf};
-ghost use Rattle.frame_exports.specs.Writing.{isKind, frameAnswer, frameLeft};
+ghost use Rattle.frame_exports.specs.Writing.{fixedFrom, isKind, frameAnswer, frameLeft};
+use frames::Fixed;
 use frames::Message;
 use frames::Reading;
 use frames::Written;
@@ -125,80 +125,8 @@ pub extern "C" fn frame_read(bytes: &[u8], keys: &mut [u32], numbers: &mut [u32]
     parts_of(reading)
 }
 
-// What is fixed in a message, whatever its kind.
-struct Fields {
-    client: u8,
-    server: u8,
-    tag: u8,
-    key: Key,
-    number: u32,
-    entries: u32,
-}
-
-// The message of a kind; what is none of the first eleven is a log.
-fn message_by(kind: u32, fields: Fields) -> Message
-    ensures { λ r. ⌜ r ≡ messageBy kind fields ⌝ }
-{
-    let client = fields.client;
-    let server = fields.server;
-    let tag = fields.tag;
-    let key = fields.key;
-    let number = fields.number;
-    let entries = fields.entries;
-    match kind {
-        1 => Message::Set {
-            client: client,
-            server: server,
-            key: key,
-            setpoint: number,
-        },
-        2 => Message::SetDone {
-            client: client,
-            server: server,
-        },
-        3 => Message::Enter {
-            client: client,
-            key: key,
-            mask: number,
-        },
-        4 => Message::Entered {
-            client: client,
-            tag: tag,
-        },
-        5 => Message::WhichKeys { client: client },
-        6 => Message::Keys {
-            client: client,
-            tag: tag,
-            entries: entries,
-        },
-        7 => Message::Get {
-            client: client,
-            server: server,
-            key: key,
-        },
-        8 => Message::Got {
-            client: client,
-            server: server,
-            setpoint: number,
-        },
-        9 => Message::GetAll {
-            client: client,
-            server: server,
-        },
-        10 => Message::All {
-            client: client,
-            server: server,
-            entries: entries,
-        },
-        11 => Message::GetLog { client: client },
-        _ => Message::Log {
-            client: client,
-            entries: entries,
-        },
-    }
-}
-
-fn fields_of(
+// What is fixed in a message, from its numbers.
+fn fixed_from(
     client: u8,
     server: u8,
     tag: u8,
@@ -206,11 +134,11 @@ fn fields_of(
     owner: u8,
     number: u32,
     entries: u32,
-) -> Fields
-    ensures { λ r. ⌜ r ≡ fieldsOf client server tag count owner number entries ⌝ }
+) -> Fixed
+    ensures { λ r. ⌜ r ≡ fixedFrom client server tag count owner number entries ⌝ }
 {
     let key = Key::new(count, owner);
-    Fields {
+    Fixed {
         client: client,
         server: server,
         tag: tag,
@@ -230,7 +158,7 @@ fn is_kind(kind: u32) -> bool
     kind <= 12
 }
 
-// Writes the message of these fields: its length, or a refusal. A number that is no kind names no message, and gives 11.
+// Writes the message of these numbers: its length, or a refusal. A number that is no kind names no message, and gives 11.
 #[no_mangle]
 pub extern "C" fn frame_write(
     kind: u32,
@@ -245,14 +173,14 @@ pub extern "C" fn frame_write(
     numbers: &[u32],
     bytes: &mut [u8],
 ) -> u64
-    ensures { λ r. ⌜ (r ≡ frameAnswer kind (fieldsOf client server tag count owner number entries) (now (keys .entry)) (now (numbers .entry)) (now (bytes .entry)))
-        × (now (bytes .exit) ≡ frameLeft kind (fieldsOf client server tag count owner number entries) (now (keys .entry)) (now (numbers .entry)) (now (bytes .entry))) ⌝ }
+    ensures { λ r. ⌜ (r ≡ frameAnswer kind (fixedFrom client server tag count owner number entries) (now (keys .entry)) (now (numbers .entry)) (now (bytes .entry)))
+        × (now (bytes .exit) ≡ frameLeft kind (fixedFrom client server tag count owner number entries) (now (keys .entry)) (now (numbers .entry)) (now (bytes .entry))) ⌝ }
 {
     if !is_kind(kind) {
         return refused(11);
     }
-    let fields = fields_of(client, server, tag, count, owner, number, entries);
-    let message = message_by(kind, fields);
+    let fixed = fixed_from(client, server, tag, count, owner, number, entries);
+    let message = frames::message_at(kind, fixed);
     let written = frames::write_frame(message, keys, numbers, bytes);
     written_number(written)
 }

@@ -11,11 +11,11 @@ use borrow.Author.Tests.{lt-ltb, le-ltb, lt-leb, le-leb, leb-true, ltb-true, ltb
 use Rattle.ranges.specs.Tests.{by-test, both-left, both-right}
 use Rattle.formats.specs.declared.writing.Wrote.{Wrote}
 use Rattle.formats.specs.Grammar.{Outcome, got, fault, good, frame}
-use Rattle.formats.specs.Table.{mostEntries, hasNumbers}
+use Rattle.formats.specs.Table.{mostEntries, entriesSaid, hasNumbers}
 use Rattle.formats.specs.Format.{format}
 use Rattle.formats.specs.Reading.{outcome}
 use Rattle.formats.specs.Writing.{wroteOf, bytesAfter}
-use Rattle.formats.specs.Walk.{entriesSaid, entries-few}
+use Rattle.formats.specs.Walk.{entries-few}
 use Rattle.frames.specs.declared.Message.{Message}
 use Rattle.frames.specs.declared.Reading.the-variants as reading
 use Rattle.frames.specs.declared.Written.{Written}

@@ -13,10 +13,10 @@ use borrow.Author.Tests.{leb-true, eq-eqb, ne-eqb, not-false}
 use Rattle.ranges.specs.Tests.{by-equal}
 use Rattle.ranges.specs.All.{allBelow, all-at}
 use Rattle.formats.specs.Grammar.{good}
-use Rattle.formats.specs.Table.{none, coord, sortAt, bitsOf, leastOf, mostOf, entriesIn, hasNumbers}
+use Rattle.formats.specs.Table.{none, coord, sortAt, bitsOf, leastOf, mostOf, entriesIn, entriesSaid, hasNumbers}
 use Rattle.formats.specs.Format.{sortOf, widthOf, format}
 use Rattle.formats.specs.FormatLaws.{at-most, at-least}
-use Rattle.formats.specs.Walk.{stateAt, placeAt, place-early, place-late, walk-place, walk-kind, entriesSaid, values-length, value-fits, value-allowed, value-width, kind-below}
+use Rattle.formats.specs.Walk.{stateAt, placeAt, place-early, place-late, walk-place, walk-kind, values-length, entries-few, value-fits, value-allowed, value-width, kind-below}
 use Rattle.frames.specs.declared.Fixed.{Fixed}
 use Rattle.frames.specs.Lists.{built, built-take}
 use Rattle.frames.specs.Messages.{entriesOf, fixedOf, Narrow, fixedAt, messageAt, messageOf}
@@ -79,9 +79,13 @@ module _ (vs : List ℕ) (g : good format vs ≡ true) where
   unfolding wide
   is-narrow =
       record {
-        long = long;
-        bytes = λ i h. fixed-byte i (omega arith) (rw (ne-eqb i 6 (λ e. omega arith), ne-eqb i 10 (λ e. omega arith)));
-        few = omega (arith, fixed-byte 7 (omega arith) refl);
+        client = fixed-byte 1 (omega arith) refl;
+        server = fixed-byte 2 (omega arith) refl;
+        tag = fixed-byte 3 (omega arith) refl;
+        count = fixed-byte 4 (omega arith) refl;
+        owner = fixed-byte 5 (omega arith) refl;
+        long = values-length vs g;
+        few = entries-few vs g;
       }
 
   fixed-settled : (i : ℕ) → 0 < i → i < 8 → getD vs i 0 ≡ settled (sortAt (getD vs 0 0) i) (getD vs i 0)
@@ -90,9 +94,9 @@ module _ (vs : List ℕ) (g : good format vs ≡ true) where
 
 -- ---- kind by kind: the table and the message's clauses agree
 
--- the values of a kind's message, with the other values as they can be
-settledFixed : ℕ → Fixed → List ℕ
-settledFixed k f =
+-- the values of a kind's message, with the other values as they can be; v is the one that says how many entries there are
+settledFixed : ℕ → Fixed → ℕ → List ℕ
+settledFixed k f v =
     k
     ∷ settled (sortAt k 1) (f .client)
     ∷ settled (sortAt k 2) (f .server)
@@ -100,13 +104,13 @@ settledFixed k f =
     ∷ settled (sortAt k 4) (f .key .count)
     ∷ settled (sortAt k 5) (f .key .client)
     ∷ settled (sortAt k 6) (f .number)
-    ∷ settled (sortAt k 7) (f .entries)
+    ∷ settled (sortAt k 7) v
     ∷ []
 
 -- what is so of each kind
 record Kind (k : ℕ) : Type 0 where
-  back : (f : Fixed) → fixedOf (messageAt k f) ≡ settledFixed k f
-  said : (f : Fixed) → entriesOf (messageAt k f) ≡ entriesIn k (settled (sortAt k 7) (f .entries))
+  back : (f : Fixed) (v : ℕ) → f .entries ≡ entriesIn k v → fixedOf (messageAt k f) ≡ settledFixed k f v
+  said : (f : Fixed) (v : ℕ) → f .entries ≡ entriesIn k v → entriesOf (messageAt k f) ≡ entriesIn k (settled (sortAt k 7) v)
 
 -- a number from 1 to 12 is one of them
 by-kind : (P : ℕ → Type 0) → P 1 → P 2 → P 3 → P 4 → P 5 → P 6 → P 7 → P 8 → P 9 → P 10 → P 11 → P 12 → (k : ℕ) → 0 < k → k < 13 → P k
@@ -129,21 +133,18 @@ each-kind : (k : ℕ) → 0 < k → k < 13 → Kind k
 unfolding messageAt settledFixed settled sortAt entriesIn
 each-kind =
     by-kind Kind
-    (record { back = λ f. refl; said = λ f. refl })
-    (record { back = λ f. refl; said = λ f. refl })
-    (record { back = λ f. refl; said = λ f. refl })
-    (record { back = λ f. refl; said = λ f. refl })
-    (record { back = λ f. refl; said = λ f. refl })
-    (record { back = λ f. refl; said = λ f. refl })
-    (record { back = λ f. refl; said = λ f. refl })
-    (record { back = λ f. refl; said = λ f. refl })
-    (record { back = λ f. refl; said = λ f. refl })
-    (record { back = λ f. ap (λ (n : ℕ). 10 ∷ f .client ∷ f .server ∷ 0 ∷ 0 ∷ 0 ∷ 0 ∷ n ∷ []) (one-less (f .entries)); said = λ f. refl })
-    (record { back = λ f. refl; said = λ f. refl })
-    (record { back = λ f. ap (λ (n : ℕ). 12 ∷ f .client ∷ 16 ∷ 0 ∷ 0 ∷ 0 ∷ 0 ∷ n ∷ []) (one-less (f .entries)); said = λ f. refl })
-  where
-    one-less : (n : ℕ) → n + 1 - 1 ≡ n
-    one-less n = omega arith
+    (record { back = λ f v e. refl; said = λ f v e. refl })
+    (record { back = λ f v e. refl; said = λ f v e. refl })
+    (record { back = λ f v e. refl; said = λ f v e. refl })
+    (record { back = λ f v e. refl; said = λ f v e. refl })
+    (record { back = λ f v e. refl; said = λ f v e. refl })
+    (record { back = λ f v e. ap (λ (n : ℕ). 6 ∷ f .client ∷ 16 ∷ f .tag ∷ 0 ∷ 0 ∷ 0 ∷ n ∷ []) e; said = λ f v e. e })
+    (record { back = λ f v e. refl; said = λ f v e. refl })
+    (record { back = λ f v e. refl; said = λ f v e. refl })
+    (record { back = λ f v e. refl; said = λ f v e. refl })
+    (record { back = λ f v e. ap (λ (n : ℕ). 10 ∷ f .client ∷ f .server ∷ 0 ∷ 0 ∷ 0 ∷ 0 ∷ n ∷ []) (omega arith); said = λ f v e. e })
+    (record { back = λ f v e. refl; said = λ f v e. refl })
+    (record { back = λ f v e. ap (λ (n : ℕ). 12 ∷ f .client ∷ 16 ∷ 0 ∷ 0 ∷ 0 ∷ 0 ∷ n ∷ []) (omega arith); said = λ f v e. e })
 
 module _ (vs : List ℕ) (g : good format vs ≡ true) where
   kind-some : 0 < getD vs 0 0
@@ -153,7 +154,7 @@ module _ (vs : List ℕ) (g : good format vs ≡ true) where
   its-kind : Kind (getD vs 0 0)
   its-kind = each-kind (getD vs 0 0) kind-some (kind-below vs g)
 
-  first-eight : settledFixed (getD vs 0 0) (fixedAt vs) ≡ take 8 vs
+  first-eight : settledFixed (getD vs 0 0) (fixedAt vs) (getD vs 7 0) ≡ take 8 vs
   unfolding settledFixed built
   first-eight =
       let e : (i : ℕ) → 0 < i → i < 8 → settled (sortAt (getD vs 0 0) i) (getD vs i 0) ≡ getD vs i 0 = λ i p q. sym (fixed-settled vs g i p q) in
@@ -172,11 +173,11 @@ module _ (vs : List ℕ) (g : good format vs ≡ true) where
   -- the message of a frame's values has those values
   pub fixed-back : fixedOf (messageOf vs) ≡ take 8 vs
   unfolding messageOf
-  fixed-back = its-kind .back (fixedAt vs) ∙ first-eight
+  fixed-back = its-kind .back (fixedAt vs) (getD vs 7 0) refl ∙ first-eight
 
   pub entries-back : entriesOf (messageOf vs) ≡ entriesSaid vs
   unfolding messageOf
-  entries-back = its-kind .said (fixedAt vs) ∙ ap (entriesIn (getD vs 0 0)) (sym (fixed-settled vs g 7 (omega arith) (omega arith)))
+  entries-back = its-kind .said (fixedAt vs) (getD vs 7 0) refl ∙ ap (entriesIn (getD vs 0 0)) (sym (fixed-settled vs g 7 (omega arith) (omega arith)))
 
   pub kind-back : kindOf (messageOf vs) ≡ getD vs 0 0
   kind-back = ap (λ (l : List ℕ). getD l 0 0) fixed-back ∙ getD-take 8 vs 0 0 (omega arith)

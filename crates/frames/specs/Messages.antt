@@ -1,10 +1,12 @@
 -- What a message is as a row of values, and a row of values as a message.
-use Prim.Native.Nat.{ℕ, _+_, _-_, _≤_, _<_}
+use Prim.Native.Nat.{ℕ, _+_, _-_, _*_, _≤_, _<_}
+use mathlib.Core.Path.{_≡_}
 use mathlib.Core.List.{List, [], _∷_}
 use mathlib.Core.Bool.{cond}
 use lib.Dec.{eqb}
 use lib.ListN.{length, getD}
 use Rattle.keys.specs.Keys.{keyOf}
+use Rattle.formats.specs.Table.{mostEntries, entriesSaid}
 use Rattle.frames.specs.declared.Fixed.{Fixed}
 use Rattle.frames.specs.declared.Message.{Message}
 use Rattle.frames.specs.declared.Message.the-variants.{Set, SetDone, Enter, Entered, WhichKeys, Keys, Get, Got, GetAll, All, GetLog, Log}
@@ -39,11 +41,15 @@ fixedOf (All client server entries) = 10 ∷ client ∷ server ∷ 0 ∷ 0 ∷ 0
 fixedOf (GetLog client) = 11 ∷ client ∷ 16 ∷ 0 ∷ 0 ∷ 0 ∷ 0 ∷ 0 ∷ []
 fixedOf (Log client entries) = 12 ∷ client ∷ 16 ∷ 0 ∷ 0 ∷ 0 ∷ 0 ∷ (entries - 1) ∷ []
 
--- values that fit a message's own types
+-- values that fit a message's own types, with those of all entries behind them
 pub record Narrow (vs : List ℕ) : Type 0 where
-  pub long : 8 ≤ length vs
-  pub bytes : (i : ℕ) → i < 6 → getD vs i 0 < 256
-  pub few : getD vs 7 0 ≤ 255
+  pub client : getD vs 1 0 < 256
+  pub server : getD vs 2 0 < 256
+  pub tag : getD vs 3 0 < 256
+  pub count : getD vs 4 0 < 256
+  pub owner : getD vs 5 0 < 256
+  pub long : length vs ≡ 8 + 3 * entriesSaid vs
+  pub few : entriesSaid vs ≤ mostEntries
 
 abbrev pub fixedAt : List ℕ → Fixed
 fixedAt vs =
@@ -53,10 +59,10 @@ fixedAt vs =
       tag = getD vs 3 0;
       key = keyOf (getD vs 4 0) (getD vs 5 0);
       number = getD vs 6 0;
-      entries = getD vs 7 0;
+      entries = entriesSaid vs;
     }
 
--- the message of a kind with these values; "n−1 in 8" stands for n entries
+-- the message of a kind with what is fixed in it; what is none of the first eleven is a log
 unfoldable pub messageAt : ℕ → Fixed → Message
 messageAt kind f =
     cond (eqb kind 1) (Set (f .client) (f .server) (f .key) (f .number))
@@ -68,9 +74,9 @@ messageAt kind f =
     (cond (eqb kind 7) (Get (f .client) (f .server) (f .key))
     (cond (eqb kind 8) (Got (f .client) (f .server) (f .number))
     (cond (eqb kind 9) (GetAll (f .client) (f .server))
-    (cond (eqb kind 10) (All (f .client) (f .server) (f .entries + 1))
+    (cond (eqb kind 10) (All (f .client) (f .server) (f .entries))
     (cond (eqb kind 11) (GetLog (f .client))
-    (Log (f .client) (f .entries + 1))))))))))))
+    (Log (f .client) (f .entries))))))))))))
 
 unfoldable pub messageOf : List ℕ → Message
 messageOf vs = messageAt (getD vs 0 0) (fixedAt vs)

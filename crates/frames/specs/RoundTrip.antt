@@ -13,9 +13,9 @@ use Rattle.ranges.specs.Tests.{by-test, both, both-left, both-right}
 use Rattle.fields.specs.BitLaws.{Bytes}
 use Rattle.formats.specs.Grammar.{Outcome, got, fault, good, frame}
 use Rattle.formats.specs.RoundTrip as formats
-use Rattle.formats.specs.Table.{entriesIn, sortAt, hasNumbers}
+use Rattle.formats.specs.Table.{entriesIn, entriesSaid, sortAt, hasNumbers}
 use Rattle.formats.specs.Format.{format}
-use Rattle.formats.specs.Walk.{entriesSaid, values-length}
+use Rattle.formats.specs.Walk.{values-length}
 use Rattle.frames.specs.declared.Message.{Message}
 use Rattle.frames.specs.declared.Message.the-variants.{Set, SetDone, Enter, Entered, WhichKeys, Keys, Get, Got, GetAll, All, GetLog, Log}
 use Rattle.frames.specs.declared.Reading.the-variants.{Read, Refused}

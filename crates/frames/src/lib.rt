@@ -8,8 +8,7 @@ pub mod entries; // entries.rt: the entries as values, and back
 
 ghost use mathlib.Core.Path.{_≡_};
 ghost use mathlib.Core.Bool.{true};
-ghost use Prim.Native.Nat.{_≤_, _+_, _-_, _*_};
-ghost use lib.ListN.{length};
+ghost use Prim.Native.Nat.{_-_};
 ghost use Rattle.formats.specs.Grammar.{got, good};
 ghost use Rattle.formats.specs.Format.{format};
 ghost use Rattle.formats.specs.Writing.{wroteOf, bytesAfter};
@@ -193,33 +192,38 @@ fn fixed_of(message: Message) -> [u32; 8]
     }
 }
 
-// What the fixed values hold, in a message's own types.
-struct Fixed {
-    client: u8,
-    server: u8,
-    tag: u8,
-    key: Key,
-    number: u32,
-    entries: u32,
+// What is fixed in a message, whatever its kind: its setpoint or mask is the number.
+pub struct Fixed {
+    pub client: u8,
+    pub server: u8,
+    pub tag: u8,
+    pub key: Key,
+    pub number: u32,
+    pub entries: u32,
 }
 
+// What a frame's values hold; three of them are an entry's.
 fn fixed_at(values: &[u32]) -> Fixed
     requires { ⌜ Narrow (now values) ⌝ }
     ensures { λ r. ⌜ r ≡ fixedAt (now (values .entry)) ⌝ }
 {
+    let client = values[1] as u8;
+    let server = values[2] as u8;
+    let tag = values[3] as u8;
     let key = Key::new(values[4] as u8, values[5] as u8);
+    let entries = ((values.len() - 8) / 3) as u32;
     Fixed {
-        client: values[1] as u8,
-        server: values[2] as u8,
-        tag: values[3] as u8,
+        client: client,
+        server: server,
+        tag: tag,
         key: key,
         number: values[6],
-        entries: values[7],
+        entries: entries,
     }
 }
 
-fn message_at(kind: u32, fixed: Fixed) -> Message
-    requires { ⌜ fixed .entries ≤ 255 ⌝ }
+// The message of a kind; what is none of the first eleven is a log.
+pub fn message_at(kind: u32, fixed: Fixed) -> Message
     ensures { λ r. ⌜ r ≡ messageAt kind fixed ⌝ }
 {
     let client = fixed.client;
@@ -271,12 +275,12 @@ fn message_at(kind: u32, fixed: Fixed) -> Message
         10 => Message::All {
             client: client,
             server: server,
-            entries: entries + 1,
+            entries: entries,
         },
         11 => Message::GetLog { client: client },
         _ => Message::Log {
             client: client,
-            entries: entries + 1,
+            entries: entries,
         },
     }
 }

@@ -1,11 +1,11 @@
--- `frame_exports::frame_write` meets its contract: a number that is no kind is refused; else the message is that of the fields, and the writer's answer crosses as its number.
+-- `frame_exports::frame_write` meets its contract: a number that is no kind is refused; else the message is that of its numbers, and the writer's answer crosses as its number.
 use mathlib.Core.Path.{refl, sym, ap, _∙_}
 use borrow.Author.Tests.{not-true, not-false}
 use Rattle.frame_exports.specs.Numbers.{writtenNumber}
+use Rattle.frames.specs.declared.Fixed.{Fixed}
 use Rattle.frames.specs.declared.Message.{Message}
+use Rattle.frames.specs.Messages.{messageAt}
 use Rattle.frames.specs.Frames.{writtenOf, bytesWritten}
-use Rattle.frame_exports.specs.declared.Fields.{Fields}
-use Rattle.frame_exports.specs.Fields.{messageBy}
 use borrow.Author.Needs.{needs}
 use Rattle.frame_exports.proofs.frame_write.Statement.{statement}
 use Rattle.frame_exports.proofs.frame_write.Tie as tie
@@ -17,7 +17,7 @@ returns-2 : tie.Need-returns-2
 returns-2 c =
     let a = c .before .before .before .before .before .before .before .before .before .before .before .before .args in
     let w = c .before .before .before .write-frame .ensures in
-    let e = c .before .before .before .before .before .message-by .ensures ∙ ap (λ (f : Fields). messageBy (a .kind) f) (c .before .before .before .before .before .before .fields-of .ensures) in
+    let e = c .before .before .before .before .before .message-at .ensures ∙ ap (λ (f : Fixed). messageAt (a .kind) f) (c .before .before .before .before .before .before .fixed-from .ensures) in
     rw (sym (c .before .before .before .before .before .before .before .before .is-kind .ensures) ∙ not-false _ (c .before .before .before .before .before .before .before .if1 .left)) (
       c .written-number .ensures ∙ ap writtenNumber (w .0 ∙ ap (λ (m : Message). writtenOf m (a .keys .now) (a .numbers .now) (a .bytes .now)) e),
       w .1 ∙ ap (λ (m : Message). bytesWritten m (a .keys .now) (a .numbers .now) (a .bytes .now)) e,

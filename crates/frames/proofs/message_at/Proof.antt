@@ -1,5 +1,4 @@
 -- The kind picks the definition's clause.
-use borrow.Author.Needs.{needs}
 use mathlib.Core.Path.{sym, ap}
 use Prim.Native.Nat.{ℕ}
 use Rattle.frames.specs.Messages.{messageAt}
@@ -58,4 +57,4 @@ returns-12 c =
     message-last (a .kind) (a .fixed) (r .0 .0 .0 .0 .0 .0 .0 .0 .0 .0 .1) (r .0 .0 .0 .0 .0 .0 .0 .0 .0 .1) (r .0 .0 .0 .0 .0 .0 .0 .0 .1) (r .0 .0 .0 .0 .0 .0 .0 .1) (r .0 .0 .0 .0 .0 .0 .1) (r .0 .0 .0 .0 .0 .1) (r .0 .0 .0 .0 .1) (r .0 .0 .0 .1) (r .0 .0 .1) (r .0 .1) (r .1)
 
 pub message-at-spec : {M : Type 1} → statement M
-message-at-spec = tie.close (tie.spec (λ c. search needs) (λ c. search needs) returns returns-2 returns-3 returns-4 returns-5 returns-6 returns-7 returns-8 returns-9 returns-10 returns-11 returns-12)
+message-at-spec = tie.close (tie.spec returns returns-2 returns-3 returns-4 returns-5 returns-6 returns-7 returns-8 returns-9 returns-10 returns-11 returns-12)

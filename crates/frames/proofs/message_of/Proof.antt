@@ -3,16 +3,12 @@ use borrow.Author.Needs.{needs}
 use mathlib.Core.Path.{ap, _∙_}
 use native.Mathlib.Omega.{arith}
 use lib.ListN.{getD}
-use Rattle.frames.specs.declared.Fixed.{Fixed}
 use Rattle.frames.specs.Messages.{messageAt, messageOf}
 use Rattle.frames.proofs.message_of.Statement.{statement}
 use Rattle.frames.proofs.message_of.Tie as tie
 
 shared-slice-read-message-at : tie.Need-shared-slice-read-message-at
 shared-slice-read-message-at c = omega (arith, c .before .before .before .pre .long)
-
-message-at-requires : tie.Need-message-at-requires
-message-at-requires c κs = omega (arith, c .before .before .before .pre .few, ap (λ (f : Fixed). f .entries) (c .before .fixed-at .ensures))
 
 returns : tie.Need-returns
 unfolding messageOf
@@ -21,4 +17,4 @@ returns c =
     c .message-at .ensures ∙ ap (messageAt (getD vs 0 0)) (c .before .before .fixed-at .ensures)
 
 pub message-of-spec : {M : Type 1} → statement M
-message-of-spec = tie.close (tie.spec (λ c κs. search needs) shared-slice-read-message-at message-at-requires returns)
+message-of-spec = tie.close (tie.spec (λ c κs. search needs) shared-slice-read-message-at (λ c κs. search needs) returns)

@@ -5,9 +5,9 @@ use mathlib.Core.List.{List}
 use Prim.Native.Nat.{ℕ}
 use native.Mathlib.Omega.{arith}
 use lib.ListN.{getD}
-use Rattle.formats.specs.Table.{manyPlace, frameLength}
+use Rattle.formats.specs.Table.{manyPlace, entriesSaid, frameLength}
 use Rattle.formats.specs.TableLaws.{entries-by, row-at}
-use Rattle.formats.specs.Walk.{entriesSaid, values-length, kind-below, entries-few, frame-length}
+use Rattle.formats.specs.Walk.{values-length, kind-below, entries-few, frame-length}
 use Rattle.formats.proofs.writing.length_of.Statement.{statement}
 use Rattle.formats.proofs.writing.length_of.Tie as tie
 

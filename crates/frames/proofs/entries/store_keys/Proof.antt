@@ -3,7 +3,8 @@ use borrow.Author.Needs.{needs}
 use mathlib.Core.Path.{refl}
 use Prim.Native.Nat.{_-_, _<_}
 use native.Mathlib.Omega.{arith}
-use Rattle.formats.specs.Walk.{entriesSaid, values-length, entries-few}
+use Rattle.formats.specs.Table.{entriesSaid}
+use Rattle.formats.specs.Walk.{values-length, entries-few}
 use Rattle.frames.specs.Lists.{Laying, laying-none, laying-room, laying-more, laying-length, laying-all}
 use Rattle.frames.specs.Entries.{keyIn}
 use Rattle.frames.specs.Good.{count-byte, client-byte}
