@@ -6,7 +6,6 @@ pub mod RoundTrip
 pub mod TableLaws
 pub mod FormatLaws
 pub mod Reading
-pub mod Zeros
 pub mod Writing
 pub mod Walk
 pub mod Laying

@@ -15,15 +15,15 @@ use Rattle.formats.specs.Table.{mostEntries, entriesSaid, hasNumbers}
 use Rattle.formats.specs.Format.{format}
 use Rattle.formats.specs.Reading.{outcome}
 use Rattle.formats.specs.Writing.{wroteOf, bytesAfter}
-use Rattle.formats.specs.Walk.{entries-few}
+use Rattle.formats.specs.Walk.{values-length, entries-few}
 use Rattle.frames.specs.declared.Message.{Message}
 use Rattle.frames.specs.declared.Reading.the-variants as reading
 use Rattle.frames.specs.declared.Written.{Written}
 use Rattle.frames.specs.declared.Written.the-variants.{Length, Refused}
-use Rattle.frames.specs.Lists.{built, built-length, built-at, laid, laid-none}
+use Rattle.ranges.specs.Laid.{built, built-length, built-at, laid, laid-none}
 use Rattle.frames.specs.Messages.{entriesOf, fixedOf, messageOf}
 use Rattle.frames.specs.Entries.{keyIn, numberIn, entryValue, valuesOf}
-use Rattle.frames.specs.Good.{kind-back, entries-back}
+use Rattle.frames.specs.Good.{kind-back, entries-back, count-byte, client-byte}
 use Rattle.frames.specs.Frames.{enough, hasPlaces, writable, frameOf, fits, writtenOf, bytesWritten, readingOf, keysRead, numbersRead}
 use Rattle.frames.specs.RoundTrip.{fixed-length, said}
 
@@ -40,7 +40,7 @@ valuesBy fixed keys numbers entries = fixed ++ built (entryValue (hasNumbers (ge
 abbrev pub writtenBy : Wrote → Written
 writtenBy w = cond (eqb (w .fault) 0) (Length (w .length)) (Refused (w .fault))
 
--- What the functions ask: that a value is there; that all up to a count are; that the entries are and fit; that the values are a frame's.
+-- What the functions ask: that a value is there; that all up to a count are; that the entries are and fit; that the values of all entries are there, and their keys fit.
 pub record Reaches (fixed : List ℕ) (numbered : Bool) (keys numbers : List ℕ) (i : ℕ) : Type 0 where
   pub eight : length fixed ≡ 8
   pub key : 8 ≤ i → (i - 8) / 3 < length keys
@@ -58,8 +58,10 @@ pub record Packable (fixed keys numbers : List ℕ) (entries : ℕ) : Type 0 whe
   pub for-numbers : hasNumbers (getD fixed 0 0) ≡ true → entries ≤ length numbers
 
 pub record Stored (values : List ℕ) (entries : ℕ) : Type 0 where
-  pub right : good format values ≡ true
-  pub is-said : entries ≡ entriesSaid values
+  pub few : entries ≤ mostEntries
+  pub long : length values ≡ 8 + 3 * entries
+  pub count : (i : ℕ) → i < entries → getD values (8 + 3 * i) 0 < 256
+  pub client : (i : ℕ) → i < entries → getD values (9 + 3 * i) 0 < 256
 
 -- ---- the cases, as the code meets them
 
@@ -190,7 +192,14 @@ module _ (vs keys numbers : List ℕ) (g : good format vs ≡ true) where
     its-entries = en ∙ ap entriesOf em
 
     pub are-stored : Stored vs n
-    are-stored = record { right = g; is-said = its-entries ∙ entries-back vs g }
+    are-stored =
+        let e : n ≡ entriesSaid vs = its-entries ∙ entries-back vs g in
+        record {
+          few = omega (arith, entries-few vs g);
+          long = omega (arith, values-length vs g);
+          count = λ i h. count-byte vs g i (omega arith);
+          client = λ i h. client-byte vs g i (omega arith);
+        }
 
     found-places : hasPlaces (messageOf vs) keys numbers ≡ enough (getD vs 0 0) n (length keys) (length numbers)
     found-places = places-are ∙ ap (λ (k : ℕ). enough (getD vs 0 0) k (length keys) (length numbers)) (sym its-entries)

@@ -6,7 +6,7 @@ use lib.Dec.{eqb}
 use lib.ListN.{getD}
 use Rattle.formats.specs.Table.{hasNumbers}
 use Rattle.frames.specs.declared.Message.{Message}
-use Rattle.frames.specs.Lists.{built}
+use Rattle.ranges.specs.Laid.{built}
 use Rattle.frames.specs.Messages.{entriesOf, fixedOf}
 
 -- of entry i among a frame's values: its key as a number, as `keyWord` has it, and its setpoint or mask

@@ -12,7 +12,7 @@ use Rattle.frames.specs.declared.Reading.{Reading}
 use Rattle.frames.specs.declared.Reading.the-variants as reading
 use Rattle.frames.specs.declared.Written.{Written}
 use Rattle.frames.specs.declared.Written.the-variants as written
-use Rattle.frames.specs.Lists.{laid}
+use Rattle.ranges.specs.Laid.{laid}
 use Rattle.frames.specs.Messages.{entriesOf, messageOf}
 use Rattle.frames.specs.Entries.{keyIn, numberIn, kindOf, valuesOf}
 

@@ -18,7 +18,7 @@ use Rattle.formats.specs.Format.{sortOf, widthOf, format}
 use Rattle.formats.specs.FormatLaws.{at-most, at-least}
 use Rattle.formats.specs.Walk.{stateAt, placeAt, place-early, place-late, walk-place, walk-kind, values-length, entries-few, value-fits, value-allowed, value-width, kind-below}
 use Rattle.frames.specs.declared.Fixed.{Fixed}
-use Rattle.frames.specs.Lists.{built, built-take}
+use Rattle.ranges.specs.Laid.{built, built-take}
 use Rattle.frames.specs.Messages.{entriesOf, fixedOf, Narrow, fixedAt, messageAt, messageOf}
 use Rattle.frames.specs.Entries.{kindOf}
 

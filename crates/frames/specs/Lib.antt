@@ -1,5 +1,4 @@
 -- Messages on the wire. Messages, Entries and Frames say what is right, in document 01's words; Vectors and the theorems of RoundTrip follow from them.
-pub mod Lists
 pub mod Messages
 pub mod Entries
 pub mod Frames

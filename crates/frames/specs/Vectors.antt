@@ -11,7 +11,7 @@ use Rattle.frames.specs.declared.Message.{Message}
 use Rattle.frames.specs.declared.Message.the-variants.{Set}
 use Rattle.frames.specs.declared.Reading.{Reading}
 use Rattle.frames.specs.declared.Reading.the-variants.{Read, Refused}
-use Rattle.frames.specs.Lists.{built}
+use Rattle.ranges.specs.Laid.{built}
 use Rattle.frames.specs.Messages.{messageAt, messageOf}
 use Rattle.frames.specs.Entries.{entryValue, valuesOf}
 use Rattle.frames.specs.Frames.{hasPlaces, frameOf, readingOf, found}

@@ -6,7 +6,7 @@ ghost use Prim.Native.Nat.{_+_, _*_, _/_, _≤_, _<_};
 ghost use lib.ListN.{length, getD, take};
 ghost use Rattle.formats.specs.Table.{hasNumbers};
 ghost use Rattle.formats.specs.Format.{mostValues};
-ghost use Rattle.frames.specs.Lists.{built, laid};
+ghost use Rattle.ranges.specs.Laid.{built, laid};
 ghost use Rattle.frames.specs.Entries.{keyIn, numberIn, entryValue};
 ghost use Rattle.frames.specs.Frames.{enough};
 ghost use Rattle.frames.specs.Answers.{valueBy, valuesBy, Reaches, Room, Packable, Stored};

@@ -1,4 +1,4 @@
--- Folds over the numbers below n, each as a definition with its laws. Everything above cites these; nothing above proves such an induction again.
+-- Folds over the numbers below n, each as a definition with its laws, and lists given place by place. Everything above cites these; nothing above proves such an induction again.
 pub mod Tests
 pub mod Every
 pub mod All
@@ -9,3 +9,4 @@ pub mod Turns
 pub mod Picked
 pub mod Words
 pub mod Each
+pub mod Laid

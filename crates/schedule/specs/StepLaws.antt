@@ -1,12 +1,11 @@
 -- Laws of the step that a line names, one for each way that the reader goes.
-use Prim.Native.Nat.{ℕ, suc, _+_, _-_, _≤_, _<_}
+use Prim.Native.Nat.{ℕ, suc, _-_, _≤_, _<_}
 use mathlib.Core.Path.{_≡_, refl, ap, sym, _∙_}
 use mathlib.Core.Bool.{true, false}
 use mathlib.Core.List.{List, [], _∷_}
 use native.Mathlib.Omega.{arith}
-use native.Mathlib.Numerals.{add-one}
-use lib.ListN.{length, take, drop, getD, set, length-append, length-take, length-drop}
-use lib.Seq.{length-take-le, take-suc, take-all, take-length, take-at, drop-cons, append-snoc, set-at}
+use lib.ListN.{length, take, drop, getD, length-append, length-take, length-drop}
+use lib.Seq.{length-take-le, take-all, take-length, take-at, drop-cons}
 use Rattle.ranges.specs.Tests.{either, by-test}
 use Rattle.schedule.specs.declared.Numbers.{Numbers}
 use Rattle.schedule.specs.declared.Numbers.the-variants.{Broken, All}
@@ -22,19 +21,6 @@ use Rattle.schedule.specs.Steps.{Named, unreadable, namedOpen, namedWrit
 pub record Fits (numbers setpoints : List ℕ) : Type 0 where
   pub few : length numbers ≤ 99
   pub room : 97 ≤ length setpoints
-
--- storing numbers one by one: s is the place when i of them are stored
-pub stored-none : (l held : List ℕ) → held ≡ stored (take 0 l) held
-stored-none l held = refl
-
-pub stored-more : (l held s : List ℕ) (i : ℕ) → s ≡ stored (take i l) held → i < length l → i < length held → set s i (getD l i 0) ≡ stored (take (i + 1) l) held
-stored-more l held s i e h k =
-    let g : length (take i l) ≡ i = length-take-le i l (omega arith) in
-    let f : length (take (suc i) l) ≡ suc i = length-take-le (suc i) l h in
-    rw (e, add-one i, f, g, take-suc l i 0 h, append-snoc, drop-cons held i 0 k) (set-at (take i l) (getD held i 0) (drop (suc i) held) (getD l i 0) i g)
-
-pub stored-all : (l held : List ℕ) {s : List ℕ} (i : ℕ) → s ≡ stored (take i l) held → length l ≤ i → s ≡ stored l held
-stored-all l held i e h = rw (← take-all i l h) e
 
 -- a line that names no step leaves the place as it was
 pub names-none : {n : Named} {r : Reading} (held : List ℕ) → n ≡ unreadable → r ≡ readingOf unreadable → Names n held r held

@@ -5,7 +5,7 @@ use mathlib.Core.Bool.{Bool, true, not}
 use mathlib.Core.List.{List, []}
 use native.Mathlib.Omega.{arith}
 use lib.ListN.{length, getD, take, drop, length-drop, length-set}
-use lib.Seq.{take-at, getD-drop}
+use lib.Seq.{getD-drop}
 use borrow.Author.Tests.{eq-eqb, ne-eqb, le-leb, lt-leb}
 use Rattle.ranges.specs.Turns.{turns-keep}
 use Rattle.tables.specs.Layout.{serverPlaces, versionWord}
@@ -24,7 +24,7 @@ use Rattle.frames.specs.declared.Message.{Message}
 use Rattle.frames.specs.declared.Message.the-variants.{Set, SetDone, Enter, Entered, WhichKeys, Keys, Get, Got, GetAll, GetLog}
 use Rattle.frames.specs.declared.Written.{Written}
 use Rattle.frames.specs.Frames.{writtenOf, bytesWritten}
-use Rattle.frames.specs.Lists.{built, built-length, built-same, built-take, laid}
+use Rattle.ranges.specs.Laid.{built, built-same, built-take}
 use Rattle.wire.specs.OnLink.{OnLink, empty, carries, alone, requestIn, keysReply, allReply, logReply, everythingReply, replyIn, onLinkBy, onLink}
 use Rattle.wire.specs.Sending.{Sent, sent, refused, isAbsent}
 
@@ -70,10 +70,6 @@ module _ (state : ℕ) (w : Contents) (q i : ℕ) where
           request-all e = rw (ne-eqb state writing d, ne-eqb state entering f, ne-eqb state askingKeys g, ne-eqb state askingSetpoints h, ne-eqb i coordinator e)
 
 -- ---- the entries that the code lends
-
--- the front of a row that was laid
-pub laid-front : (f : ℕ → ℕ) (n : ℕ) (row : List ℕ) {after : List ℕ} → after ≡ laid f n row → take n after ≡ built f n
-laid-front f n row e = ap (take n) e ∙ take-at (built f n) (drop n row) n (built-length f n)
 
 -- a part of a server's versions
 pub versions-part : (words : List ℕ) (i n : ℕ) {at many : ℕ} → serverPlaces * i + n ≤ length words → at ≡ serverPlaces * i → many ≡ n → take many (drop at words) ≡ built (versionWord words i) n

@@ -23,7 +23,7 @@ use Rattle.rules.specs.Request.{onSet, onEnter, onWhichKeys, onGet, onGetAll, o
 use Rattle.rules.specs.Reply.{onSetDone, onEntered, onKeys, onGot, onAll, onReplyIn, replyDelivered}
 use Rattle.frames.specs.declared.Message.the-variants.{Set, SetDone, Enter, Entered, WhichKeys, Keys, Get, Got, GetAll, All, GetLog, Log}
 use Rattle.frames.specs.declared.Written.the-variants.{Length, Refused}
-use Rattle.frames.specs.Lists.{built}
+use Rattle.ranges.specs.Laid.{built}
 use Rattle.frames.specs.Entries.{entryValue, valuesOf}
 use Rattle.frames.specs.Frames.{frameOf, fits}
 use Rattle.wire.specs.OnLink.{empty, carries, alone, requestIn, replyIn, onLink}

@@ -14,7 +14,7 @@ use Rattle.coordinator.specs.Latest.{latestKey}
 use Rattle.rules.specs.Common.{writing, entering, askingKeys, askingSetpoints, coordinator}
 use Rattle.frames.specs.declared.Message.{Message}
 use Rattle.frames.specs.declared.Message.the-variants.{Set, SetDone, Enter, Entered, WhichKeys, Keys, Get, Got, GetAll, All, GetLog, Log}
-use Rattle.frames.specs.Lists.{built}
+use Rattle.ranges.specs.Laid.{built}
 
 -- what a link holds: nothing, or a message with the keys of its entries, as words, and their setpoints or masks
 pub data OnLink : Type 0 where

@@ -2,7 +2,7 @@
 use Prim.Native.Nat.{ℕ, zero, suc, _+_, _-_, _*_, _/_, _%_, _≤_, _<_, _^_}
 use mathlib.Core.Path.{_≡_, refl, ap, _∙_}
 use mathlib.Core.Bool.{Bool, true, false, cond, _&&_}
-use mathlib.Core.List.{List, [], _∷_, _++_}
+use mathlib.Core.List.{List, [], _∷_}
 use native.Mathlib.Omega.{arith}
 use lib.Dec.{eqb, leb, ltb}
 use lib.ListN.{length, getD}
@@ -14,7 +14,7 @@ use Rattle.formats.specs.Grammar.{good}
 use Rattle.formats.specs.Table.{count, of, sortAt, bitsOf, leastOf, mostOf, entriesIn, hasNumbers}
 use Rattle.formats.specs.Format.{fieldOf, within, leftAfter, placeAfter, nextOf, entries, fixed, format}
 use Rattle.frames.specs.declared.Message.the-variants.{Set, SetDone, Enter, Entered, WhichKeys, Keys, Get, Got, GetAll, All, GetLog, Log}
-use Rattle.frames.specs.Lists.{built}
+use Rattle.ranges.specs.Laid.{built, built-first}
 use Rattle.frames.specs.Entries.{entryValue, valuesOf}
 use Rattle.frames.specs.Frames.{hasPlaces, writable}
 use Rattle.frames.specs.RoundTrip.{count-value, client-value, number-value}
@@ -103,12 +103,7 @@ module _ (q : ℕ) (q-fits : q < 16) where
 
 -- ---- the entries
 
--- a list from its first place on
-built-first : (f : ℕ → ℕ) (n : ℕ) → built f (suc n) ≡ f 0 ∷ built (λ i. f (suc i)) n
-unfolding built
-built-first f zero = refl
-built-first f (suc n) = ap (λ (l : List ℕ). l ++ (f (suc n) ∷ [])) (built-first f n)
-
+-- a list from its first three places on
 built-three : (f : ℕ → ℕ) (n : ℕ) → built f (suc (suc (suc n))) ≡ f 0 ∷ f 1 ∷ f 2 ∷ built (λ i. f (suc (suc (suc i)))) n
 built-three f n =
     built-first f (suc (suc n))

@@ -8,7 +8,7 @@ ghost use Rattle.tables.specs.Rows.{wordAt};
 ghost use Rattle.tables.specs.Layout.{countWords, entryWidth, entryMask};
 ghost use Rattle.tables.specs.Tables.{tablesOf};
 ghost use Rattle.soundness.specs.Facts.{Sound};
-ghost use Rattle.frames.specs.Lists.{laid};
+ghost use Rattle.ranges.specs.Laid.{laid};
 ghost use Rattle.wire.specs.OnLink.{alone, requestIn, keysReply, allReply, logReply, everythingReply, replyIn, onLink};
 ghost use Rattle.wire.specs.Sending.{sent, isAbsent, linkFrame};
 ghost use Rattle.wire.specs.Ready.{LogReady, AllReady, EverythingReady, ReplyReady, LinkReady};
@@ -72,26 +72,15 @@ fn request_message(state: u32, contents: Contents, client: u8, target: u8) -> Me
     }
 }
 
-// The words of the keys of the first entries of the log.
-fn log_keys(log: &[u32], entries: usize, words: &mut [u32])
-    requires { ⌜ (entryWidth * entries ≤ length (now log)) × (entries ≤ length (now words)) ⌝ }
-    ensures { λ _. ⌜ now (words .exit) ≡ laid (λ tag. wordAt entryWidth (now (log .entry)) tag 0) entries (now (words .entry)) ⌝ }
+// The first entries of the log: the words of their keys, and their masks.
+fn log_entries(log: &[u32], entries: usize, words: &mut [u32], masks: &mut [u32])
+    requires { ⌜ (entryWidth * entries ≤ length (now log)) × (entries ≤ length (now words)) × (entries ≤ length (now masks)) ⌝ }
+    ensures { λ _. ⌜ (now (words .exit) ≡ laid (λ tag. wordAt entryWidth (now (log .entry)) tag 0) entries (now (words .entry))) × (now (masks .exit) ≡ laid (entryMask (now (log .entry))) entries (now (masks .entry))) ⌝ }
 {
     let mut tag: usize = 0;
     while tag < entries {
         words[tag] = log::key_word(log, tag);
-        tag += 1;
-    }
-}
-
-// Their masks.
-fn log_masks(log: &[u32], entries: usize, words: &mut [u32])
-    requires { ⌜ (entryWidth * entries ≤ length (now log)) × (entries ≤ length (now words)) ⌝ }
-    ensures { λ _. ⌜ now (words .exit) ≡ laid (λ tag. entryMask (now (log .entry)) tag) entries (now (words .entry)) ⌝ }
-{
-    let mut tag: usize = 0;
-    while tag < entries {
-        words[tag] = log::entry_mask(log, tag);
+        masks[tag] = log::entry_mask(log, tag);
         tag += 1;
     }
 }
@@ -130,8 +119,7 @@ fn write_log(log: &[u32], number: u32, client: u8, bytes: &mut [u8]) -> Written
     let mut words = [0u32; 256];
     let mut masks = [0u32; 256];
     let count = number as usize;
-    log_keys(log, count, &mut words);
-    log_masks(log, count, &mut masks);
+    log_entries(log, count, &mut words, &mut masks);
     let message = Message::Log {
         client: client,
         entries: number,

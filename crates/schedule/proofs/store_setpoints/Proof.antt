@@ -1,30 +1,26 @@
--- The loop's invariant: the numbers passed are stored.
+-- The loop lays the numbers over the front of the place.
 use Prim.Native.Nat.{_-_}
-use mathlib.Core.Path.{_≡_}
-use lib.ListN.{length, take}
-use native.Mathlib.Omega.{arith}
-use Rattle.schedule.specs.Steps.{stored}
-use Rattle.schedule.specs.StepLaws.{stored-none, stored-more, stored-all}
+use mathlib.Core.Path.{refl, _∙_}
+use lib.ListN.{length, getD}
+use Rattle.ranges.specs.Laid.{Laying, laying-none, laying-more, laying-all, laid-list}
 use borrow.Author.Needs.{needs}
 use Rattle.schedule.proofs.store_setpoints.Statement.{statement}
 use Rattle.schedule.proofs.store_setpoints.Tie as tie
 
 abbrev Inv-loop : tie.InvT-loop
-Inv-loop numbers setpoints₀ at₀ setpoints at = (setpoints ≡ stored (take at numbers) setpoints₀) × (length setpoints ≡ length setpoints₀)
+Inv-loop numbers setpoints₀ at₀ setpoints at = Laying (λ i. getD numbers i 0) (length numbers) setpoints₀ at setpoints
 
 abbrev μ-loop : tie.MeasureT-loop
 μ-loop numbers setpoints₀ at₀ setpoints at = length numbers - at
 
 loop-holds : tie.Need-loop-holds Inv-loop μ-loop
-loop-holds c = (stored-none (c .args .numbers .now) (c .args .setpoints .now), search needs)
+loop-holds c = laying-none _ _ _ (c .pre)
 
 loop-again : tie.Need-loop-again Inv-loop μ-loop
-loop-again c = (stored-more _ _ _ _ (c .before .before .loop .inv .0) (c .before .loop-test .taken) (omega arith), search needs)
+loop-again c = laying-more (c .before .before .loop .inv) (c .before .loop-test .taken) refl
 
 returns : tie.Need-returns Inv-loop μ-loop
-returns c =
-    stored-all (c .before .before .args .numbers .now) (c .before .before .args .setpoints .now) (c .before .loop .at) (c .before .loop .inv .0)
-    (c .loop-test .left)
+returns c = laying-all (c .before .loop .inv) (c .loop-test .left) ∙ laid-list (c .before .before .args .numbers .now) (c .before .before .args .setpoints .now)
 
 pub store-setpoints-spec : {M : Type 1} → statement M
 store-setpoints-spec =

@@ -1,39 +1,30 @@
--- The first i bytes are zero.
+-- The loop lays 0 over the whole row.
 use borrow.Author.Needs.{needs}
-use mathlib.Core.Path.{_≡_, refl, ap, _∙_}
-use Prim.Native.Nat.{_-_, _≤_}
+use mathlib.Core.Path.{refl, _∙_}
+use Prim.Native.Nat.{_-_}
 use native.Mathlib.Omega.{arith}
-use lib.ListN.{length, take, length-set}
-use Rattle.formats.specs.Grammar.{zeros}
-use Rattle.formats.specs.Zeros.{cleared-none, cleared-more, cleared-all}
+use lib.ListN.{length}
+use Rattle.ranges.specs.Laid.{Laying, laying-none, laying-more, laying-all, laid-whole, built-constant}
 use Rattle.formats.proofs.writing.clear.Statement.{statement}
 use Rattle.formats.proofs.writing.clear.Tie as tie
 
 abbrev Inv-loop : tie.InvT-loop
-Inv-loop bytes₀ i₀ bytes i = (i ≤ length bytes) × (length bytes ≡ length bytes₀) × (take i bytes ≡ zeros i)
+Inv-loop bytes₀ i₀ bytes i = Laying (λ j. 0) (length bytes₀) bytes₀ i bytes
 
 abbrev μ-loop : tie.MeasureT-loop
-μ-loop bytes₀ i₀ bytes i = length bytes - i
+μ-loop bytes₀ i₀ bytes i = length bytes₀ - i
 
 loop-holds : tie.Need-loop-holds Inv-loop μ-loop
-loop-holds c = (omega arith, refl, cleared-none (c .args .bytes .now))
-
-loop-less : tie.Need-loop-less Inv-loop μ-loop
-loop-less c = let l = c .before .loop in omega (arith, length-set (l .bytes) (l .i) 0, c .loop-test .taken)
+loop-holds c = laying-none _ _ _ (omega arith)
 
 loop-again : tie.Need-loop-again Inv-loop μ-loop
-loop-again c =
-    let l = c .before .loop in (
-      omega (arith, length-set (l .bytes) (l .i) 0, c .loop-test .taken),
-      length-set (l .bytes) (l .i) 0 ∙ l .inv .1,
-      cleared-more (l .bytes) (l .i) (c .loop-test .taken) (l .inv .2),
-    )
+loop-again c = laying-more (c .before .loop .inv) (omega (arith, c .loop-test .taken)) refl
 
 returns : tie.Need-returns Inv-loop μ-loop
 returns c =
-    let l = c .before .loop in
-    cleared-all (l .bytes) (l .i) (omega arith) (l .inv .2) (l .inv .0) ∙ ap zeros (l .inv .1)
+    let row = c .before .before .args .bytes .now in
+    laying-all (c .before .loop .inv) (omega arith) ∙ laid-whole (λ j. 0) row ∙ built-constant 0 (length row)
 
 pub clear-spec : {M : Type 1} → statement M
 clear-spec =
-    tie.close (tie.spec Inv-loop μ-loop loop-holds (λ c. search needs) (λ c. search needs) loop-less loop-again (λ c. search needs) returns)
+    tie.close (tie.spec Inv-loop μ-loop loop-holds (λ c. search needs) (λ c. search needs) (λ c. search needs) loop-again (λ c. search needs) returns)

@@ -1,13 +1,10 @@
 -- The first i places hold the keys of the first i entries; a count and a client fit a byte each, so that a key fits.
 use borrow.Author.Needs.{needs}
 use mathlib.Core.Path.{refl}
-use Prim.Native.Nat.{_-_, _<_}
+use Prim.Native.Nat.{_-_}
 use native.Mathlib.Omega.{arith}
-use Rattle.formats.specs.Table.{entriesSaid}
-use Rattle.formats.specs.Walk.{values-length, entries-few}
-use Rattle.frames.specs.Lists.{Laying, laying-none, laying-room, laying-more, laying-length, laying-all}
+use Rattle.ranges.specs.Laid.{Laying, laying-none, laying-more, laying-all}
 use Rattle.frames.specs.Entries.{keyIn}
-use Rattle.frames.specs.Good.{count-byte, client-byte}
 use Rattle.frames.proofs.entries.store_keys.Statement.{statement}
 use Rattle.frames.proofs.entries.store_keys.Tie as tie
 
@@ -18,61 +15,24 @@ abbrev μ-loop : tie.MeasureT-loop
 μ-loop values keys₀ entries i₀ keys i = entries - i
 
 loop-holds : tie.Need-loop-holds Inv-loop μ-loop
-loop-holds c = laying-none (keyIn (c .args .values .now)) (c .args .entries) (c .args .keys .now) (c .pre .1)
-
-mul-keys : tie.Need-mul-keys Inv-loop μ-loop
-mul-keys c = let s = c .before .before in omega (arith, entries-few (s .args .values .now) (s .pre .0 .right), s .pre .0 .is-said)
-
-add-keys : tie.Need-add-keys Inv-loop μ-loop
-add-keys c = let s = c .before .before in omega (arith, entries-few (s .args .values .now) (s .pre .0 .right), s .pre .0 .is-said)
-
-mul-keys-2 : tie.Need-mul-keys-2 Inv-loop μ-loop
-mul-keys-2 c = let s = c .before .before in omega (arith, entries-few (s .args .values .now) (s .pre .0 .right), s .pre .0 .is-said)
-
-shared-slice-read-keys : tie.Need-shared-slice-read-keys Inv-loop μ-loop
-shared-slice-read-keys c = let s = c .before .before .before in omega (arith, values-length (s .args .values .now) (s .pre .0 .right), s .pre .0 .is-said)
-
-mul-keys-4 : tie.Need-mul-keys-4 Inv-loop μ-loop
-mul-keys-4 c = let s = c .before .before .before in omega (arith, entries-few (s .args .values .now) (s .pre .0 .right), s .pre .0 .is-said)
-
-add-keys-2 : tie.Need-add-keys-2 Inv-loop μ-loop
-add-keys-2 c = let s = c .before .before .before in omega (arith, entries-few (s .args .values .now) (s .pre .0 .right), s .pre .0 .is-said)
-
-mul-keys-5 : tie.Need-mul-keys-5 Inv-loop μ-loop
-mul-keys-5 c = let s = c .before .before .before in omega (arith, entries-few (s .args .values .now) (s .pre .0 .right), s .pre .0 .is-said)
-
-shared-slice-read-keys-2 : tie.Need-shared-slice-read-keys-2 Inv-loop μ-loop
-shared-slice-read-keys-2 c = let s = c .before .before .before .before in omega (arith, values-length (s .args .values .now) (s .pre .0 .right), s .pre .0 .is-said)
-
-mul-keys-6 : tie.Need-mul-keys-6 Inv-loop μ-loop
-mul-keys-6 c = let s = c .before .before .before .before in omega (arith, entries-few (s .args .values .now) (s .pre .0 .right), s .pre .0 .is-said)
+loop-holds c = laying-none _ _ _ (c .pre .1)
 
 mul-keys-3 : tie.Need-mul-keys-3 Inv-loop μ-loop
-mul-keys-3 c =
-    let s = c .before .before .before in
-    let l = c .before .before .loop in
-    omega (arith, count-byte (s .args .values .now) (s .pre .0 .right) (l .i) (omega (arith, s .pre .0 .is-said)))
+mul-keys-3 c = omega (arith, c .before .before .before .pre .0 .count (c .before .before .loop .i) (c .before .loop-test .taken))
 
 add-keys-3 : tie.Need-add-keys-3 Inv-loop μ-loop
 add-keys-3 c =
-    let s = c .before .before .before .before in
-    let l = c .before .before .before .loop in
-    let h : l .i < entriesSaid (s .args .values .now) = omega (arith, s .pre .0 .is-said) in
-    omega (arith, count-byte (s .args .values .now) (s .pre .0 .right) (l .i) h, client-byte (s .args .values .now) (s .pre .0 .right) (l .i) h)
-
-slice-write-keys : tie.Need-slice-write-keys Inv-loop μ-loop
-slice-write-keys c = let s = c .before .before .before .before in laying-room (keyIn (s .args .values .now)) (s .args .entries) (s .args .keys .now) (s .pre .1) (c .before .before .before .loop .inv) (c .before .before .loop-test .taken)
+    let s = c .before .before .before .before .pre .0 in
+    let i = c .before .before .before .loop .i in
+    omega (arith, s .count i (c .before .before .loop-test .taken), s .client i (c .before .before .loop-test .taken))
 
 loop-again : tie.Need-loop-again Inv-loop μ-loop
-loop-again c = let s = c .before .before .before .before in laying-more (keyIn (s .args .values .now)) (s .args .entries) (s .args .keys .now) (s .pre .1) (c .before .before .before .loop .inv) (c .before .before .loop-test .taken) refl
-
-same-length : tie.Need-same-length Inv-loop μ-loop
-same-length c = let s = c .before .before in laying-length (keyIn (s .args .values .now)) (s .args .entries) (s .args .keys .now) (s .pre .1) (c .before .loop .inv)
+loop-again c = laying-more (c .before .before .before .loop .inv) (c .before .before .loop-test .taken) refl
 
 returns : tie.Need-returns Inv-loop μ-loop
-returns c = let s = c .before .before in laying-all (keyIn (s .args .values .now)) (s .args .entries) (s .args .keys .now) (s .pre .1) (c .before .loop .inv) (c .loop-test .left)
+returns c = laying-all (c .before .loop .inv) (c .loop-test .left)
 
 pub store-keys-spec : {M : Type 1} → statement M
 store-keys-spec =
     tie.close
-    (tie.spec Inv-loop μ-loop loop-holds mul-keys add-keys mul-keys-2 shared-slice-read-keys mul-keys-3 mul-keys-4 add-keys-2 mul-keys-5 shared-slice-read-keys-2 add-keys-3 mul-keys-6 slice-write-keys (λ c. search needs) (λ c. search needs) loop-again same-length returns)
+    (tie.spec Inv-loop μ-loop loop-holds (λ c. search needs) (λ c. search needs) (λ c. search needs) (λ c. search needs) mul-keys-3 (λ c. search needs) (λ c. search needs) (λ c. search needs) (λ c. search needs) add-keys-3 (λ c. search needs) (λ c. search needs) (λ c. search needs) (λ c. search needs) loop-again (λ c. search needs) returns)
