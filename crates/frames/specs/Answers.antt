@@ -7,8 +7,8 @@ use native.Mathlib.Omega.{arith}
 use lib.Dec.{eqb, leb, ltb}
 use lib.ListN.{length, getD, take, drop, length-append, List·getD-append}
 use lib.Seq.{ext-getD, getD-append-add, length-take-le, take-at}
-use borrow.Author.Tests.{lt-ltb, le-ltb, lt-leb, le-leb, leb-true, ltb-true, ltb-false, eq-eqb, ne-eqb}
-use Rattle.ranges.specs.Tests.{by-test, both-left, both-right}
+use borrow.Author.Tests.{lt-ltb, le-ltb, lt-leb, le-leb, ltb-true, ltb-false, eq-eqb, ne-eqb}
+use Rattle.ranges.specs.Tests.{by-test, both-right}
 use Rattle.formats.specs.declared.writing.Wrote.{Wrote}
 use Rattle.formats.specs.Grammar.{Outcome, got, fault, good, frame}
 use Rattle.formats.specs.Table.{mostEntries, entriesSaid, hasNumbers}
@@ -22,20 +22,16 @@ use Rattle.frames.specs.declared.Written.{Written}
 use Rattle.frames.specs.declared.Written.the-variants.{Length, Refused}
 use Rattle.ranges.specs.Laid.{built, built-length, built-at, laid, laid-none}
 use Rattle.frames.specs.Messages.{entriesOf, fixedOf, messageOf}
-use Rattle.frames.specs.Entries.{keyIn, numberIn, entryValue, valuesOf}
+use Rattle.frames.specs.Entries.{keyIn, numberIn, entryValue, valuesBy, valuesOf}
 use Rattle.frames.specs.Good.{kind-back, entries-back, count-byte, client-byte}
 use Rattle.frames.specs.Frames.{enough, hasPlaces, writable, frameOf, fits, writtenOf, bytesWritten, readingOf, keysRead, numbersRead}
-use Rattle.frames.specs.RoundTrip.{fixed-length, said}
+use Rattle.frames.specs.RoundTrip.{fixed-length, said, Places, are-enough}
 
 -- ---- definitions
 
 -- value i of a message whose fixed values these are
 abbrev pub valueBy : List ℕ → Bool → List ℕ → List ℕ → ℕ → ℕ
 valueBy fixed numbered keys numbers i = cond (ltb i 8) (getD fixed i 0) (entryValue numbered keys numbers (i - 8))
-
--- all of them, with this many entries
-abbrev pub valuesBy : List ℕ → List ℕ → List ℕ → ℕ → List ℕ
-valuesBy fixed keys numbers entries = fixed ++ built (entryValue (hasNumbers (getD fixed 0 0)) keys numbers) (3 * entries)
 
 abbrev pub writtenBy : Wrote → Written
 writtenBy w = cond (eqb (w .fault) 0) (Length (w .length)) (Refused (w .fault))
@@ -54,8 +50,7 @@ pub record Room (fixed keys numbers : List ℕ) (count : ℕ) : Type 0 where
 pub record Packable (fixed keys numbers : List ℕ) (entries : ℕ) : Type 0 where
   pub eight : length fixed ≡ 8
   pub few : entries ≤ mostEntries
-  pub for-keys : entries ≤ length keys
-  pub for-numbers : hasNumbers (getD fixed 0 0) ≡ true → entries ≤ length numbers
+  pub places : Places (getD fixed 0 0) entries (length keys) (length numbers)
 
 pub record Stored (values : List ℕ) (entries : ℕ) : Type 0 where
   pub few : entries ≤ mostEntries
@@ -165,21 +160,6 @@ module _ (m : Message) (keys numbers bytes : List ℕ) where
       (λ l. rw l (refl, refl))))
       (λ g. rw g (refl, refl)))
 
--- ---- storing
-
-module _ (kind entries keys numbers : ℕ) (e : enough kind entries keys numbers ≡ true) where
-  pub enough-for-keys : entries ≤ keys
-  enough-for-keys = leb-true _ _ (both-left _ _ e)
-
-  pub enough-for-numbers : hasNumbers kind ≡ true → entries ≤ numbers
-  enough-for-numbers h = leb-true _ _ (rw h at (both-right (leb entries keys) _ e))
-
-pub stored-none : {b : Bool} (l r : List ℕ) → b ≡ false → r ≡ cond b l r
-stored-none l r e = rw e
-
-pub stored-some : {b : Bool} (l r : List ℕ) → b ≡ true → l ≡ cond b l r
-stored-some l r e = rw e
-
 -- ---- the reader's answer
 
 module _ (vs keys numbers : List ℕ) (g : good format vs ≡ true) where
@@ -271,12 +251,7 @@ module _ (m : Message) (keys numbers : List ℕ) {fixed : List ℕ} {n : ℕ} (e
 
   pub is-packable : enough (getD fixed 0 0) n (length keys) (length numbers) ≡ true → n ≤ mostEntries → Packable fixed keys numbers n
   is-packable e h =
-      record {
-        eight = ap length ef ∙ fixed-length m;
-        few = h;
-        for-keys = enough-for-keys (getD fixed 0 0) n (length keys) (length numbers) e;
-        for-numbers = enough-for-numbers (getD fixed 0 0) n (length keys) (length numbers) e;
-      }
+      record { eight = ap length ef ∙ fixed-length m; few = h; places = are-enough (getD fixed 0 0) n (length keys) (length numbers) e }
 
 -- the front of a row that was packed
 pub packed-front : (fixed keys numbers row : List ℕ) (n : ℕ) {front : List ℕ} → length fixed ≡ 8 → 8 + 3 * n ≤ length row → front ≡ built (valueBy fixed (hasNumbers (getD fixed 0 0)) keys numbers) (length (take (8 + 3 * n) row)) → take (8 + 3 * n) (front ++ drop (8 + 3 * n) row) ≡ valuesBy fixed keys numbers n

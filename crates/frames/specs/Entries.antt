@@ -25,6 +25,10 @@ entryValue numbered keys numbers j =
 abbrev pub kindOf : Message → ℕ
 kindOf m = getD (fixedOf m) 0 0
 
+-- the fixed values, which begin with the kind, and those of so many entries behind them
+abbrev pub valuesBy : List ℕ → List ℕ → List ℕ → ℕ → List ℕ
+valuesBy fixed keys numbers entries = fixed ++ built (entryValue (hasNumbers (getD fixed 0 0)) keys numbers) (3 * entries)
+
 -- the values of a message with its entries
 unfoldable pub valuesOf : Message → List ℕ → List ℕ → List ℕ
-valuesOf m keys numbers = fixedOf m ++ built (entryValue (hasNumbers (kindOf m)) keys numbers) (3 * entriesOf m)
+valuesOf m keys numbers = valuesBy (fixedOf m) keys numbers (entriesOf m)

@@ -23,7 +23,7 @@ use Rattle.ranges.specs.Laid.{built, built-length, built-at, built-same, built-
 use Rattle.frames.specs.Messages.{entriesOf, fixedOf, messageAt, messageOf}
 use Rattle.frames.specs.Entries.{keyIn, numberIn, entryValue, kindOf, valuesOf}
 use Rattle.frames.specs.Good.{fixed-back, entries-back, kind-back, client-byte, no-number}
-use Rattle.frames.specs.Frames.{hasPlaces, writable, frameOf, readingOf, keysRead, numbersRead, found}
+use Rattle.frames.specs.Frames.{enough, hasPlaces, writable, frameOf, readingOf, keysRead, numbersRead, found}
 
 -- ---- the values of an entry
 
@@ -93,18 +93,21 @@ unfolding valuesOf
 values-many m keys numbers =
     length-append (fixedOf m) _ ∙ ap₂ (λ (a b : ℕ). a + b) (fixed-length m) (built-length (entryValue (hasNumbers (kindOf m)) keys numbers) (3 * entriesOf m))
 
--- What places there are for the entries.
-pub record Places (m : Message) (keys numbers : List ℕ) : Type 0 where
-  pub for-keys : entriesOf m ≤ length keys
-  pub for-numbers : hasNumbers (kindOf m) ≡ true → entriesOf m ≤ length numbers
+-- What places there are for the entries of a kind.
+pub record Places (kind entries keys numbers : ℕ) : Type 0 where
+  pub for-keys : entries ≤ keys
+  pub for-numbers : hasNumbers kind ≡ true → entries ≤ numbers
 
-pub are-places : (m : Message) (keys numbers : List ℕ) → hasPlaces m keys numbers ≡ true → Places m keys numbers
-unfolding hasPlaces
-are-places m keys numbers e =
+pub are-enough : (kind entries keys numbers : ℕ) → enough kind entries keys numbers ≡ true → Places kind entries keys numbers
+are-enough kind entries keys numbers e =
     record {
       for-keys = leb-true _ _ (both-left _ _ e);
-      for-numbers = λ h. leb-true _ _ (rw h at (both-right (leb (entriesOf m) (length keys)) _ e));
+      for-numbers = λ h. leb-true _ _ (rw h at (both-right (leb entries keys) _ e));
     }
+
+are-places : (m : Message) (keys numbers : List ℕ) → hasPlaces m keys numbers ≡ true → Places (kindOf m) (entriesOf m) (length keys) (length numbers)
+unfolding hasPlaces
+are-places m keys numbers e = are-enough (kindOf m) (entriesOf m) (length keys) (length numbers) e
 
 -- ---- round trip
 
@@ -113,7 +116,7 @@ module _ (m : Message) (keys numbers : List ℕ) (w : writable m keys numbers �
   unfolding writable
   right = both-right (hasPlaces m keys numbers) _ w
 
-  places : Places m keys numbers
+  places : Places (kindOf m) (entriesOf m) (length keys) (length numbers)
   unfolding writable
   places = are-places m keys numbers (both-left _ _ w)
 

@@ -7,9 +7,9 @@ ghost use lib.ListN.{length, getD, take};
 ghost use Rattle.formats.specs.Table.{hasNumbers};
 ghost use Rattle.formats.specs.Format.{mostValues};
 ghost use Rattle.ranges.specs.Laid.{built, laid};
-ghost use Rattle.frames.specs.Entries.{keyIn, numberIn, entryValue};
+ghost use Rattle.frames.specs.Entries.{keyIn, numberIn, entryValue, valuesBy};
 ghost use Rattle.frames.specs.Frames.{enough};
-ghost use Rattle.frames.specs.Answers.{valueBy, valuesBy, Reaches, Room, Packable, Stored};
+ghost use Rattle.frames.specs.Answers.{valueBy, Reaches, Room, Packable, Stored};
 
 // Whether slices have places for the entries of a kind.
 pub fn enough_places(kind: u32, entries: usize, keys: usize, numbers: usize) -> bool

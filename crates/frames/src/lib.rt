@@ -13,7 +13,8 @@ ghost use Rattle.formats.specs.Grammar.{got, good};
 ghost use Rattle.formats.specs.Format.{format};
 ghost use Rattle.formats.specs.Writing.{wroteOf, bytesAfter};
 ghost use Rattle.frames.specs.Frames.{readingOf, keysRead, numbersRead, found, writtenOf, bytesWritten};
-ghost use Rattle.frames.specs.Answers.{writtenBy, valuesBy, Packable};
+ghost use Rattle.frames.specs.Answers.{writtenBy, Packable};
+ghost use Rattle.frames.specs.Entries.{valuesBy};
 ghost use Rattle.frames.specs.Messages.{entriesOf, fixedOf, messageOf, messageAt, fixedAt, Narrow};
 
 // A message by its kind, 1 to 12: set, set done, enter, entered, which keys, keys, get, got, get all, all, get log, log.

@@ -1,6 +1,6 @@
 -- `frame_exports::frame_write` meets its contract: a number that is no kind is refused; else the message is that of its numbers, and the writer's answer crosses as its number.
-use mathlib.Core.Path.{refl, sym, ap, _∙_}
-use borrow.Author.Tests.{not-true, not-false}
+use mathlib.Core.Path.{refl, ap, _∙_}
+use Rattle.ranges.specs.Tests.{fails, holds}
 use Rattle.frame_exports.specs.Numbers.{writtenNumber}
 use Rattle.frames.specs.declared.Fixed.{Fixed}
 use Rattle.frames.specs.declared.Message.{Message}
@@ -11,14 +11,14 @@ use Rattle.frame_exports.proofs.frame_write.Statement.{statement}
 use Rattle.frame_exports.proofs.frame_write.Tie as tie
 
 returns : tie.Need-returns
-returns c = rw (sym (c .before .before .is-kind .ensures) ∙ not-true _ (c .before .if1 .taken)) (c .refused .ensures, refl)
+returns c = rw (fails (c .before .before .is-kind .ensures) (c .before .if1 .taken)) (c .refused .ensures, refl)
 
 returns-2 : tie.Need-returns-2
 returns-2 c =
     let a = c .before .before .before .before .before .before .before .before .before .before .before .before .args in
     let w = c .before .before .before .write-frame .ensures in
     let e = c .before .before .before .before .before .message-at .ensures ∙ ap (λ (f : Fixed). messageAt (a .kind) f) (c .before .before .before .before .before .before .fixed-from .ensures) in
-    rw (sym (c .before .before .before .before .before .before .before .before .is-kind .ensures) ∙ not-false _ (c .before .before .before .before .before .before .before .if1 .left)) (
+    rw (holds (c .before .before .before .before .before .before .before .before .is-kind .ensures) (c .before .before .before .before .before .before .before .if1 .left)) (
       c .written-number .ensures ∙ ap writtenNumber (w .0 ∙ ap (λ (m : Message). writtenOf m (a .keys .now) (a .numbers .now) (a .bytes .now)) e),
       w .1 ∙ ap (λ (m : Message). bytesWritten m (a .keys .now) (a .numbers .now) (a .bytes .now)) e,
     )

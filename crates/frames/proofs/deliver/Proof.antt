@@ -1,8 +1,7 @@
 -- A frame's values are narrow, and say how many entries to store.
 use borrow.Author.Needs.{needs}
-use borrow.Author.Tests.{not-true, not-false}
-use mathlib.Core.Path.{sym, _∙_}
 use native.Mathlib.Omega.{arith}
+use Rattle.ranges.specs.Tests.{fails, holds}
 use Rattle.frames.specs.Good.{is-narrow}
 use Rattle.frames.specs.Answers.{read-bare, read-small, read-done, are-stored}
 use Rattle.frames.proofs.deliver.Statement.{statement}
@@ -23,13 +22,13 @@ returns-2 : tie.Need-returns-2
 returns-2 c =
     let s = c .before .before .before .before .before .before .before .before .before in
     read-small (s .args .values .now) (s .args .keys .now) (s .args .numbers .now) (s .pre) (c .before .before .before .before .before .message-of .ensures) (c .before .before .before .before .entries-of .ensures)
-    (sym (c .before .enough-places .ensures) ∙ not-true _ (c .if2 .taken))
+    (fails (c .before .enough-places .ensures) (c .if2 .taken))
 
 store-requires : tie.Need-store-requires
 store-requires c κs =
     let s = c .before .before .before .before .before .before .before .before .before .before .before in (
       are-stored (s .args .values .now) (s .args .keys .now) (s .args .numbers .now) (s .pre) (c .before .before .before .before .before .before .before .message-of .ensures) (c .before .before .before .before .before .before .entries-of .ensures),
-      sym (c .before .before .before .enough-places .ensures) ∙ not-false _ (c .before .before .if2 .left),
+      holds (c .before .before .before .enough-places .ensures) (c .before .before .if2 .left),
     )
 
 returns-3 : tie.Need-returns-3
@@ -37,7 +36,7 @@ returns-3 c =
     let s = c .before .before .before .before .before .before .before .before .before .before .before .before .before .before .before .before in
     let t = c .before .before .before .before .store .ensures in
     read-done (s .args .values .now) (s .args .keys .now) (s .args .numbers .now) (s .pre) (c .before .before .before .before .before .before .before .before .before .before .before .before .message-of .ensures) (c .before .before .before .before .before .before .before .before .before .before .before .entries-of .ensures)
-    (sym (c .before .before .before .before .before .before .before .before .enough-places .ensures) ∙ not-false _ (c .before .before .before .before .before .before .before .if2 .left)) (t .0) (t .1)
+    (holds (c .before .before .before .before .before .before .before .before .enough-places .ensures) (c .before .before .before .before .before .before .before .if2 .left)) (t .0) (t .1)
 
 pub deliver-spec : {M : Type 1} → statement M
 deliver-spec =

@@ -1,10 +1,10 @@
 -- One law a branch.
 use borrow.Author.Needs.{needs}
-use borrow.Author.Tests.{not-true, not-false}
 use mathlib.Core.Path.{sym, ap, _∙_}
 use mathlib.Core.List.{List}
 use Prim.Native.Nat.{ℕ}
 use native.Mathlib.Omega.{arith}
+use Rattle.ranges.specs.Tests.{fails, holds}
 use Rattle.formats.specs.Writing.{wroteOf, bytesAfter}
 use Rattle.frames.specs.Answers.{writtenBy, enough-is, values-is, bare-places, bare-values, is-packable, written-missing, written-many, written-values}
 use Rattle.frames.proofs.write_frame.Statement.{statement}
@@ -27,7 +27,7 @@ returns-2 : tie.Need-returns-2
 returns-2 c =
     let a = c .before .before .before .before .before .before .before .before .args in
     written-missing (a .message) (a .keys .now) (a .numbers .now) (a .bytes .now)
-    (sym (enough-is (a .message) (a .keys .now) (a .numbers .now) (c .before .before .before .fixed-of .ensures) (c .before .before .before .before .entries-of .ensures)) ∙ sym (c .before .enough-places .ensures) ∙ not-true _ (c .if2 .taken))
+    (sym (enough-is (a .message) (a .keys .now) (a .numbers .now) (c .before .before .before .fixed-of .ensures) (c .before .before .before .before .entries-of .ensures)) ∙ fails (c .before .enough-places .ensures) (c .if2 .taken))
 
 returns-3 : tie.Need-returns-3
 returns-3 c =
@@ -37,7 +37,7 @@ returns-3 c =
 write-present-requires : tie.Need-write-present-requires
 write-present-requires c κs =
     let a = c .before .before .before .before .before .before .before .before .before .before .before .args in
-    is-packable (a .message) (a .keys .now) (a .numbers .now) (c .before .before .before .before .before .before .fixed-of .ensures) (c .before .before .before .before .before .before .before .entries-of .ensures) (sym (c .before .before .before .before .enough-places .ensures) ∙ not-false _ (c .before .before .before .if2 .left)) (c .before .before .if3 .left)
+    is-packable (a .message) (a .keys .now) (a .numbers .now) (c .before .before .before .before .before .before .fixed-of .ensures) (c .before .before .before .before .before .before .before .entries-of .ensures) (holds (c .before .before .before .before .enough-places .ensures) (c .before .before .before .if2 .left)) (c .before .before .if3 .left)
 
 returns-4 : tie.Need-returns-4
 returns-4 c =
@@ -46,7 +46,7 @@ returns-4 c =
     let n = c .before .before .before .before .before .before .before .before .before .before .entries-of .ensures in
     let d = c .before .before .write-present .ensures in
     let v = values-is (a .message) (a .keys .now) (a .numbers .now) f n in
-    let w = written-values (a .message) (a .keys .now) (a .numbers .now) (a .bytes .now) (sym (enough-is (a .message) (a .keys .now) (a .numbers .now) f n) ∙ sym (c .before .before .before .before .before .before .before .enough-places .ensures) ∙ not-false _ (c .before .before .before .before .before .before .if2 .left)) in (
+    let w = written-values (a .message) (a .keys .now) (a .numbers .now) (a .bytes .now) (sym (enough-is (a .message) (a .keys .now) (a .numbers .now) f n) ∙ holds (c .before .before .before .before .before .before .before .enough-places .ensures) (c .before .before .before .before .before .before .if2 .left)) in (
       d .0 ∙ ap (λ (vs : List ℕ). writtenBy (wroteOf vs (a .bytes .now))) v ∙ w .0,
       d .1 ∙ ap (λ (vs : List ℕ). bytesAfter vs (a .bytes .now)) v ∙ w .1,
     )

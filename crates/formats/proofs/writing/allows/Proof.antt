@@ -1,7 +1,6 @@
 -- One law a branch.
 use borrow.Author.Needs.{needs}
-use borrow.Author.Tests.{not-true, not-false}
-use mathlib.Core.Path.{sym, _∙_}
+use Rattle.ranges.specs.Tests.{fails, holds}
 use Rattle.formats.specs.Writing.{allows-wide, allows-low, allows-rest}
 use Rattle.formats.proofs.writing.allows.Statement.{statement}
 use Rattle.formats.proofs.writing.allows.Tie as tie
@@ -9,17 +8,17 @@ use Rattle.formats.proofs.writing.allows.Tie as tie
 returns : tie.Need-returns
 returns c =
     let a = c .before .before .args in
-    allows-wide (a .field) (a .value) (sym (c .before .fits-in .ensures) ∙ not-true _ (c .if1 .taken))
+    allows-wide (a .field) (a .value) (fails (c .before .fits-in .ensures) (c .if1 .taken))
 
 returns-2 : tie.Need-returns-2
 returns-2 c =
     let a = c .before .before .before .before .args in
-    allows-low (a .field) (a .value) (sym (c .before .before .before .fits-in .ensures) ∙ not-false _ (c .before .before .if1 .left)) (c .if2 .taken)
+    allows-low (a .field) (a .value) (holds (c .before .before .before .fits-in .ensures) (c .before .before .if1 .left)) (c .if2 .taken)
 
 returns-3 : tie.Need-returns-3
 returns-3 c =
     let a = c .before .before .before .before .before .args in
-    allows-rest (a .field) (a .value) (sym (c .before .before .before .before .fits-in .ensures) ∙ not-false _ (c .before .before .before .if1 .left)) (c .before .if2 .left)
+    allows-rest (a .field) (a .value) (holds (c .before .before .before .before .fits-in .ensures) (c .before .before .before .if1 .left)) (c .before .if2 .left)
 
 pub allows-spec : {M : Type 1} → statement M
 allows-spec = tie.close (tie.spec (λ c κs. search needs) returns returns-2 returns-3)

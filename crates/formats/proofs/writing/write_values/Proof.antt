@@ -1,6 +1,5 @@
 -- One law a branch; the frame is laid over the first bytes, and those behind it are as before.
 use borrow.Author.Needs.{needs}
-use borrow.Author.Tests.{not-true, not-false}
 use mathlib.Core.Path.{_≡_, sym, ap, _∙_}
 use mathlib.Core.Bool.{true}
 use mathlib.Core.List.{List, _++_}
@@ -8,6 +7,7 @@ use Prim.Native.Nat.{ℕ}
 use native.Mathlib.Omega.{arith}
 use lib.ListN.{getD, drop}
 use lib.Seq.{length-take-le}
+use Rattle.ranges.specs.Tests.{fails, holds}
 use Rattle.formats.specs.Grammar.{good, lay, zeros}
 use Rattle.formats.specs.TableLaws.{rowOf}
 use Rattle.formats.specs.Format.{format}
@@ -23,12 +23,12 @@ module _ (c : tie.After-row-of) where
 -- the values are good
 module _ (c : tie.Else1) where
   right : good format (c .before .before .before .before .before .before .before .args .values .now) ≡ true
-  right = sym (c .before .writable .ensures) ∙ not-false _ (c .if1 .left)
+  right = holds (c .before .writable .ensures) (c .if1 .left)
 
 returns : tie.Need-returns
 returns c =
     let a = c .before .before .before .before .before .before .before .args in
-    write-bad (a .values .now) (a .bytes .now) (sym (c .before .writable .ensures) ∙ not-true _ (c .if1 .taken))
+    write-bad (a .values .now) (a .bytes .now) (fails (c .before .writable .ensures) (c .if1 .taken))
 
 length-of-requires : tie.Need-length-of-requires
 length-of-requires c κs = (row (c .before .before .before .before), right (c .before))

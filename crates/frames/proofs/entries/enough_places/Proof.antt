@@ -1,7 +1,6 @@
 -- One law a branch.
 use borrow.Author.Needs.{needs}
-use borrow.Author.Tests.{not-true, not-false}
-use mathlib.Core.Path.{sym, _∙_}
+use Rattle.ranges.specs.Tests.{fails, holds}
 use Rattle.frames.specs.Answers.{enough-keys, enough-plain, enough-numbers}
 use Rattle.frames.proofs.entries.enough_places.Statement.{statement}
 use Rattle.frames.proofs.entries.enough_places.Tie as tie
@@ -12,12 +11,12 @@ returns c = let a = c .before .args in enough-keys (a .kind) (a .entries) (a .ke
 returns-2 : tie.Need-returns-2
 returns-2 c =
     let a = c .before .before .before .args in
-    enough-plain (a .kind) (a .entries) (a .keys) (a .numbers) (c .before .before .if1 .left) (sym (c .before .has-numbers .ensures) ∙ not-true _ (c .if2 .taken))
+    enough-plain (a .kind) (a .entries) (a .keys) (a .numbers) (c .before .before .if1 .left) (fails (c .before .has-numbers .ensures) (c .if2 .taken))
 
 returns-3 : tie.Need-returns-3
 returns-3 c =
     let a = c .before .before .before .args in
-    enough-numbers (a .kind) (a .entries) (a .keys) (a .numbers) (c .before .before .if1 .left) (sym (c .before .has-numbers .ensures) ∙ not-false _ (c .if2 .left))
+    enough-numbers (a .kind) (a .entries) (a .keys) (a .numbers) (c .before .before .if1 .left) (holds (c .before .has-numbers .ensures) (c .if2 .left))
 
 pub enough-places-spec : {M : Type 1} → statement M
 enough-places-spec = tie.close (tie.spec returns (λ c κs. search needs) returns-2 returns-3)

@@ -16,7 +16,7 @@ pack-requires c κs =
     let s = c .before .before .before .before .before in
     let p = s .pre .0 in
     let k = length-take-le (8 + 3 * s .args .entries) (s .args .values .now) (omega (arith, p .few, s .pre .1)) in
-    record { eight = p .eight; for-keys = omega (arith, k, p .for-keys); for-numbers = λ e. omega (arith, k, p .for-numbers e) }
+    record { eight = p .eight; for-keys = omega (arith, k, p .places .for-keys); for-numbers = λ e. omega (arith, k, p .places .for-numbers e) }
 
 returns : tie.Need-returns
 returns c =
