@@ -5,18 +5,11 @@ use lib.Dec.{leb, eqb}
 use Rattle.formats.specs.declared.state.Field.{Field}
 use Rattle.formats.specs.declared.state.State.{State}
 use Rattle.formats.specs.Grammar.{Grammar, end, field}
-use Rattle.formats.specs.Table.{manyPlace, entryPlace, numberPlace, sortAt, bitsOf, leastOf, mostOf, mostEntries, entriesIn}
-
--- the fields of the header and the fixed body, and of an entry
-abbrev pub fixedFields : ℕ
-fixedFields = entryPlace
-
-abbrev pub entryFields : ℕ
-entryFields = 3
+use Rattle.formats.specs.Table.{manyPlace, entryPlace, numberPlace, fixedFields, entryFields, sortAt, bitsOf, leastOf, mostOf, mostEntries, entriesIn, valuesFor}
 
 -- the most values that a frame can have, and the bits that they can have at most
 abbrev pub mostValues : ℕ
-mostValues = fixedFields + entryFields * mostEntries
+mostValues = valuesFor mostEntries
 
 abbrev pub mostBits : ℕ
 mostBits = 32 * mostValues

@@ -11,9 +11,9 @@ use Rattle.ranges.specs.Tests.{by-equal, by-test, both-left, both-right}
 use Rattle.formats.specs.declared.state.Field.{Field}
 use Rattle.formats.specs.declared.state.State.{State}
 use Rattle.formats.specs.Grammar.{Grammar, end}
-use Rattle.formats.specs.Table.{manyPlace, entryPlace, numberPlace, kinds, sorts, leasts, mosts, sortAt, bitsOf, leastOf, mostOf, mostEntries, entriesIn}
+use Rattle.formats.specs.Table.{manyPlace, entryPlace, numberPlace, entryFields, kinds, sorts, leasts, mosts, sortAt, bitsOf, leastOf, mostOf, mostEntries, entriesIn}
 use Rattle.formats.specs.TableLaws.{rowOf, row-first, row-at, sort-small, entries-most, few-entries}
-use Rattle.formats.specs.Format.{entryFields, mostValues, sortOf, fieldOf, within, allowed, leftAfter, placeAfter, nextOf, one, entries, fixed, start, format}
+use Rattle.formats.specs.Format.{mostValues, sortOf, fieldOf, within, allowed, leftAfter, placeAfter, nextOf, one, entries, fixed, start, format}
 
 module _ (place : ℕ) where
   pub place-last : place ≡ numberPlace → placeAfter place ≡ entryPlace
@@ -52,9 +52,9 @@ module _ (st : State) where
   }
 
 module _ (st : State) (v : ℕ) where
-  pub left-entries : {n : ℕ} → st .place ≡ manyPlace → n ≡ entriesIn (st .kind) v → 3 * n ≡ leftAfter st v
+  pub left-entries : {n : ℕ} → st .place ≡ manyPlace → n ≡ entriesIn (st .kind) v → entryFields * n ≡ leftAfter st v
   unfolding leftAfter
-  left-entries e d = rw (eq-eqb (st .place) manyPlace e) (ap (λ (n : ℕ). 3 * n) d)
+  left-entries e d = rw (eq-eqb (st .place) manyPlace e) (ap (λ (n : ℕ). entryFields * n) d)
 
   pub left-one-less : (st .place ≡ manyPlace → ⊥) → st .left - 1 ≡ leftAfter st v
   unfolding leftAfter
@@ -142,8 +142,8 @@ module _ (st : State) (v : ℕ) (g : Goes st) (some : 0 < st .left) where
       by-equal (st .place) manyPlace
       (λ e.
       let p : (nextOf st v) .place ≡ entryPlace = next-place st v ∙ place-inner (st .place) (λ d. omega arith) ∙ omega arith in
-      let l : (nextOf st v) .left ≡ 3 * entriesIn (st .kind) v = next-left st v ∙ sym (left-entries st v e refl) in
-      let m : v ≤ 255 = omega (arith, at-most st v a, ap (λ (q : ℕ). mostOf (sortAt (st .kind) q) (st .client) (st .before)) e, few-entries (st .kind) (st .client) (st .before)) in
+      let l : (nextOf st v) .left ≡ entryFields * entriesIn (st .kind) v = next-left st v ∙ sym (left-entries st v e refl) in
+      let m : v < mostEntries = omega (arith, at-most st v a, ap (λ (q : ℕ). mostOf (sortAt (st .kind) q) (st .client) (st .before)) e, few-entries (st .kind) (st .client) (st .before)) in
       omega (arith, room-early st (omega arith), room-late (nextOf st v) (omega arith), entries-most (st .kind) v))
       (λ d.
       let l : (nextOf st v) .left ≡ st .left - 1 = next-left st v ∙ sym (left-one-less st v d) in

@@ -59,19 +59,35 @@ keys = 13
 abbrev pub less : ℕ
 less = 14
 
--- How the table is laid out: these numbers stand here only. A row's places, from 0: the field that says how many entries there are,
--- an entry's first field, its last, which is its setpoint or mask, and how many places a row has; how many kinds there are, with 0, and how many sorts of fields.
+-- How the table is laid out: these numbers stand here only. A row's places, from 0: the first field of the fixed body, the field that says how many
+-- entries there are, an entry's first field, which is its key's count, its key's client, and its last, which is its setpoint or mask; and how many places a row has.
+abbrev pub bodyPlace : ℕ
+bodyPlace = 3
+
 abbrev pub manyPlace : ℕ
 manyPlace = 7
 
 abbrev pub entryPlace : ℕ
 entryPlace = 8
 
+abbrev pub ownerPlace : ℕ
+ownerPlace = 9
+
 abbrev pub numberPlace : ℕ
 numberPlace = 10
 
 abbrev pub rowPlaces : ℕ
 rowPlaces = 11
+
+-- how many fields the fixed body has, header and fixed body together, and an entry; how many kinds there are, with 0, and how many sorts of fields
+abbrev pub bodyFields : ℕ
+bodyFields = 5
+
+abbrev pub fixedFields : ℕ
+fixedFields = entryPlace
+
+abbrev pub entryFields : ℕ
+entryFields = 3
 
 abbrev pub kinds : ℕ
 kinds = 13
@@ -140,6 +156,10 @@ entriesIn kind v = cond (eqb (sortAt kind manyPlace) less) (v + 1) v
 -- how many a frame's values say that there are
 abbrev pub entriesSaid : List ℕ → ℕ
 entriesSaid vs = entriesIn (getD vs 0 0) (getD vs manyPlace 0)
+
+-- how many values a frame with so many entries has
+abbrev pub valuesFor : ℕ → ℕ
+valuesFor entries = fixedFields + entryFields * entries
 
 -- an entry has a setpoint or a mask beside its key
 unfoldable pub hasNumbers : ℕ → Bool

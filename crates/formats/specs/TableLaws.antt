@@ -10,7 +10,7 @@ use lib.ListN.{length, getD, List·getD-eq-default}
 use borrow.Author.Tests.{eqb-true, eq-eqb, ne-eqb, leb-true, lt-ltb, le-ltb, ltb-true, ltb-false, not-true}
 use Rattle.ranges.specs.Tests.{either, by-test, both-left, both-right}
 use Rattle.ranges.specs.All.{allBelow, all-at}
-use Rattle.formats.specs.Table.{manyPlace, entryPlace, rowPlaces, kinds, sorts, headerBits, table, mostEntries, own, of, sortAt, bitsOf, leastOf, mostOf, mosts, leasts, less, entriesIn, bodyBits, entryBits}
+use Rattle.formats.specs.Table.{bodyPlace, manyPlace, entryPlace, rowPlaces, bodyFields, entryFields, kinds, sorts, headerBits, table, mostEntries, own, of, sortAt, bitsOf, leastOf, mostOf, mosts, leasts, less, entriesIn, bodyBits, entryBits}
 
 -- the bits of n fields of a kind from a place on
 unfoldable pub bitsFrom : ℕ → ℕ → ℕ → ℕ
@@ -21,20 +21,20 @@ bitsFrom kind place (suc n) = bitsOf (sortAt kind place) + bitsFrom kind (place 
 -- the sums of the fields' bits, a frame has at most 256 entries, and every row begins with the kind.
 pub record Row (kind : ℕ) : Type 0 where
   pub places : length (getD table kind []) ≡ rowPlaces
-  pub header : bitsFrom kind 0 3 ≡ headerBits
-  pub body : bitsFrom kind 3 5 ≡ getD bodyBits kind 0
-  pub entry : bitsFrom kind entryPlace 3 ≡ getD entryBits kind 0
-  pub few : getD mosts (sortAt kind manyPlace) 0 ≤ 255
+  pub header : bitsFrom kind 0 bodyPlace ≡ headerBits
+  pub body : bitsFrom kind bodyPlace bodyFields ≡ getD bodyBits kind 0
+  pub entry : bitsFrom kind entryPlace entryFields ≡ getD entryBits kind 0
+  pub few : getD mosts (sortAt kind manyPlace) 0 < mostEntries
   pub plain : eqb (sortAt kind manyPlace) own ≡ false
   pub begins : sortAt kind 0 ≡ sortAt 0 0
 
 rowRight : ℕ → Bool
 rowRight kind =
     eqb (length (getD table kind [])) rowPlaces
-    && (eqb (bitsFrom kind 0 3) headerBits
-    && (eqb (bitsFrom kind 3 5) (getD bodyBits kind 0)
-    && (eqb (bitsFrom kind entryPlace 3) (getD entryBits kind 0)
-    && (leb (getD mosts (sortAt kind manyPlace) 0) 255 && (not (eqb (sortAt kind manyPlace) own) && eqb (sortAt kind 0) (sortAt 0 0))))))
+    && (eqb (bitsFrom kind 0 bodyPlace) headerBits
+    && (eqb (bitsFrom kind bodyPlace bodyFields) (getD bodyBits kind 0)
+    && (eqb (bitsFrom kind entryPlace entryFields) (getD entryBits kind 0)
+    && (ltb (getD mosts (sortAt kind manyPlace) 0) mostEntries && (not (eqb (sortAt kind manyPlace) own) && eqb (sortAt kind 0) (sortAt 0 0))))))
 
 -- the test
 table-right : allBelow rowRight kinds ≡ true
@@ -46,16 +46,16 @@ unfolding rowRight
 row-right kind h =
     let e₀ = all-at rowRight kinds table-right kind h in
     let e₁ = both-right (eqb (length (getD table kind [])) rowPlaces) _ e₀ in
-    let e₂ = both-right (eqb (bitsFrom kind 0 3) headerBits) _ e₁ in
-    let e₃ = both-right (eqb (bitsFrom kind 3 5) (getD bodyBits kind 0)) _ e₂ in
-    let e₄ = both-right (eqb (bitsFrom kind entryPlace 3) (getD entryBits kind 0)) _ e₃ in
-    let e₅ = both-right (leb (getD mosts (sortAt kind manyPlace) 0) 255) _ e₄ in
+    let e₂ = both-right (eqb (bitsFrom kind 0 bodyPlace) headerBits) _ e₁ in
+    let e₃ = both-right (eqb (bitsFrom kind bodyPlace bodyFields) (getD bodyBits kind 0)) _ e₂ in
+    let e₄ = both-right (eqb (bitsFrom kind entryPlace entryFields) (getD entryBits kind 0)) _ e₃ in
+    let e₅ = both-right (ltb (getD mosts (sortAt kind manyPlace) 0) mostEntries) _ e₄ in
     record {
       places = eqb-true _ _ (both-left _ _ e₀);
       header = eqb-true _ _ (both-left _ _ e₁);
       body = eqb-true _ _ (both-left _ _ e₂);
       entry = eqb-true _ _ (both-left _ _ e₃);
-      few = leb-true _ _ (both-left _ _ e₄);
+      few = ltb-true _ _ (both-left _ _ e₄);
       plain = not-true _ (both-left _ _ e₅);
       begins = eqb-true _ _ (both-right (not (eqb (sortAt kind manyPlace) own)) _ e₅);
     }
@@ -119,21 +119,24 @@ pub bits-most : (sort : ℕ) → sort < sorts → bitsOf sort ≤ 32
 unfolding allBelow bitsOf
 bits-most sort h = leb-true _ _ (all-at (λ s. leb (bitsOf s) 32) sorts refl sort h)
 
--- the columns are small
-pub columns-small : (kind : ℕ) → kind < kinds → (getD bodyBits kind 0 ≤ 44) × (getD entryBits kind 0 ≤ 44)
+-- the columns are small: nothing in them is above a count, a client and a setpoint
+abbrev mostColumn : ℕ
+mostColumn = 44
+
+pub columns-small : (kind : ℕ) → kind < kinds → (getD bodyBits kind 0 ≤ mostColumn) × (getD entryBits kind 0 ≤ mostColumn)
 unfolding allBelow
 columns-small kind h =
-    let e = all-at (λ k. leb (getD bodyBits k 0) 44 && leb (getD entryBits k 0) 44) kinds refl kind h in
-    (leb-true _ _ (both-left _ _ e), leb-true _ _ (both-right (leb (getD bodyBits kind 0) 44) _ e))
+    let e = all-at (λ k. leb (getD bodyBits k 0) mostColumn && leb (getD entryBits k 0) mostColumn) kinds refl kind h in
+    (leb-true _ _ (both-left _ _ e), leb-true _ _ (both-right (leb (getD bodyBits kind 0) mostColumn) _ e))
 
--- a value that says how many entries there are is at most 255
-pub few-entries : (kind client before : ℕ) → mostOf (sortAt kind manyPlace) client before ≤ 255
+-- a value that says how many entries there are is below the most
+pub few-entries : (kind client before : ℕ) → mostOf (sortAt kind manyPlace) client before < mostEntries
 unfolding mostOf
 few-entries kind client before =
     by-test (ltb kind kinds)
     (λ e.
     let r = row-right kind (ltb-true _ _ e) in
-    rw (r .plain) (either (λ n. n ≤ 255) (eqb (sortAt kind manyPlace) of && eqb before 0) (omega arith) (r .few)))
+    rw (r .plain) (either (λ n. n < mostEntries) (eqb (sortAt kind manyPlace) of && eqb before 0) (omega arith) (r .few)))
     (λ e. rw (← beyond-kind kind manyPlace (ltb-false _ _ e)) (omega arith))
 
 -- the cases of the limits, as the code meets them: `plain` is the one that stands for the sort
@@ -173,5 +176,5 @@ unfolding entriesIn
 entries-most kind v = either (λ n. n ≤ v + 1) (eqb (sortAt kind manyPlace) less) (omega arith) (omega arith)
 
 -- the bits of the most entries that there can be are not too many
-pub entries-fit : (kind n : ℕ) → kind < kinds → n ≤ mostEntries → n * getD entryBits kind 0 ≤ 11264
+pub entries-fit : (kind n : ℕ) → kind < kinds → n ≤ mostEntries → n * getD entryBits kind 0 ≤ mostEntries * mostColumn
 entries-fit kind n h l = mul-le-mul l (columns-small kind h .1)

@@ -14,7 +14,7 @@ use Rattle.ranges.specs.Tests.{by-equal, by-test, both-left, both-right}
 use Rattle.ranges.specs.Sum.{sumBelow, sum-more}
 use Rattle.formats.specs.declared.state.State.{State}
 use Rattle.formats.specs.Grammar.{Grammar, good, size, frame}
-use Rattle.formats.specs.Table.{manyPlace, entryPlace, numberPlace, kinds, headerBits, mostEntries, sortAt, bitsOf, mostOf, entriesIn, entriesSaid, bodyBits, entryBits, frameLength}
+use Rattle.formats.specs.Table.{manyPlace, entryPlace, ownerPlace, numberPlace, entryFields, kinds, headerBits, mostEntries, sortAt, bitsOf, mostOf, entriesIn, entriesSaid, valuesFor, bodyBits, entryBits, frameLength}
 use Rattle.formats.specs.TableLaws.{row-right, bitsFrom, few-entries, entries-most}
 use Rattle.formats.specs.Format.{sortOf, widthOf, allowed, nextOf, start, format}
 use Rattle.formats.specs.FormatLaws.{Rowed, rowed-start, rest, rest-start, rest-one, rest-end, next-place, next-left, next-kind, place-last, place-inner, left-entries, left-one-less, at-most}
@@ -28,13 +28,13 @@ stateAt vs (suc i) = nextOf (stateAt vs i) (getD vs i 0)
 
 -- the place of value i in the table
 unfoldable pub placeAt : ℕ → ℕ
-placeAt i = cond (ltb i entryPlace) i (entryPlace + (i - entryPlace) % 3)
+placeAt i = cond (ltb i entryPlace) i (entryPlace + (i - entryPlace) % entryFields)
 
 pub place-early : (i : ℕ) → i < entryPlace → placeAt i ≡ i
 unfolding placeAt
 place-early i h = rw (lt-ltb i entryPlace h)
 
-pub place-late : (i : ℕ) → entryPlace ≤ i → placeAt i ≡ entryPlace + (i - entryPlace) % 3
+pub place-late : (i : ℕ) → entryPlace ≤ i → placeAt i ≡ entryPlace + (i - entryPlace) % entryFields
 unfolding placeAt
 place-late i h = rw (le-ltb i entryPlace h)
 
@@ -52,8 +52,8 @@ module _ (vs : List ℕ) where
       ∙ by-equal i manyPlace (λ e. omega (arith, place-late (suc i) (omega arith))) (λ d. omega (arith, place-early (suc i) (omega arith))))
       (λ b.
       let h = ltb-false _ _ b in
-      let q : placeAt i ≡ entryPlace + (i - entryPlace) % 3 = place-late i h in
-      let r : placeAt (suc i) ≡ entryPlace + (suc i - entryPlace) % 3 = place-late (suc i) (omega arith) in
+      let q : placeAt i ≡ entryPlace + (i - entryPlace) % entryFields = place-late i h in
+      let r : placeAt (suc i) ≡ entryPlace + (suc i - entryPlace) % entryFields = place-late (suc i) (omega arith) in
       by-equal (placeAt i) numberPlace
       (λ e. next-place _ _ ∙ place-last _ (p ∙ e) ∙ omega arith)
       (λ d. next-place _ _ ∙ place-inner _ (λ e. d (sym p ∙ e)) ∙ omega arith))
@@ -77,7 +77,7 @@ module _ (vs : List ℕ) where
   left-first (suc i) h =
       next-left _ _ ∙ sym (left-one-less _ _ (λ e. omega (arith, walk-place i ∙ place-early i (omega arith)))) ∙ omega (arith, left-first i (omega arith))
 
-  pub walk-left : (i : ℕ) → entryPlace ≤ i → (stateAt vs i) .left ≡ 3 * entriesSaid vs - (i - entryPlace)
+  pub walk-left : (i : ℕ) → entryPlace ≤ i → (stateAt vs i) .left ≡ entryFields * entriesSaid vs - (i - entryPlace)
   unfolding stateAt
   walk-left zero h = let z : ⊥ = omega arith in absurd z
   walk-left (suc i) h =
@@ -123,14 +123,14 @@ module _ (vs : List ℕ) (g : good format vs ≡ true) where
       (λ d. absurd (true≢false (sym (tested-short vs (length vs) (stateAt vs (length vs)) c (omega arith) (omega arith) ∙ g))))
 
   -- eight values, and three for each entry
-  pub values-length : length vs ≡ entryPlace + 3 * entriesSaid vs
+  pub values-length : length vs ≡ valuesFor (entriesSaid vs)
   values-length =
-      let n = entryPlace + 3 * entriesSaid vs in
+      let n = valuesFor (entriesSaid vs) in
       by-test (ltb (length vs) entryPlace)
       (λ b. let h : length vs < entryPlace = ltb-true _ _ b in let z : ⊥ = omega (arith, none-left, left-first vs (length vs) h) in absurd z)
       (λ b.
       let h : entryPlace ≤ length vs = ltb-false _ _ b in
-      let l : (stateAt vs (length vs)) .left ≡ 3 * entriesSaid vs - (length vs - entryPlace) = walk-left vs (length vs) h in
+      let l : (stateAt vs (length vs)) .left ≡ entryFields * entriesSaid vs - (length vs - entryPlace) = walk-left vs (length vs) h in
       by-test (ltb n (length vs))
       (λ t.
       let k : n < length vs = ltb-true _ _ t in
@@ -204,28 +204,28 @@ module _ (vs : List ℕ) (g : good format vs ≡ true) where
         w manyPlace (omega arith) (omega arith),
       )
 
-  entry-bits : (m : ℕ) → sumBelow (λ j. widthOf (stateAt vs j)) (entryPlace + 3 * m) ≡ sumBelow (λ j. widthOf (stateAt vs j)) entryPlace + m * bitsFrom (getD vs 0 0) entryPlace 3
+  entry-bits : (m : ℕ) → sumBelow (λ j. widthOf (stateAt vs j)) (valuesFor m) ≡ sumBelow (λ j. widthOf (stateAt vs j)) entryPlace + m * bitsFrom (getD vs 0 0) entryPlace entryFields
   unfolding bitsFrom
   entry-bits zero = omega arith
   entry-bits (suc m) =
       let f : ℕ → ℕ = λ j. widthOf (stateAt vs j) in
-      let k = entryPlace + 3 * m in
+      let k = valuesFor m in
       let kind = getD vs 0 0 in
-      let q : entryPlace + 3 * suc m ≡ k + 1 + 1 + 1 = omega arith in
+      let q : valuesFor (suc m) ≡ k + 1 + 1 + 1 = omega arith in
       let n₀ : sumBelow f (k + 1) ≡ sumBelow f k + f k = sum-more f k in
       let n₁ : sumBelow f (k + 1 + 1) ≡ sumBelow f (k + 1) + f (k + 1) = sum-more f (k + 1) in
       let n₂ : sumBelow f (k + 1 + 1 + 1) ≡ sumBelow f (k + 1 + 1) + f (k + 1 + 1) = sum-more f (k + 1 + 1) in
       let w₀ : f k ≡ bitsOf (sortAt kind entryPlace) = width-at k entryPlace (omega arith) (place-late k (omega arith) ∙ omega arith) in
-      let w₁ : f (k + 1) ≡ bitsOf (sortAt kind 9) = width-at (k + 1) 9 (omega arith) (place-late (k + 1) (omega arith) ∙ omega arith) in
+      let w₁ : f (k + 1) ≡ bitsOf (sortAt kind ownerPlace) = width-at (k + 1) ownerPlace (omega arith) (place-late (k + 1) (omega arith) ∙ omega arith) in
       let w₂ : f (k + 1 + 1) ≡ bitsOf (sortAt kind numberPlace) = width-at (k + 1 + 1) numberPlace (omega arith) (place-late (k + 1 + 1) (omega arith) ∙ omega arith) in
-      ap (sumBelow f) q ∙ rw (suc-mul m (bitsFrom kind entryPlace 3)) (omega (arith, entry-bits m))
+      ap (sumBelow f) q ∙ rw (suc-mul m (bitsFrom kind entryPlace entryFields)) (omega (arith, entry-bits m))
 
   -- the bits of a frame: 13 of the header, the fixed body's, and each entry's
   pub frame-bits : size format vs ≡ headerBits + getD bodyBits (getD vs 0 0) 0 + entriesSaid vs * getD entryBits (getD vs 0 0) 0
   frame-bits =
       let f : ℕ → ℕ = λ j. widthOf (stateAt vs j) in
-      let e : sumBelow f (entryPlace + 3 * entriesSaid vs) ≡ size format vs = ap (sumBelow f) (sym values-length) ∙ total in
-      let b : entriesSaid vs * bitsFrom (getD vs 0 0) entryPlace 3 ≡ entriesSaid vs * getD entryBits (getD vs 0 0) 0 = ap (λ (n : ℕ). entriesSaid vs * n) (row-right (getD vs 0 0) kind-below .entry) in
+      let e : sumBelow f (valuesFor (entriesSaid vs)) ≡ size format vs = ap (sumBelow f) (sym values-length) ∙ total in
+      let b : entriesSaid vs * bitsFrom (getD vs 0 0) entryPlace entryFields ≡ entriesSaid vs * getD entryBits (getD vs 0 0) 0 = ap (λ (n : ℕ). entriesSaid vs * n) (row-right (getD vs 0 0) kind-below .entry) in
       omega (arith, entry-bits (entriesSaid vs), fixed-bits)
 
   -- so that the table tells its length

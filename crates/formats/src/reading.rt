@@ -60,8 +60,8 @@ fn finish(bytes: &[u8], at: usize) -> u8
     11
 }
 
-// As many values as a frame can have: those of 256 entries.
-pub const MOST_VALUES: usize = 776;
+// As many values as a frame can have: those of the most entries.
+pub const MOST_VALUES: usize = table::FIXED_FIELDS + table::ENTRY_FIELDS * table::MOST_ENTRIES;
 
 // What reading found: the number that refuses the bytes, or 0 and how many values there are.
 pub struct Scan {

@@ -31,7 +31,7 @@ pub fn first() -> State
         kind: 0,
         client: 0,
         before: 0,
-        left: table::ENTRY,
+        left: table::FIXED_FIELDS,
         place: 0,
     }
 }
@@ -65,7 +65,7 @@ fn left_after(sort: u8, state: State, value: u32) -> usize
     ensures { λ r. ⌜ r ≡ leftAfter state value ⌝ }
 {
     if state.place == table::MANY {
-        return 3 * table::entries_in(sort, value);
+        return table::ENTRY_FIELDS * table::entries_in(sort, value);
     }
     state.left - 1
 }

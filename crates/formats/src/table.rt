@@ -41,14 +41,21 @@ const KEYS: u8 = 13; // how many keys
 const LESS: u8 = 14; // how many entries, less 1
 
 // How the table is laid out: these numbers stand here only. A row's places, from 0: the field that says how many entries there are,
-// an entry's first field, its last, which is its setpoint or mask, and how many places a row has.
+// an entry's first field, which is its key's count, its key's client, and its last, which is its setpoint or mask; and how many places a row has.
 pub const MANY: usize = 7;
 
 pub const ENTRY: usize = 8;
 
+pub const OWNER: usize = 9;
+
 pub const NUMBER: usize = 10;
 
 pub const PLACES: usize = 11;
+
+// How many fields the header and the fixed body have together, and an entry.
+pub const FIXED_FIELDS: usize = ENTRY;
+
+pub const ENTRY_FIELDS: usize = 3;
 
 // How many kinds there are, with 0, and the bits of the header.
 const KINDS: usize = 13;

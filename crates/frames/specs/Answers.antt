@@ -11,7 +11,7 @@ use borrow.Author.Tests.{lt-ltb, le-ltb, lt-leb, le-leb, ltb-true, ltb-false, eq
 use Rattle.ranges.specs.Tests.{by-test, both-right}
 use Rattle.formats.specs.declared.writing.Wrote.{Wrote}
 use Rattle.formats.specs.Grammar.{Outcome, got, fault, good, frame}
-use Rattle.formats.specs.Table.{mostEntries, entriesSaid, hasNumbers}
+use Rattle.formats.specs.Table.{mostEntries, entriesSaid, hasNumbers, entryPlace, ownerPlace, fixedFields, entryFields, valuesFor}
 use Rattle.formats.specs.Format.{format}
 use Rattle.formats.specs.Reading.{outcome}
 use Rattle.formats.specs.Writing.{wroteOf, bytesAfter}
@@ -31,32 +31,32 @@ use Rattle.frames.specs.RoundTrip.{fixed-length, said, Places, are-enoug
 
 -- value i of a message whose fixed values these are
 abbrev pub valueBy : List ℕ → Bool → List ℕ → List ℕ → ℕ → ℕ
-valueBy fixed numbered keys numbers i = cond (ltb i 8) (getD fixed i 0) (entryValue numbered keys numbers (i - 8))
+valueBy fixed numbered keys numbers i = cond (ltb i fixedFields) (getD fixed i 0) (entryValue numbered keys numbers (i - fixedFields))
 
 abbrev pub writtenBy : Wrote → Written
 writtenBy w = cond (eqb (w .fault) 0) (Length (w .length)) (Refused (w .fault))
 
 -- What the functions ask: that a value is there; that all up to a count are; that the entries are and fit; that the values of all entries are there, and their keys fit.
 pub record Reaches (fixed : List ℕ) (numbered : Bool) (keys numbers : List ℕ) (i : ℕ) : Type 0 where
-  pub eight : length fixed ≡ 8
-  pub key : 8 ≤ i → (i - 8) / 3 < length keys
-  pub number : 8 ≤ i → numbered ≡ true → (i - 8) / 3 < length numbers
+  pub eight : length fixed ≡ fixedFields
+  pub key : fixedFields ≤ i → (i - fixedFields) / entryFields < length keys
+  pub number : fixedFields ≤ i → numbered ≡ true → (i - fixedFields) / entryFields < length numbers
 
 pub record Room (fixed keys numbers : List ℕ) (count : ℕ) : Type 0 where
-  pub eight : length fixed ≡ 8
-  pub for-keys : count ≤ 8 + 3 * length keys
-  pub for-numbers : hasNumbers (getD fixed 0 0) ≡ true → count ≤ 8 + 3 * length numbers
+  pub eight : length fixed ≡ fixedFields
+  pub for-keys : count ≤ valuesFor (length keys)
+  pub for-numbers : hasNumbers (getD fixed 0 0) ≡ true → count ≤ valuesFor (length numbers)
 
 pub record Packable (fixed keys numbers : List ℕ) (entries : ℕ) : Type 0 where
-  pub eight : length fixed ≡ 8
+  pub eight : length fixed ≡ fixedFields
   pub few : entries ≤ mostEntries
   pub places : Places (getD fixed 0 0) entries (length keys) (length numbers)
 
 pub record Stored (values : List ℕ) (entries : ℕ) : Type 0 where
   pub few : entries ≤ mostEntries
-  pub long : length values ≡ 8 + 3 * entries
-  pub count : (i : ℕ) → i < entries → getD values (8 + 3 * i) 0 < 256
-  pub client : (i : ℕ) → i < entries → getD values (9 + 3 * i) 0 < 256
+  pub long : length values ≡ valuesFor entries
+  pub count : (i : ℕ) → i < entries → getD values (entryPlace + entryFields * i) 0 < 256
+  pub client : (i : ℕ) → i < entries → getD values (ownerPlace + entryFields * i) 0 < 256
 
 -- ---- the cases, as the code meets them
 
@@ -80,39 +80,39 @@ enough-none kind keys numbers = rw (le-leb 0 keys (omega arith), le-leb 0 number
     go false = refl
 
 module _ (numbered : Bool) (keys numbers : List ℕ) (j : ℕ) where
-  pub part-count : j % 3 ≡ 0 → getD keys (j / 3) 0 / 256 ≡ entryValue numbered keys numbers j
+  pub part-count : j % entryFields ≡ 0 → getD keys (j / entryFields) 0 / 256 ≡ entryValue numbered keys numbers j
   unfolding entryValue
   part-count e = rw e
 
-  pub part-client : j % 3 ≡ 1 → getD keys (j / 3) 0 % 256 ≡ entryValue numbered keys numbers j
+  pub part-client : j % entryFields ≡ 1 → getD keys (j / entryFields) 0 % 256 ≡ entryValue numbered keys numbers j
   unfolding entryValue
   part-client e = rw e
 
-  module _ (c : j % 3 ≡ 0 → ⊥) (p : j % 3 ≡ 1 → ⊥) where
-    pub part-number : numbered ≡ true → getD numbers (j / 3) 0 ≡ entryValue numbered keys numbers j
+  module _ (c : j % entryFields ≡ 0 → ⊥) (p : j % entryFields ≡ 1 → ⊥) where
+    pub part-number : numbered ≡ true → getD numbers (j / entryFields) 0 ≡ entryValue numbered keys numbers j
     unfolding entryValue
-    part-number e = rw (ne-eqb (j % 3) 0 c, ne-eqb (j % 3) 1 p, e)
+    part-number e = rw (ne-eqb (j % entryFields) 0 c, ne-eqb (j % entryFields) 1 p, e)
 
     pub part-none : numbered ≡ false → 0 ≡ entryValue numbered keys numbers j
     unfolding entryValue
-    part-none e = rw (ne-eqb (j % 3) 0 c, ne-eqb (j % 3) 1 p, e)
+    part-none e = rw (ne-eqb (j % entryFields) 0 c, ne-eqb (j % entryFields) 1 p, e)
 
 module _ (fixed : List ℕ) (numbered : Bool) (keys numbers : List ℕ) (i : ℕ) where
-  pub value-fixed : i < 8 → getD fixed i 0 ≡ valueBy fixed numbered keys numbers i
-  value-fixed h = rw (lt-ltb i 8 h)
+  pub value-fixed : i < fixedFields → getD fixed i 0 ≡ valueBy fixed numbered keys numbers i
+  value-fixed h = rw (lt-ltb i fixedFields h)
 
-  pub value-entry : 8 ≤ i → {v : ℕ} → v ≡ entryValue numbered keys numbers (i - 8) → v ≡ valueBy fixed numbered keys numbers i
-  value-entry h e = rw (le-ltb i 8 h) e
+  pub value-entry : fixedFields ≤ i → {v : ℕ} → v ≡ entryValue numbered keys numbers (i - fixedFields) → v ≡ valueBy fixed numbered keys numbers i
+  value-entry h e = rw (le-ltb i fixedFields h) e
 
 -- the values, place by place
-pub values-by : (fixed keys numbers : List ℕ) (entries : ℕ) → length fixed ≡ 8 → built (valueBy fixed (hasNumbers (getD fixed 0 0)) keys numbers) (8 + 3 * entries) ≡ valuesBy fixed keys numbers entries
+pub values-by : (fixed keys numbers : List ℕ) (entries : ℕ) → length fixed ≡ fixedFields → built (valueBy fixed (hasNumbers (getD fixed 0 0)) keys numbers) (valuesFor entries) ≡ valuesBy fixed keys numbers entries
 values-by fixed keys numbers entries l =
-    ext-getD 0 (built v (8 + 3 * entries)) (fixed ++ built e (3 * entries)) (built-length v (8 + 3 * entries) ∙ omega (arith, length-append fixed (built e (3 * entries)), built-length e (3 * entries)))
+    ext-getD 0 (built v (valuesFor entries)) (fixed ++ built e (entryFields * entries)) (built-length v (valuesFor entries) ∙ omega (arith, length-append fixed (built e (entryFields * entries)), built-length e (entryFields * entries)))
     (λ i h.
-    let k : i < 8 + 3 * entries = omega (arith, built-length v (8 + 3 * entries)) in
-    built-at v (8 + 3 * entries) i k
-    ∙ by-test (ltb i 8)
-    (λ b. rw b (sym (List·getD-append fixed (built e (3 * entries)) 0 i (omega (arith, ltb-true i 8 b)))))
+    let k : i < valuesFor entries = omega (arith, built-length v (valuesFor entries)) in
+    built-at v (valuesFor entries) i k
+    ∙ by-test (ltb i fixedFields)
+    (λ b. rw b (sym (List·getD-append fixed (built e (entryFields * entries)) 0 i (omega (arith, ltb-true i fixedFields b)))))
     (λ b. rw b (sym (late i (ltb-false _ _ b) k))))
   where
     e : ℕ → ℕ
@@ -121,10 +121,10 @@ values-by fixed keys numbers entries l =
     v : ℕ → ℕ
     v = valueBy fixed (hasNumbers (getD fixed 0 0)) keys numbers
 
-    late : (i : ℕ) → 8 ≤ i → i < 8 + 3 * entries → getD (fixed ++ built e (3 * entries)) i 0 ≡ e (i - 8)
+    late : (i : ℕ) → fixedFields ≤ i → i < valuesFor entries → getD (fixed ++ built e (entryFields * entries)) i 0 ≡ e (i - fixedFields)
     late i h k =
-        let q : i ≡ length fixed + (i - 8) = omega arith in
-        ap (λ (n : ℕ). getD (fixed ++ built e (3 * entries)) n 0) q ∙ getD-append-add fixed (built e (3 * entries)) (i - 8) 0 ∙ built-at e (3 * entries) (i - 8) (omega arith)
+        let q : i ≡ length fixed + (i - fixedFields) = omega arith in
+        ap (λ (n : ℕ). getD (fixed ++ built e (entryFields * entries)) n 0) q ∙ getD-append-add fixed (built e (entryFields * entries)) (i - fixedFields) 0 ∙ built-at e (entryFields * entries) (i - fixedFields) (omega arith)
 
 -- ---- the writer's answer
 
@@ -254,9 +254,9 @@ module _ (m : Message) (keys numbers : List ℕ) {fixed : List ℕ} {n : ℕ} (e
       record { eight = ap length ef ∙ fixed-length m; few = h; places = are-enough (getD fixed 0 0) n (length keys) (length numbers) e }
 
 -- the front of a row that was packed
-pub packed-front : (fixed keys numbers row : List ℕ) (n : ℕ) {front : List ℕ} → length fixed ≡ 8 → 8 + 3 * n ≤ length row → front ≡ built (valueBy fixed (hasNumbers (getD fixed 0 0)) keys numbers) (length (take (8 + 3 * n) row)) → take (8 + 3 * n) (front ++ drop (8 + 3 * n) row) ≡ valuesBy fixed keys numbers n
+pub packed-front : (fixed keys numbers row : List ℕ) (n : ℕ) {front : List ℕ} → length fixed ≡ fixedFields → valuesFor n ≤ length row → front ≡ built (valueBy fixed (hasNumbers (getD fixed 0 0)) keys numbers) (length (take (valuesFor n) row)) → take (valuesFor n) (front ++ drop (valuesFor n) row) ≡ valuesBy fixed keys numbers n
 packed-front fixed keys numbers row n {front} l h e =
     let f = valueBy fixed (hasNumbers (getD fixed 0 0)) keys numbers in
-    let k = length-take-le (8 + 3 * n) row h in
-    let q : front ≡ built f (8 + 3 * n) = e ∙ ap (built f) k in
-    take-at front (drop (8 + 3 * n) row) (8 + 3 * n) (ap length q ∙ built-length f (8 + 3 * n)) ∙ q ∙ values-by fixed keys numbers n l
+    let k = length-take-le (valuesFor n) row h in
+    let q : front ≡ built f (valuesFor n) = e ∙ ap (built f) k in
+    take-at front (drop (valuesFor n) row) (valuesFor n) (ap length q ∙ built-length f (valuesFor n)) ∙ q ∙ values-by fixed keys numbers n l

@@ -4,30 +4,30 @@ use mathlib.Core.List.{List, _++_}
 use mathlib.Core.Bool.{Bool, cond}
 use lib.Dec.{eqb}
 use lib.ListN.{getD}
-use Rattle.formats.specs.Table.{hasNumbers}
+use Rattle.formats.specs.Table.{hasNumbers, entryPlace, ownerPlace, numberPlace, entryFields}
 use Rattle.frames.specs.declared.Message.{Message}
 use Rattle.ranges.specs.Laid.{built}
 use Rattle.frames.specs.Messages.{entriesOf, fixedOf}
 
 -- of entry i among a frame's values: its key as a number, as `keyWord` has it, and its setpoint or mask
 abbrev pub keyIn : List ℕ → ℕ → ℕ
-keyIn vs i = getD vs (8 + 3 * i) 0 * 256 + getD vs (9 + 3 * i) 0
+keyIn vs i = getD vs (entryPlace + entryFields * i) 0 * 256 + getD vs (ownerPlace + entryFields * i) 0
 
 abbrev pub numberIn : List ℕ → ℕ → ℕ
-numberIn vs i = getD vs (10 + 3 * i) 0
+numberIn vs i = getD vs (numberPlace + entryFields * i) 0
 
 -- value j of the entries: count, client, and setpoint or mask, or 0 where the kind's entries have none
 unfoldable pub entryValue : Bool → List ℕ → List ℕ → ℕ → ℕ
 entryValue numbered keys numbers j =
-    cond (eqb (j % 3) 0) (getD keys (j / 3) 0 / 256)
-    (cond (eqb (j % 3) 1) (getD keys (j / 3) 0 % 256) (cond numbered (getD numbers (j / 3) 0) 0))
+    cond (eqb (j % entryFields) 0) (getD keys (j / entryFields) 0 / 256)
+    (cond (eqb (j % entryFields) 1) (getD keys (j / entryFields) 0 % 256) (cond numbered (getD numbers (j / entryFields) 0) 0))
 
 abbrev pub kindOf : Message → ℕ
 kindOf m = getD (fixedOf m) 0 0
 
 -- the fixed values, which begin with the kind, and those of so many entries behind them
 abbrev pub valuesBy : List ℕ → List ℕ → List ℕ → ℕ → List ℕ
-valuesBy fixed keys numbers entries = fixed ++ built (entryValue (hasNumbers (getD fixed 0 0)) keys numbers) (3 * entries)
+valuesBy fixed keys numbers entries = fixed ++ built (entryValue (hasNumbers (getD fixed 0 0)) keys numbers) (entryFields * entries)
 
 -- the values of a message with its entries
 unfoldable pub valuesOf : Message → List ℕ → List ℕ → List ℕ

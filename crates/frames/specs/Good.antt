@@ -13,7 +13,7 @@ use borrow.Author.Tests.{leb-true, eq-eqb, ne-eqb, not-false}
 use Rattle.ranges.specs.Tests.{by-equal}
 use Rattle.ranges.specs.All.{allBelow, all-at}
 use Rattle.formats.specs.Grammar.{good}
-use Rattle.formats.specs.Table.{none, coord, sortAt, bitsOf, leastOf, mostOf, entriesIn, entriesSaid, hasNumbers}
+use Rattle.formats.specs.Table.{none, coord, sortAt, bitsOf, leastOf, mostOf, entriesIn, entriesSaid, hasNumbers, entryPlace, ownerPlace, numberPlace, manyPlace, rowPlaces, kinds, fixedFields, entryFields}
 use Rattle.formats.specs.Format.{sortOf, widthOf, format}
 use Rattle.formats.specs.FormatLaws.{at-most, at-least}
 use Rattle.formats.specs.Walk.{stateAt, placeAt, place-early, place-late, walk-place, walk-kind, values-length, entries-few, value-fits, value-allowed, value-width, kind-below}
@@ -24,20 +24,20 @@ use Rattle.frames.specs.Entries.{kindOf}
 
 -- only the places of setpoints and masks are wider than a byte
 wide : ℕ → Bool
-wide place = eqb place 6 || eqb place 10
+wide place = eqb place 6 || eqb place numberPlace
 
-narrow-place : (kind place : ℕ) → kind < 13 → place < 11 → wide place ≡ false → bitsOf (sortAt kind place) ≤ 8
+narrow-place : (kind place : ℕ) → kind < kinds → place < rowPlaces → wide place ≡ false → bitsOf (sortAt kind place) ≤ 8
 unfolding allBelow sortAt bitsOf wide
 narrow-place kind place h l e =
     leb-true _ _
-    (rw e at (all-at (λ p. wide p || leb (bitsOf (sortAt kind p)) 8) 11 (all-at (λ k. allBelow (λ p. wide p || leb (bitsOf (sortAt k p)) 8) 11) 13 refl kind h) place l))
+    (rw e at (all-at (λ p. wide p || leb (bitsOf (sortAt kind p)) 8) rowPlaces (all-at (λ k. allBelow (λ p. wide p || leb (bitsOf (sortAt k p)) 8) rowPlaces) kinds refl kind h) place l))
 
 -- what a field holds where it can hold one value only: none 0, and the coordinator's target 16
 unfoldable pub settled : ℕ → ℕ → ℕ
 settled sort v = cond (eqb sort none) 0 (cond (eqb sort coord) 16 v)
 
 module _ (vs : List ℕ) (g : good format vs ≡ true) where
-  long : 8 ≤ length vs
+  long : fixedFields ≤ length vs
   long = omega (arith, values-length vs g)
 
   -- the table's place of value i, i not the first
@@ -45,7 +45,7 @@ module _ (vs : List ℕ) (g : good format vs ≡ true) where
     at-sort : sortOf (stateAt vs i) ≡ sortAt (getD vs 0 0) (placeAt i)
     at-sort = ap₂ sortAt (walk-kind vs i some) (walk-place vs i)
 
-    byte-at : placeAt i < 11 → wide (placeAt i) ≡ false → getD vs i 0 < 256
+    byte-at : placeAt i < rowPlaces → wide (placeAt i) ≡ false → getD vs i 0 < 256
     byte-at l e =
         lt-of-lt-of-le (value-fits vs g i h) (pow-mono (let b : widthOf (stateAt vs i) ≤ 8 = omega (arith, value-width vs g i some, narrow-place (getD vs 0 0) (placeAt i) (kind-below vs g) l e) in b))
 
@@ -66,7 +66,7 @@ module _ (vs : List ℕ) (g : good format vs ≡ true) where
         (λ f. rw (ne-eqb s none d, ne-eqb s coord f)))
 
   -- the fixed values
-  fixed-byte : (i : ℕ) → i < 8 → wide i ≡ false → getD vs i 0 < 256
+  fixed-byte : (i : ℕ) → i < fixedFields → wide i ≡ false → getD vs i 0 < 256
   unfolding wide
   fixed-byte i l e =
       by-equal i 0
@@ -88,7 +88,7 @@ module _ (vs : List ℕ) (g : good format vs ≡ true) where
         few = entries-few vs g;
       }
 
-  fixed-settled : (i : ℕ) → 0 < i → i < 8 → getD vs i 0 ≡ settled (sortAt (getD vs 0 0) i) (getD vs i 0)
+  fixed-settled : (i : ℕ) → 0 < i → i < fixedFields → getD vs i 0 ≡ settled (sortAt (getD vs 0 0) i) (getD vs i 0)
   fixed-settled i some l =
       is-settled i some (omega (arith, long)) ∙ ap (λ (p : ℕ). settled (sortAt (getD vs 0 0) p) (getD vs i 0)) (place-early i l)
 
@@ -104,13 +104,13 @@ settledFixed k f v =
     ∷ settled (sortAt k 4) (f .key .count)
     ∷ settled (sortAt k 5) (f .key .client)
     ∷ settled (sortAt k 6) (f .number)
-    ∷ settled (sortAt k 7) v
+    ∷ settled (sortAt k manyPlace) v
     ∷ []
 
 -- what is so of each kind
 record Kind (k : ℕ) : Type 0 where
   back : (f : Fixed) (v : ℕ) → f .entries ≡ entriesIn k v → fixedOf (messageAt k f) ≡ settledFixed k f v
-  said : (f : Fixed) (v : ℕ) → f .entries ≡ entriesIn k v → entriesOf (messageAt k f) ≡ entriesIn k (settled (sortAt k 7) v)
+  said : (f : Fixed) (v : ℕ) → f .entries ≡ entriesIn k v → entriesOf (messageAt k f) ≡ entriesIn k (settled (sortAt k manyPlace) v)
 
 -- a number from 1 to 12 is one of them
 by-kind : (P : ℕ → Type 0) → P 1 → P 2 → P 3 → P 4 → P 5 → P 6 → P 7 → P 8 → P 9 → P 10 → P 11 → P 12 → (k : ℕ) → 0 < k → k < 13 → P k
@@ -129,7 +129,7 @@ by-kind P a b c d e f g h i j k l (suc (suc (suc (suc (suc (suc (suc (suc (suc (
 by-kind P a b c d e f g h i j k l (suc (suc (suc (suc (suc (suc (suc (suc (suc (suc (suc (suc zero)))))))))))) x y = l
 by-kind P a b c d e f g h i j k l (suc (suc (suc (suc (suc (suc (suc (suc (suc (suc (suc (suc (suc n))))))))))))) x y = let z : ⊥ = omega arith in absurd z
 
-each-kind : (k : ℕ) → 0 < k → k < 13 → Kind k
+each-kind : (k : ℕ) → 0 < k → k < kinds → Kind k
 unfolding messageAt settledFixed settled sortAt entriesIn
 each-kind =
     by-kind Kind
@@ -154,10 +154,10 @@ module _ (vs : List ℕ) (g : good format vs ≡ true) where
   its-kind : Kind (getD vs 0 0)
   its-kind = each-kind (getD vs 0 0) kind-some (kind-below vs g)
 
-  first-eight : settledFixed (getD vs 0 0) (fixedAt vs) (getD vs 7 0) ≡ take 8 vs
+  first-eight : settledFixed (getD vs 0 0) (fixedAt vs) (getD vs manyPlace 0) ≡ take fixedFields vs
   unfolding settledFixed built
   first-eight =
-      let e : (i : ℕ) → 0 < i → i < 8 → settled (sortAt (getD vs 0 0) i) (getD vs i 0) ≡ getD vs i 0 = λ i p q. sym (fixed-settled vs g i p q) in
+      let e : (i : ℕ) → 0 < i → i < fixedFields → settled (sortAt (getD vs 0 0) i) (getD vs i 0) ≡ getD vs i 0 = λ i p q. sym (fixed-settled vs g i p q) in
       (λ j.
       getD vs 0 0
       ∷ e 1 (omega arith) (omega arith) j
@@ -168,39 +168,39 @@ module _ (vs : List ℕ) (g : good format vs ≡ true) where
       ∷ e 6 (omega arith) (omega arith) j
       ∷ e 7 (omega arith) (omega arith) j
       ∷ [])
-      ∙ built-take vs 8 (long vs g)
+      ∙ built-take vs fixedFields (long vs g)
 
   -- the message of a frame's values has those values
-  pub fixed-back : fixedOf (messageOf vs) ≡ take 8 vs
+  pub fixed-back : fixedOf (messageOf vs) ≡ take fixedFields vs
   unfolding messageOf
-  fixed-back = its-kind .back (fixedAt vs) (getD vs 7 0) refl ∙ first-eight
+  fixed-back = its-kind .back (fixedAt vs) (getD vs manyPlace 0) refl ∙ first-eight
 
   pub entries-back : entriesOf (messageOf vs) ≡ entriesSaid vs
   unfolding messageOf
-  entries-back = its-kind .said (fixedAt vs) (getD vs 7 0) refl ∙ ap (entriesIn (getD vs 0 0)) (sym (fixed-settled vs g 7 (omega arith) (omega arith)))
+  entries-back = its-kind .said (fixedAt vs) (getD vs manyPlace 0) refl ∙ ap (entriesIn (getD vs 0 0)) (sym (fixed-settled vs g manyPlace (omega arith) (omega arith)))
 
   pub kind-back : kindOf (messageOf vs) ≡ getD vs 0 0
-  kind-back = ap (λ (l : List ℕ). getD l 0 0) fixed-back ∙ getD-take 8 vs 0 0 (omega arith)
+  kind-back = ap (λ (l : List ℕ). getD l 0 0) fixed-back ∙ getD-take fixedFields vs 0 0 (omega arith)
 
   -- the values of entry i
   module _ (i : ℕ) (h : i < entriesSaid vs) where
-    entry-inside : (d : ℕ) → d < 3 → 8 + d + 3 * i < length vs
+    entry-inside : (d : ℕ) → d < entryFields → entryPlace + d + entryFields * i < length vs
     entry-inside d l = omega (arith, values-length vs g)
 
-    entry-place : (d : ℕ) → d < 3 → placeAt (8 + d + 3 * i) ≡ 8 + d
-    entry-place d l = place-late (8 + d + 3 * i) (omega arith) ∙ omega arith
+    entry-place : (d : ℕ) → d < entryFields → placeAt (entryPlace + d + entryFields * i) ≡ entryPlace + d
+    entry-place d l = place-late (entryPlace + d + entryFields * i) (omega arith) ∙ omega arith
 
-    pub count-byte : getD vs (8 + 3 * i) 0 < 256
+    pub count-byte : getD vs (entryPlace + entryFields * i) 0 < 256
     unfolding wide
-    count-byte = byte-at vs g (8 + 3 * i) (omega arith) (entry-inside 0 (omega arith)) (omega (arith, entry-place 0 (omega arith))) (ap wide (entry-place 0 (omega arith)))
+    count-byte = byte-at vs g (entryPlace + entryFields * i) (omega arith) (entry-inside 0 (omega arith)) (omega (arith, entry-place 0 (omega arith))) (ap wide (entry-place 0 (omega arith)))
 
-    pub client-byte : getD vs (9 + 3 * i) 0 < 256
+    pub client-byte : getD vs (ownerPlace + entryFields * i) 0 < 256
     unfolding wide
-    client-byte = byte-at vs g (9 + 3 * i) (omega arith) (entry-inside 1 (omega arith)) (omega (arith, entry-place 1 (omega arith))) (ap wide (entry-place 1 (omega arith)))
+    client-byte = byte-at vs g (ownerPlace + entryFields * i) (omega arith) (entry-inside 1 (omega arith)) (omega (arith, entry-place 1 (omega arith))) (ap wide (entry-place 1 (omega arith)))
 
-    pub no-number : hasNumbers (getD vs 0 0) ≡ false → getD vs (10 + 3 * i) 0 ≡ 0
+    pub no-number : hasNumbers (getD vs 0 0) ≡ false → getD vs (numberPlace + entryFields * i) 0 ≡ 0
     unfolding hasNumbers settled
     no-number e =
-        is-settled vs g (10 + 3 * i) (omega arith) (entry-inside 2 (omega arith))
-        ∙ ap (λ (p : ℕ). settled (sortAt (getD vs 0 0) p) (getD vs (10 + 3 * i) 0)) (entry-place 2 (omega arith))
-        ∙ rw (not-false (eqb (sortAt (getD vs 0 0) 10) none) e)
+        is-settled vs g (numberPlace + entryFields * i) (omega arith) (entry-inside 2 (omega arith))
+        ∙ ap (λ (p : ℕ). settled (sortAt (getD vs 0 0) p) (getD vs (numberPlace + entryFields * i) 0)) (entry-place 2 (omega arith))
+        ∙ rw (not-false (eqb (sortAt (getD vs 0 0) numberPlace) none) e)

@@ -1,12 +1,12 @@
 -- What a message is as a row of values, and a row of values as a message.
-use Prim.Native.Nat.{ℕ, _+_, _-_, _*_, _≤_, _<_}
+use Prim.Native.Nat.{ℕ, _-_, _≤_, _<_}
 use mathlib.Core.Path.{_≡_}
 use mathlib.Core.List.{List, [], _∷_}
 use mathlib.Core.Bool.{cond}
 use lib.Dec.{eqb}
 use lib.ListN.{length, getD}
 use Rattle.keys.specs.Keys.{keyOf}
-use Rattle.formats.specs.Table.{mostEntries, entriesSaid}
+use Rattle.formats.specs.Table.{mostEntries, entriesSaid, valuesFor}
 use Rattle.frames.specs.declared.Fixed.{Fixed}
 use Rattle.frames.specs.declared.Message.{Message}
 use Rattle.frames.specs.declared.Message.the-variants.{Set, SetDone, Enter, Entered, WhichKeys, Keys, Get, Got, GetAll, All, GetLog, Log}
@@ -48,7 +48,7 @@ pub record Narrow (vs : List ℕ) : Type 0 where
   pub tag : getD vs 3 0 < 256
   pub count : getD vs 4 0 < 256
   pub owner : getD vs 5 0 < 256
-  pub long : length vs ≡ 8 + 3 * entriesSaid vs
+  pub long : length vs ≡ valuesFor (entriesSaid vs)
   pub few : entriesSaid vs ≤ mostEntries
 
 abbrev pub fixedAt : List ℕ → Fixed

@@ -13,7 +13,7 @@ use Rattle.ranges.specs.Tests.{by-test, both, both-left, both-right}
 use Rattle.fields.specs.BitLaws.{Bytes}
 use Rattle.formats.specs.Grammar.{Outcome, got, fault, good, frame}
 use Rattle.formats.specs.RoundTrip as formats
-use Rattle.formats.specs.Table.{entriesIn, entriesSaid, sortAt, hasNumbers}
+use Rattle.formats.specs.Table.{entriesIn, entriesSaid, sortAt, hasNumbers, entryPlace, ownerPlace, numberPlace, fixedFields, entryFields, valuesFor}
 use Rattle.formats.specs.Format.{format}
 use Rattle.formats.specs.Walk.{values-length}
 use Rattle.frames.specs.declared.Message.{Message}
@@ -28,30 +28,30 @@ use Rattle.frames.specs.Frames.{enough, hasPlaces, writable, frameOf, re
 -- ---- the values of an entry
 
 module _ (numbered : Bool) (keys numbers : List ℕ) (i : ℕ) where
-  pub count-value : entryValue numbered keys numbers (3 * i) ≡ getD keys i 0 / 256
+  pub count-value : entryValue numbered keys numbers (entryFields * i) ≡ getD keys i 0 / 256
   unfolding entryValue
   count-value =
-      let r : 3 * i % 3 ≡ 0 = omega arith in
-      let q : 3 * i / 3 ≡ i = omega arith in
+      let r : entryFields * i % entryFields ≡ 0 = omega arith in
+      let q : entryFields * i / entryFields ≡ i = omega arith in
       rw (r, q)
 
-  pub client-value : entryValue numbered keys numbers (3 * i + 1) ≡ getD keys i 0 % 256
+  pub client-value : entryValue numbered keys numbers (entryFields * i + 1) ≡ getD keys i 0 % 256
   unfolding entryValue
   client-value =
-      let r : (3 * i + 1) % 3 ≡ 1 = omega arith in
-      let q : (3 * i + 1) / 3 ≡ i = omega arith in
+      let r : (entryFields * i + 1) % entryFields ≡ 1 = omega arith in
+      let q : (entryFields * i + 1) / entryFields ≡ i = omega arith in
       rw (r, q)
 
-  pub number-value : entryValue numbered keys numbers (3 * i + 2) ≡ cond numbered (getD numbers i 0) 0
+  pub number-value : entryValue numbered keys numbers (entryFields * i + 2) ≡ cond numbered (getD numbers i 0) 0
   unfolding entryValue
   number-value =
-      let r : (3 * i + 2) % 3 ≡ 2 = omega arith in
-      let q : (3 * i + 2) / 3 ≡ i = omega arith in
+      let r : (entryFields * i + 2) % entryFields ≡ 2 = omega arith in
+      let q : (entryFields * i + 2) / entryFields ≡ i = omega arith in
       rw (r, q)
 
 -- ---- from a message to its values and back
 
-pub fixed-length : (m : Message) → length (fixedOf m) ≡ 8
+pub fixed-length : (m : Message) → length (fixedOf m) ≡ fixedFields
 fixed-length (Set client server key setpoint) = refl
 fixed-length (SetDone client server) = refl
 fixed-length (Enter client key mask) = refl
@@ -81,17 +81,17 @@ message-back (All client server entries) es e = ap (All client server) (sym e)
 message-back (GetLog client) es e = refl
 message-back (Log client entries) es e = ap (Log client) (sym e)
 
-values-at : (m : Message) (keys numbers : List ℕ) (j : ℕ) → j < 3 * entriesOf m → getD (valuesOf m keys numbers) (8 + j) 0 ≡ entryValue (hasNumbers (kindOf m)) keys numbers j
+values-at : (m : Message) (keys numbers : List ℕ) (j : ℕ) → j < entryFields * entriesOf m → getD (valuesOf m keys numbers) (fixedFields + j) 0 ≡ entryValue (hasNumbers (kindOf m)) keys numbers j
 unfolding valuesOf
 values-at m keys numbers j h =
     let f = entryValue (hasNumbers (kindOf m)) keys numbers in
-    ap (λ (k : ℕ). getD (fixedOf m ++ built f (3 * entriesOf m)) (k + j) 0) (sym (fixed-length m))
-    ∙ getD-append-add (fixedOf m) (built f (3 * entriesOf m)) j 0 ∙ built-at f (3 * entriesOf m) j h
+    ap (λ (k : ℕ). getD (fixedOf m ++ built f (entryFields * entriesOf m)) (k + j) 0) (sym (fixed-length m))
+    ∙ getD-append-add (fixedOf m) (built f (entryFields * entriesOf m)) j 0 ∙ built-at f (entryFields * entriesOf m) j h
 
-values-many : (m : Message) (keys numbers : List ℕ) → length (valuesOf m keys numbers) ≡ 8 + 3 * entriesOf m
+values-many : (m : Message) (keys numbers : List ℕ) → length (valuesOf m keys numbers) ≡ valuesFor (entriesOf m)
 unfolding valuesOf
 values-many m keys numbers =
-    length-append (fixedOf m) _ ∙ ap₂ (λ (a b : ℕ). a + b) (fixed-length m) (built-length (entryValue (hasNumbers (kindOf m)) keys numbers) (3 * entriesOf m))
+    length-append (fixedOf m) _ ∙ ap₂ (λ (a b : ℕ). a + b) (fixed-length m) (built-length (entryValue (hasNumbers (kindOf m)) keys numbers) (entryFields * entriesOf m))
 
 -- What places there are for the entries of a kind.
 pub record Places (kind entries keys numbers : ℕ) : Type 0 where
@@ -129,14 +129,14 @@ module _ (m : Message) (keys numbers : List ℕ) (w : writable m keys numbers �
 
   key-back : (i : ℕ) → i < entriesOf m → keyIn (valuesOf m keys numbers) i ≡ getD keys i 0
   key-back i h =
-      let c = values-at m keys numbers (3 * i) (omega arith) ∙ count-value (hasNumbers (kindOf m)) keys numbers i in
-      let p : getD (valuesOf m keys numbers) (9 + 3 * i) 0 ≡ getD keys i 0 % 256 =
-      ap (λ (k : ℕ). getD (valuesOf m keys numbers) k 0) (omega arith) ∙ values-at m keys numbers (3 * i + 1) (omega arith) ∙ client-value (hasNumbers (kindOf m)) keys numbers i in
+      let c = values-at m keys numbers (entryFields * i) (omega arith) ∙ count-value (hasNumbers (kindOf m)) keys numbers i in
+      let p : getD (valuesOf m keys numbers) (ownerPlace + entryFields * i) 0 ≡ getD keys i 0 % 256 =
+      ap (λ (k : ℕ). getD (valuesOf m keys numbers) k 0) (omega arith) ∙ values-at m keys numbers (entryFields * i + 1) (omega arith) ∙ client-value (hasNumbers (kindOf m)) keys numbers i in
       omega (arith, c)
 
   number-back : (i : ℕ) → i < entriesOf m → hasNumbers (kindOf m) ≡ true → numberIn (valuesOf m keys numbers) i ≡ getD numbers i 0
   number-back i h e =
-      ap (λ (k : ℕ). getD (valuesOf m keys numbers) k 0) (omega arith) ∙ values-at m keys numbers (3 * i + 2) (omega arith)
+      ap (λ (k : ℕ). getD (valuesOf m keys numbers) k 0) (omega arith) ∙ values-at m keys numbers (entryFields * i + 2) (omega arith)
       ∙ number-value (hasNumbers (kindOf m)) keys numbers i ∙ rw e
 
   found-back : found (frameOf m keys numbers) ≡ got (valuesOf m keys numbers)
@@ -171,48 +171,48 @@ module _ (vs : List ℕ) (g : good format vs ≡ true) (keys numbers : List ℕ)
   many : length (valuesOf (messageOf vs) keys numbers) ≡ length vs
   many = values-many (messageOf vs) keys numbers ∙ omega (arith, entries-back vs g, values-length vs g)
 
-  fixed-value : (j : ℕ) → j < 8 → getD (valuesOf (messageOf vs) keys numbers) j 0 ≡ getD vs j 0
+  fixed-value : (j : ℕ) → j < fixedFields → getD (valuesOf (messageOf vs) keys numbers) j 0 ≡ getD vs j 0
   unfolding valuesOf
   fixed-value j h =
       List·getD-append (fixedOf (messageOf vs)) _ 0 j (omega (arith, fixed-length (messageOf vs)))
-      ∙ ap (λ (l : List ℕ). getD l j 0) (fixed-back vs g) ∙ getD-take 8 vs j 0 h
+      ∙ ap (λ (l : List ℕ). getD l j 0) (fixed-back vs g) ∙ getD-take fixedFields vs j 0 h
 
   module _ (ks : (i : ℕ) → i < entriesSaid vs → getD keys i 0 ≡ keyIn vs i) (ns : (i : ℕ) → i < entriesSaid vs → hasNumbers (getD vs 0 0) ≡ true → getD numbers i 0 ≡ numberIn vs i) where
     -- value d of entry i
-    entry-is : (i d : ℕ) → i < entriesSaid vs → d < 3 → entryValue (hasNumbers (getD vs 0 0)) keys numbers (3 * i + d) ≡ getD vs (8 + (3 * i + d)) 0
+    entry-is : (i d : ℕ) → i < entriesSaid vs → d < entryFields → entryValue (hasNumbers (getD vs 0 0)) keys numbers (entryFields * i + d) ≡ getD vs (entryPlace + (entryFields * i + d)) 0
     entry-is i zero h l =
         let p = client-byte vs g i h in
-        let e : 8 + 3 * i ≡ 8 + (3 * i + 0) = omega arith in
-        let z : 3 * i + 0 ≡ 3 * i = omega arith in
+        let e : entryPlace + entryFields * i ≡ entryPlace + (entryFields * i + 0) = omega arith in
+        let z : entryFields * i + 0 ≡ entryFields * i = omega arith in
         ap (entryValue (hasNumbers (getD vs 0 0)) keys numbers) z ∙ count-value (hasNumbers (getD vs 0 0)) keys numbers i ∙ omega (arith, ks i h) ∙ ap (λ (k : ℕ). getD vs k 0) e
     entry-is i (suc zero) h l =
         let p = client-byte vs g i h in
-        let e : 9 + 3 * i ≡ 8 + (3 * i + 1) = omega arith in
+        let e : ownerPlace + entryFields * i ≡ entryPlace + (entryFields * i + 1) = omega arith in
         client-value (hasNumbers (getD vs 0 0)) keys numbers i ∙ omega (arith, ks i h) ∙ ap (λ (k : ℕ). getD vs k 0) e
     entry-is i (suc (suc zero)) h l =
-        let e : 10 + 3 * i ≡ 8 + (3 * i + 2) = omega arith in
+        let e : numberPlace + entryFields * i ≡ entryPlace + (entryFields * i + 2) = omega arith in
         number-value (hasNumbers (getD vs 0 0)) keys numbers i
         ∙ by-test (hasNumbers (getD vs 0 0)) (λ t. rw t (ns i h t)) (λ t. rw t (sym (no-number vs g i h t)))
         ∙ ap (λ (k : ℕ). getD vs k 0) e
     entry-is i (suc (suc (suc d))) h l = let z : ⊥ = omega arith in absurd z
 
-    late-value : (j : ℕ) → 8 ≤ j → j < length vs → getD (valuesOf (messageOf vs) keys numbers) j 0 ≡ getD vs j 0
+    late-value : (j : ℕ) → fixedFields ≤ j → j < length vs → getD (valuesOf (messageOf vs) keys numbers) j 0 ≡ getD vs j 0
     late-value j l h =
-        let i = (j - 8) / 3 in
-        let d = (j - 8) % 3 in
+        let i = (j - fixedFields) / entryFields in
+        let d = (j - fixedFields) % entryFields in
         let n = entries-back vs g in
-        let q : j ≡ 8 + (3 * i + d) = omega arith in
-        let b : 3 * i + d < 3 * entriesOf (messageOf vs) = omega (arith, values-length vs g) in
+        let q : j ≡ entryPlace + (entryFields * i + d) = omega arith in
+        let b : entryFields * i + d < entryFields * entriesOf (messageOf vs) = omega (arith, values-length vs g) in
         ap (λ (k : ℕ). getD (valuesOf (messageOf vs) keys numbers) k 0) q
-        ∙ values-at (messageOf vs) keys numbers (3 * i + d) b
-        ∙ ap (λ (k : ℕ). entryValue (hasNumbers k) keys numbers (3 * i + d)) (kind-back vs g)
+        ∙ values-at (messageOf vs) keys numbers (entryFields * i + d) b
+        ∙ ap (λ (k : ℕ). entryValue (hasNumbers k) keys numbers (entryFields * i + d)) (kind-back vs g)
         ∙ entry-is i d (omega arith) (omega arith)
         ∙ ap (λ (k : ℕ). getD vs k 0) (sym q)
 
     all-values : valuesOf (messageOf vs) keys numbers ≡ vs
     all-values =
         ext-getD 0 (valuesOf (messageOf vs) keys numbers) vs many
-        (λ j h. by-test (ltb j 8) (λ b. fixed-value j (ltb-true _ _ b)) (λ b. late-value j (ltb-false _ _ b) (omega (arith, many))))
+        (λ j h. by-test (ltb j fixedFields) (λ b. fixed-value j (ltb-true _ _ b)) (λ b. late-value j (ltb-false _ _ b) (omega (arith, many))))
 
 -- what a message that was read was made of
 pub record Was-read (o : Outcome) (keys numbers : List ℕ) (m : Message) : Type 0 where

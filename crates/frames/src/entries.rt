@@ -1,10 +1,15 @@
 // The entries beside a message as values, three for each: its key's count and client, and its number.
 use formats::table;
+use formats::table::ENTRY;
+use formats::table::ENTRY_FIELDS;
+use formats::table::FIXED_FIELDS;
+use formats::table::NUMBER;
+use formats::table::OWNER;
 ghost use mathlib.Core.Path.{_≡_};
 ghost use mathlib.Core.Bool.{true, cond};
 ghost use Prim.Native.Nat.{_+_, _*_, _/_, _≤_, _<_};
 ghost use lib.ListN.{length, getD, take};
-ghost use Rattle.formats.specs.Table.{hasNumbers};
+ghost use Rattle.formats.specs.Table.{entryFields, hasNumbers, valuesFor};
 ghost use Rattle.formats.specs.Format.{mostValues};
 ghost use Rattle.ranges.specs.Laid.{built, laid};
 ghost use Rattle.frames.specs.Entries.{keyIn, numberIn, entryValue, valuesBy};
@@ -31,7 +36,7 @@ fn store_keys(values: &[u32], keys: &mut [u32], entries: usize)
 {
     let mut i: usize = 0;
     while i < entries {
-        keys[i] = values[8 + 3 * i] * 256 + values[9 + 3 * i];
+        keys[i] = values[ENTRY + ENTRY_FIELDS * i] * 256 + values[OWNER + ENTRY_FIELDS * i];
         i += 1;
     }
 }
@@ -43,7 +48,7 @@ fn store_numbers(values: &[u32], numbers: &mut [u32], entries: usize)
 {
     let mut i: usize = 0;
     while i < entries {
-        numbers[i] = values[10 + 3 * i];
+        numbers[i] = values[NUMBER + ENTRY_FIELDS * i];
         i += 1;
     }
 }
@@ -61,11 +66,11 @@ pub fn store(kind: u32, values: &[u32], keys: &mut [u32], numbers: &mut [u32], e
 
 // A value of the entries.
 fn entry_value(numbered: bool, keys: &[u32], numbers: &[u32], i: usize) -> u32
-    requires { ⌜ (i / 3 < length (now keys)) × (numbered ≡ true → i / 3 < length (now numbers)) ⌝ }
+    requires { ⌜ (i / entryFields < length (now keys)) × (numbered ≡ true → i / entryFields < length (now numbers)) ⌝ }
     ensures { λ r. ⌜ r ≡ entryValue numbered (now (keys .entry)) (now (numbers .entry)) i ⌝ }
 {
-    let entry = i / 3;
-    let part = i % 3;
+    let entry = i / ENTRY_FIELDS;
+    let part = i % ENTRY_FIELDS;
     if part == 0 {
         return keys[entry] / 256;
     }
@@ -83,10 +88,10 @@ fn value_at(fixed: &[u32], numbered: bool, keys: &[u32], numbers: &[u32], i: usi
     requires { ⌜ Reaches (now fixed) numbered (now keys) (now numbers) i ⌝ }
     ensures { λ r. ⌜ r ≡ valueBy (now (fixed .entry)) numbered (now (keys .entry)) (now (numbers .entry)) i ⌝ }
 {
-    if i < 8 {
+    if i < FIXED_FIELDS {
         return fixed[i];
     }
-    entry_value(numbered, keys, numbers, i - 8)
+    entry_value(numbered, keys, numbers, i - FIXED_FIELDS)
 }
 
 // The values of a message: the fixed ones, then those of its entries, as many as there is room for.
@@ -111,8 +116,8 @@ pub fn pack_entries(
     values: &mut [u32],
 )
     requires { ⌜ Packable (now fixed) (now keys) (now numbers) entries × (length (now values) ≡ mostValues) ⌝ }
-    ensures { λ _. ⌜ take (8 + 3 * entries) (now (values .exit)) ≡ valuesBy (now (fixed .entry)) (now (keys .entry)) (now (numbers .entry)) entries ⌝ }
+    ensures { λ _. ⌜ take (valuesFor entries) (now (values .exit)) ≡ valuesBy (now (fixed .entry)) (now (keys .entry)) (now (numbers .entry)) entries ⌝ }
 {
-    let count = 8 + 3 * entries;
+    let count = FIXED_FIELDS + ENTRY_FIELDS * entries;
     pack(fixed, keys, numbers, &mut values[..count]);
 }

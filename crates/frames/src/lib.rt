@@ -1,6 +1,8 @@
 // Frames: the messages that cross the wire, from bytes and to bytes.
 // A message holds what is fixed; the entries of kinds 6, 10 and 12 stand beside it, in two lent slices: keys, as numbers, and setpoints or masks.
 use formats::reading::MOST_VALUES;
+use formats::table::ENTRY_FIELDS;
+use formats::table::FIXED_FIELDS;
 use formats::table::MOST_ENTRIES;
 use keys::Key;
 
@@ -117,7 +119,7 @@ fn less_one(entries: u32) -> u32
 }
 
 // The values of a message's header and fixed body, in the order of the table; what its kind lacks is 0.
-fn fixed_of(message: Message) -> [u32; 8]
+fn fixed_of(message: Message) -> [u32; FIXED_FIELDS]
     ensures { λ r. ⌜ r ≡ fixedOf message ⌝ }
 {
     match message {
@@ -212,7 +214,7 @@ fn fixed_at(values: &[u32]) -> Fixed
     let server = values[2] as u8;
     let tag = values[3] as u8;
     let key = Key::new(values[4] as u8, values[5] as u8);
-    let entries = ((values.len() - 8) / 3) as u32;
+    let entries = ((values.len() - FIXED_FIELDS) / ENTRY_FIELDS) as u32;
     Fixed {
         client: client,
         server: server,
@@ -353,7 +355,7 @@ fn write_present(
 {
     let mut values = [0u32; MOST_VALUES];
     entries::pack_entries(fixed, keys, numbers, entries, &mut values);
-    let count = 8 + 3 * entries;
+    let count = FIXED_FIELDS + ENTRY_FIELDS * entries;
     send(&values[..count], bytes)
 }
 

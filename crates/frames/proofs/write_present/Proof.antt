@@ -2,10 +2,11 @@
 use borrow.Author.Needs.{needs}
 use mathlib.Core.Path.{sym, ap, _∙_}
 use mathlib.Core.List.{List}
-use Prim.Native.Nat.{ℕ, _+_, _*_}
+use Prim.Native.Nat.{ℕ}
 use native.Mathlib.Omega.{arith}
 use lib.Seq.{length-take-le}
 use Rattle.formats.specs.Writing.{wroteOf, bytesAfter}
+use Rattle.formats.specs.Table.{valuesFor}
 use Rattle.frames.specs.Answers.{writtenBy}
 use Rattle.frames.proofs.write_present.Statement.{statement}
 use Rattle.frames.proofs.write_present.Tie as tie
@@ -14,7 +15,7 @@ slice-aggregate-send : tie.Need-slice-aggregate-send
 slice-aggregate-send c =
     let s = c .before .before .before .before .before .before .before .before in
     let p = c .before .before .pack-entries in
-    sym (length-take-le (8 + 3 * s .args .entries) (p .last .1 .1 .1 .1 .0) (omega (arith, s .pre .few, p .kept)))
+    sym (length-take-le (valuesFor (s .args .entries)) (p .last .1 .1 .1 .1 .0) (omega (arith, s .pre .few, p .kept)))
 
 returns : tie.Need-returns
 returns c =

@@ -1,21 +1,21 @@
 -- The front of the row is packed.
 use borrow.Author.Needs.{needs}
 use mathlib.Core.Path.{sym}
-use Prim.Native.Nat.{_+_, _*_}
 use native.Mathlib.Omega.{arith}
 use lib.Seq.{length-take-le}
+use Rattle.formats.specs.Table.{valuesFor}
 use Rattle.frames.specs.Answers.{packed-front}
 use Rattle.frames.proofs.entries.pack_entries.Statement.{statement}
 use Rattle.frames.proofs.entries.pack_entries.Tie as tie
 
 slice-aggregate-pack : tie.Need-slice-aggregate-pack
-slice-aggregate-pack c = let s = c .before .before .before .before .before in sym (length-take-le (8 + 3 * s .args .entries) (s .args .values .now) (omega (arith, s .pre .0 .few, s .pre .1)))
+slice-aggregate-pack c = let s = c .before .before .before .before .before in sym (length-take-le (valuesFor (s .args .entries)) (s .args .values .now) (omega (arith, s .pre .0 .few, s .pre .1)))
 
 pack-requires : tie.Need-pack-requires
 pack-requires c κs =
     let s = c .before .before .before .before .before in
     let p = s .pre .0 in
-    let k = length-take-le (8 + 3 * s .args .entries) (s .args .values .now) (omega (arith, p .few, s .pre .1)) in
+    let k = length-take-le (valuesFor (s .args .entries)) (s .args .values .now) (omega (arith, p .few, s .pre .1)) in
     record { eight = p .eight; for-keys = omega (arith, k, p .places .for-keys); for-numbers = λ e. omega (arith, k, p .places .for-numbers e) }
 
 returns : tie.Need-returns
