@@ -8,10 +8,9 @@ use mathlib.Core.List.{List}
 use lib.ListN.{getD}
 use borrow.Author.Tests.{eq-eqb, ne-eqb, lt-ltb, le-ltb, ltb-true, ltb-false, leb-true}
 use Rattle.ranges.specs.Tests.{by-equal, by-test, both-left, both-right}
-use Rattle.formats.specs.declared.state.Field.{Field}
 use Rattle.formats.specs.declared.state.State.{State}
 use Rattle.formats.specs.Grammar.{Grammar, end}
-use Rattle.formats.specs.Table.{manyPlace, entryPlace, numberPlace, entryFields, kinds, sorts, leasts, mosts, sortAt, bitsOf, leastOf, mostOf, mostEntries, entriesIn}
+use Rattle.formats.specs.Table.{manyPlace, entryPlace, numberPlace, entryFields, kinds, sorts, sortAt, bitsOf, leastOf, mostOf, mostEntries, entriesIn}
 use Rattle.formats.specs.TableLaws.{rowOf, row-first, row-at, sort-small, entries-most, few-entries}
 use Rattle.formats.specs.Format.{mostValues, sortOf, fieldOf, within, allowed, leftAfter, placeAfter, nextOf, one, entries, fixed, start, format}
 
@@ -23,23 +22,6 @@ module _ (place : ℕ) where
   pub place-inner : (place ≡ numberPlace → ⊥) → placeAfter place ≡ place + 1
   unfolding placeAfter
   place-inner d = rw (ne-eqb place numberPlace d)
-
--- by what a field holds: its bits, and its limits as they stand in the table of sorts
-unfoldable pub limitsOf : ℕ → Field
-limitsOf sort = record { width = bitsOf sort; least = getD leasts sort 0; most = getD mosts sort 0 }
-
-module _ (sort : ℕ) {f : Field} (e : f ≡ limitsOf sort) where
-  pub limits-width : f .width ≡ bitsOf sort
-  unfolding limitsOf
-  limits-width = ap (λ (g : Field). g .width) e
-
-  pub limits-least : f .least ≡ getD leasts sort 0
-  unfolding limitsOf
-  limits-least = ap (λ (g : Field). g .least) e
-
-  pub limits-most : f .most ≡ getD mosts sort 0
-  unfolding limitsOf
-  limits-most = ap (λ (g : Field). g .most) e
 
 module _ (st : State) where
   -- the field, by what was found for its parts

@@ -4,6 +4,7 @@ use mathlib.Core.List.{List, [], _∷_}
 use mathlib.Core.Bool.{Bool, cond, not, _&&_}
 use lib.Dec.{eqb}
 use lib.ListN.{getD}
+use Rattle.formats.specs.declared.state.Field.{Field}
 
 -- What a field holds. A kind that lacks a field has `none` there: no bits, and value 0.
 abbrev pub none : ℕ
@@ -124,26 +125,43 @@ table =
 unfoldable pub sortAt : ℕ → ℕ → ℕ
 sortAt kind place = getD (getD table kind []) place none
 
--- By what a field holds: its bits, its least and its greatest value.
-abbrev pub bits : List ℕ
-bits = 0 ∷ 4 ∷ 4 ∷ 5 ∷ 5 ∷ 8 ∷ 8 ∷ 8 ∷ 8 ∷ 4 ∷ 4 ∷ 32 ∷ 16 ∷ 5 ∷ 8 ∷ []
+-- a field's bits, its least and its greatest value
+abbrev pub limitRow : ℕ → ℕ → ℕ → Field
+limitRow width least most = record { width = width; least = least; most = most }
 
-abbrev pub leasts : List ℕ
-leasts = 0 ∷ 1 ∷ 0 ∷ 0 ∷ 16 ∷ 0 ∷ 1 ∷ 0 ∷ 1 ∷ 0 ∷ 0 ∷ 0 ∷ 1 ∷ 1 ∷ 0 ∷ []
+-- by what it holds: none, kind, client, server, coord; tag, tag1, count, count1; of, own; value, mask, keys, less
+abbrev pub limitRows : List Field
+limitRows =
+    limitRow 0 0 0
+    ∷ limitRow 4 1 12
+    ∷ limitRow 4 0 15
+    ∷ limitRow 5 0 15
+    ∷ limitRow 5 16 16
+    ∷ limitRow 8 0 255
+    ∷ limitRow 8 1 255
+    ∷ limitRow 8 0 255
+    ∷ limitRow 8 1 255
+    ∷ limitRow 4 0 15
+    ∷ limitRow 4 0 15
+    ∷ limitRow 32 0 4294967295
+    ∷ limitRow 16 1 65535
+    ∷ limitRow 5 1 16
+    ∷ limitRow 8 0 255
+    ∷ []
 
-abbrev pub mosts : List ℕ
-mosts = 0 ∷ 12 ∷ 15 ∷ 15 ∷ 16 ∷ 255 ∷ 255 ∷ 255 ∷ 255 ∷ 15 ∷ 15 ∷ 4294967295 ∷ 65535 ∷ 16 ∷ 255 ∷ []
+abbrev pub limitsOf : ℕ → Field
+limitsOf sort = getD limitRows sort (limitRow 0 0 0)
 
 unfoldable pub bitsOf : ℕ → ℕ
-bitsOf sort = getD bits sort 0
+bitsOf sort = limitsOf sort .width
 
 unfoldable pub leastOf : ℕ → ℕ → ℕ
-leastOf sort client = cond (eqb sort own) client (getD leasts sort 0)
+leastOf sort client = cond (eqb sort own) client (limitsOf sort .least)
 
 -- `before` is the value of the field before: of a key's client, the key's count
 unfoldable pub mostOf : ℕ → ℕ → ℕ → ℕ
 mostOf sort client before =
-    cond (eqb sort own) client (cond (eqb sort of && eqb before 0) 0 (getD mosts sort 0))
+    cond (eqb sort own) client (cond (eqb sort of && eqb before 0) 0 (limitsOf sort .most))
 
 -- a frame has at most as many entries as n−1 in 8 bits can say
 abbrev pub mostEntries : ℕ

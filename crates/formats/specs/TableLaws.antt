@@ -10,7 +10,8 @@ use lib.ListN.{length, getD, List·getD-eq-default}
 use borrow.Author.Tests.{eqb-true, eq-eqb, ne-eqb, leb-true, lt-ltb, le-ltb, ltb-true, ltb-false, not-true}
 use Rattle.ranges.specs.Tests.{either, by-test, both-left, both-right}
 use Rattle.ranges.specs.All.{allBelow, all-at}
-use Rattle.formats.specs.Table.{bodyPlace, manyPlace, entryPlace, rowPlaces, bodyFields, entryFields, kinds, sorts, headerBits, table, mostEntries, own, of, sortAt, bitsOf, leastOf, mostOf, mosts, leasts, less, entriesIn, bodyBits, entryBits}
+use Rattle.formats.specs.declared.state.Field.{Field}
+use Rattle.formats.specs.Table.{bodyPlace, manyPlace, entryPlace, rowPlaces, bodyFields, entryFields, kinds, sorts, headerBits, table, mostEntries, own, of, sortAt, bitsOf, leastOf, mostOf, limitsOf, less, entriesIn, bodyBits, entryBits}
 
 -- the bits of n fields of a kind from a place on
 unfoldable pub bitsFrom : ℕ → ℕ → ℕ → ℕ
@@ -24,7 +25,7 @@ pub record Row (kind : ℕ) : Type 0 where
   pub header : bitsFrom kind 0 bodyPlace ≡ headerBits
   pub body : bitsFrom kind bodyPlace bodyFields ≡ getD bodyBits kind 0
   pub entry : bitsFrom kind entryPlace entryFields ≡ getD entryBits kind 0
-  pub few : getD mosts (sortAt kind manyPlace) 0 < mostEntries
+  pub few : limitsOf (sortAt kind manyPlace) .most < mostEntries
   pub plain : eqb (sortAt kind manyPlace) own ≡ false
   pub begins : sortAt kind 0 ≡ sortAt 0 0
 
@@ -34,7 +35,7 @@ rowRight kind =
     && (eqb (bitsFrom kind 0 bodyPlace) headerBits
     && (eqb (bitsFrom kind bodyPlace bodyFields) (getD bodyBits kind 0)
     && (eqb (bitsFrom kind entryPlace entryFields) (getD entryBits kind 0)
-    && (ltb (getD mosts (sortAt kind manyPlace) 0) mostEntries && (not (eqb (sortAt kind manyPlace) own) && eqb (sortAt kind 0) (sortAt 0 0))))))
+    && (ltb (limitsOf (sortAt kind manyPlace) .most) mostEntries && (not (eqb (sortAt kind manyPlace) own) && eqb (sortAt kind 0) (sortAt 0 0))))))
 
 -- the test
 table-right : allBelow rowRight kinds ≡ true
@@ -49,7 +50,7 @@ row-right kind h =
     let e₂ = both-right (eqb (bitsFrom kind 0 bodyPlace) headerBits) _ e₁ in
     let e₃ = both-right (eqb (bitsFrom kind bodyPlace bodyFields) (getD bodyBits kind 0)) _ e₂ in
     let e₄ = both-right (eqb (bitsFrom kind entryPlace entryFields) (getD entryBits kind 0)) _ e₃ in
-    let e₅ = both-right (ltb (getD mosts (sortAt kind manyPlace) 0) mostEntries) _ e₄ in
+    let e₅ = both-right (ltb (limitsOf (sortAt kind manyPlace) .most) mostEntries) _ e₄ in
     record {
       places = eqb-true _ _ (both-left _ _ e₀);
       header = eqb-true _ _ (both-left _ _ e₁);
@@ -115,6 +116,10 @@ sort-small kind place =
     (λ f. omega (arith, beyond-place kind place h (ltb-false _ _ f))))
     (λ e. omega (arith, beyond-kind kind place (ltb-false _ _ e)))
 
+pub limits-width : (sort : ℕ) {f : Field} → f ≡ limitsOf sort → f .width ≡ bitsOf sort
+unfolding bitsOf
+limits-width sort e = ap (λ (f : Field). f .width) e
+
 pub bits-most : (sort : ℕ) → sort < sorts → bitsOf sort ≤ 32
 unfolding allBelow bitsOf
 bits-most sort h = leb-true _ _ (all-at (λ s. leb (bitsOf s) 32) sorts refl sort h)
@@ -145,7 +150,7 @@ module _ (sort client before : ℕ) where
   unfolding leastOf
   least-own e = rw (eq-eqb sort own e)
 
-  pub least-other : {plain : ℕ} → plain ≡ getD leasts sort 0 → (sort ≡ own → ⊥) → plain ≡ leastOf sort client
+  pub least-other : {plain : ℕ} → plain ≡ limitsOf sort .least → (sort ≡ own → ⊥) → plain ≡ leastOf sort client
   unfolding leastOf
   least-other p d = rw (ne-eqb sort own d) p
 
@@ -157,7 +162,7 @@ module _ (sort client before : ℕ) where
   unfolding mostOf
   most-opening d z e = rw (ne-eqb sort own d, eq-eqb sort of e, eq-eqb before 0 z)
 
-  module _ {plain : ℕ} (p : plain ≡ getD mosts sort 0) (d : sort ≡ own → ⊥) where
+  module _ {plain : ℕ} (p : plain ≡ limitsOf sort .most) (d : sort ≡ own → ⊥) where
     pub most-other : (sort ≡ of → ⊥) → plain ≡ mostOf sort client before
     unfolding mostOf
     most-other f = rw (ne-eqb sort own d, ne-eqb sort of f) p

@@ -4,10 +4,8 @@ ghost use mathlib.Core.Path.{_≡_};
 ghost use Prim.Native.Nat.{_+_, _<_, _≤_};
 ghost use mathlib.Core.Bool.{cond};
 ghost use lib.Dec.{eqb};
-ghost use lib.ListN.{getD};
-ghost use Rattle.formats.specs.Table.{kinds, sorts, less, leasts, mosts, mostEntries, sortAt, leastOf, mostOf, hasNumbers, frameLength};
+ghost use Rattle.formats.specs.Table.{kinds, sorts, less, limitsOf, mostEntries, sortAt, leastOf, mostOf, hasNumbers, frameLength};
 ghost use Rattle.formats.specs.TableLaws.{rowOf};
-ghost use Rattle.formats.specs.FormatLaws.{limitsOf};
 
 // What a field holds. NO: the kind has no such field; it then has no bits and the value 0.
 const NO: u8 = 0;
@@ -152,7 +150,7 @@ pub fn limits_of(sort: u8) -> Field
 
 // The least value of a field in a frame of a client, from the one that stands in the table of sorts.
 pub fn least_of(sort: u8, plain: u32, client: u32) -> u32
-    requires { ⌜ plain ≡ getD leasts sort 0 ⌝ }
+    requires { ⌜ plain ≡ limitsOf sort .least ⌝ }
     ensures { λ r. ⌜ r ≡ leastOf sort client ⌝ }
 {
     if sort == OWN {
@@ -163,7 +161,7 @@ pub fn least_of(sort: u8, plain: u32, client: u32) -> u32
 
 // The greatest value of a field in a frame of a client, where `before` is the value of the field before it.
 pub fn most_of(sort: u8, plain: u32, client: u32, before: u32) -> u32
-    requires { ⌜ plain ≡ getD mosts sort 0 ⌝ }
+    requires { ⌜ plain ≡ limitsOf sort .most ⌝ }
     ensures { λ r. ⌜ r ≡ mostOf sort client before ⌝ }
 {
     if sort == OWN {

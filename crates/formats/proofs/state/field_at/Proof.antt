@@ -1,16 +1,18 @@
 -- Width and limits by what the field holds.
 use borrow.Author.Needs.{needs}
+use mathlib.Core.Path.{ap}
 use native.Mathlib.Omega.{arith}
-use Rattle.formats.specs.TableLaws.{bits-most}
-use Rattle.formats.specs.FormatLaws.{limits-width, limits-least, limits-most, field-is}
+use Rattle.formats.specs.declared.state.Field.{Field}
+use Rattle.formats.specs.TableLaws.{limits-width, bits-most}
+use Rattle.formats.specs.FormatLaws.{field-is}
 use Rattle.formats.proofs.state.field_at.Statement.{statement}
 use Rattle.formats.proofs.state.field_at.Tie as tie
 
 least-of-requires : tie.Need-least-of-requires
-least-of-requires c κs = limits-least (c .before .args .sort) (c .limits-of .ensures)
+least-of-requires c κs = ap (λ (f : Field). f .least) (c .limits-of .ensures)
 
 most-of-requires : tie.Need-most-of-requires
-most-of-requires c κs = limits-most (c .before .before .args .sort) (c .before .limits-of .ensures)
+most-of-requires c κs = ap (λ (f : Field). f .most) (c .before .limits-of .ensures)
 
 returns : tie.Need-returns
 returns c =
