@@ -16,7 +16,7 @@ use Rattle.rules.specs.Common.{idle, askingKeys, askingSetpoints, askingAll, co
 use Rattle.rules.specs.Common as rules
 use Rattle.rules.specs.declared.Answer.the-variants.{Ok}
 use Rattle.serial.specs.Steps.{begun-write, begun-read}
-use Rattle.serial.specs.History.{changed, writing, reading, History}
+use Rattle.serial.specs.History.{changed, writing, History}
 use Rattle.serial.proofs.Places.{changed-same, changed-other, changed-all}
 use Rattle.serial.proofs.Press.{renumbered, Client, clientOf, Press, pressOf, stateIn, countIn, weight, toCome, sends, World, world}
 use Rattle.serial.proofs.Links.{come-changed, no-coordinator, sends-masked, sends-other, sends-come}
@@ -115,7 +115,7 @@ module _ (floor : ℕ → ℕ) (p : Press) (h : History) (tied : Tied floor p h)
     abbrev ask : Content
     ask = request opening 0
 
-    -- B: the head is asked
+    -- B: the coordinator is asked
     pub read-b-kept : h .extra ≡ 2 → row stateField ≡ askingKeys → Kept floor h (begun-read q mask Ok) (begun-press (changed (old .link) coordinator ask))
     read-b-kept two state = (
       (idling .is, omega arith),
@@ -130,19 +130,19 @@ module _ (floor : ℕ → ℕ) (p : Press) (h : History) (tied : Tied floor p h)
           some = rw masked some-masked;
           bound = bound′;
           others = λ i l. changed-other (old .link) coordinator ask i (λ e. omega arith) ∙ idling .links i (omega arith);
-          head = rw (changed-same (old .link) coordinator ask) refl;
+          keys = rw (changed-same (old .link) coordinator ask) refl;
         });
       })),
     )
 
-    -- C: all servers of the mask and the head together
+    -- C: all servers of the mask and the coordinator together
     abbrev asks : ℕ → Content
     asks i = ask
 
     pub read-c-kept : h .extra ≡ 2 → row stateField ≡ askingAll → Kept floor h (begun-read q mask Ok) (begun-press (changed (sends mask asks) coordinator ask))
     read-c-kept two state =
         let total : toCome (changed (sends mask asks) coordinator ask) + weight (sends mask asks coordinator) ≡ toCome (sends mask asks) + 2 = come-changed (sends mask asks) coordinator ask (omega arith) in
-        let head : weight (sends mask asks coordinator) ≡ 0 = ap weight (sends-other mask asks coordinator (no-coordinator mask (p .shared .servers) few bound)) in
+        let unmasked : weight (sends mask asks coordinator) ≡ 0 = ap weight (sends-other mask asks coordinator (no-coordinator mask (p .shared .servers) few bound)) in
         let servers : toCome (sends mask asks) ≡ 2 * serversIn mask = sends-come mask asks (λ i. refl) (no-coordinator mask (p .shared .servers) few bound) in (
           (idling .is, omega arith),
           rw (idling .is) (begun-tied floor p h tied step writes reads q new _ (record {
@@ -156,7 +156,7 @@ module _ (floor : ℕ → ℕ) (p : Press) (h : History) (tied : Tied floor p h)
               bound = bound′;
               count = rw masked (omega arith);
               busy = omega arith;
-              links = λ i l. changed-all (sends mask asks) coordinator ask (λ j c. AllLink (h .extra) x (h .tags) q new (reading mask (h .clock) 0) j c) tt (λ j ne. other j ne) i;
+              links = λ i l. changed-all (sends mask asks) coordinator ask (λ j c. AllLink x (h .tags) new j c) tt (λ j ne. other j ne) i;
             });
           })),
         )
@@ -164,7 +164,7 @@ module _ (floor : ℕ → ℕ) (p : Press) (h : History) (tied : Tied floor p h)
         new : Client
         new = clientOf row (changed (sends mask asks) coordinator ask)
 
-        other : (j : ℕ) → (j ≡ coordinator → ⊥) → AllLink (h .extra) x (h .tags) q new (reading mask (h .clock) 0) j (sends mask asks j)
+        other : (j : ℕ) → (j ≡ coordinator → ⊥) → AllLink x (h .tags) new j (sends mask asks j)
         other j ne = by-test (hasServer mask j)
             (λ e. rw (sends-masked mask asks j e) tt)
             (λ e. rw (sends-other mask asks j e) (λ z. absurd (ne z), λ m. absurd (not-both (rw masked at m) e)))

@@ -24,7 +24,7 @@ asks (Reply w) = 0
 abbrev pub waits : ℕ → Client → ℕ
 waits i c = cond (eqb (stateIn c) writing) (asks (c .link i)) 0
 
--- an entry that waits at the head, or is to come
+-- an entry that waits at the coordinator, or is to come
 abbrev pub due : Client → ℕ
 due c = cond (eqb (stateIn c) writing) 1 (cond (eqb (stateIn c) entering) (asks (c .link coordinator)) 0)
 
@@ -35,7 +35,7 @@ rest c = cond (eqb (stateIn c) writing) 2 (cond (eqb (stateIn c) askingKeys) (2 
 abbrev pub ahead : Client → ℕ
 ahead c = toCome (c .link) + rest c
 
--- A transaction takes at most 35 steps: its begin, two deliveries for each of 16 servers, and two for the head.
+-- A transaction takes at most 35 steps: its begin, two deliveries for each of 16 servers, and two for the coordinator.
 abbrev pub perTransaction : ℕ
 perTransaction = 35
 

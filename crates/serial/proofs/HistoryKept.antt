@@ -220,7 +220,7 @@ module _ (tagsAt floor : ℕ → ℕ) (h : History) (ok : HistoryOk tagsAt floor
   entered-ok q (reading mask begin deliveries) e m = (now′, delivered-ok q (reading mask begin deliveries) e m)
 
   -- whichever target the test tells from the others
-  requested-ok : (q : ℕ) (head : Bool) → More (h .extra) (h .doing q) → (t : ℕ → ℕ) × HistoryOk t floor (cond head (entered (h .doing q) q h) (delivered (h .doing q) q h))
+  requested-ok : (q : ℕ) (test : Bool) → More (h .extra) (h .doing q) → (t : ℕ → ℕ) × HistoryOk t floor (cond test (entered (h .doing q) q h) (delivered (h .doing q) q h))
   requested-ok q true m = entered-ok q (h .doing q) refl m
   requested-ok q false m = (now′, delivered-ok q (h .doing q) refl m)
 

@@ -19,31 +19,60 @@ use Rattle.serial.specs.History.{Doing, nothing, writing, tagged, readin
 use Rattle.serial.specs.Claim.{enough}
 use Rattle.serial.proofs.Press.{Client, Press, stateIn, countIn, maskIn, tagIn, setpointIn, receivedIn, toCome, World, world}
 
-module _ (extra : ℕ) (x : World) (floor q : ℕ) (c : Client) (doing : Doing) where
-  -- the key of the client's WRITE
-  abbrev pub own : Key
-  own = keyOf (countIn c) q
+-- ---- what a link of a client holds, by the client's state
 
-  -- server i holds a key with a setpoint
-  abbrev pub Holds : ℕ → Key → ℕ → Type 0
-  Holds i key v = x .lookup i key (x .held i) ≡ some v
+-- the key of the client's WRITE
+abbrev pub own : ℕ → Client → Key
+own q c = keyOf (countIn c) q
 
-  abbrev pub Masked : ℕ → Type 0
-  Masked i = hasServer (maskIn c) i ≡ true
+-- server i holds a key with a setpoint
+abbrev pub Holds : World → ℕ → Key → ℕ → Type 0
+Holds x i key v = x .lookup i key (x .held i) ≡ some v
 
-  -- State 1. A server that was sent the setpoint holds it, or the request is still under way and no version bears the key.
+abbrev pub Masked : Client → ℕ → Type 0
+Masked c i = hasServer (maskIn c) i ≡ true
+
+-- State 1. A server that was sent the setpoint holds it, or the request is still under way and no version bears the key.
+module _ (x : World) (q : ℕ) (c : Client) where
   abbrev pub WriteLink : List ℕ → ℕ → Content → Type 0
-  WriteLink setpoints i Nothing = Masked i → Holds i own (getD setpoints i 0)
-  WriteLink setpoints i (Request w) = (w .key ≡ own) × (w .number ≡ getD setpoints i 0) × (i < x .servers) × (x .lookup i own (x .held i) ≡ none)
-  WriteLink setpoints i (Reply w) = Holds i own (getD setpoints i 0)
+  WriteLink setpoints i Nothing = Masked c i → Holds x i (own q c) (getD setpoints i 0)
+  WriteLink setpoints i (Request w) = (w .key ≡ own q c) × (w .number ≡ getD setpoints i 0) × (i < x .servers) × (x .lookup i (own q c) (x .held i) ≡ none)
+  WriteLink setpoints i (Reply w) = Holds x i (own q c) (getD setpoints i 0)
 
+-- State 3. The reply's number is that of the entries, one more than the last tag.
+module _ (x : World) (floor : ℕ) where
+  abbrev pub KeysLink : ℕ → Content → Type 0
+  KeysLink deliveries Nothing = ⊥
+  KeysLink deliveries (Request w) = deliveries ≡ 0
+  KeysLink deliveries (Reply w) = (deliveries ≡ 1) × (floor < w .number) × (w .number ≤ suc (x .tags))
+
+-- State 4. Every request, reply and setpoint is of the value behind the client's tag.
+module _ (x : World) (c : Client) where
+  abbrev pub GetLink : ℕ → Content → Type 0
+  GetLink i Nothing = Masked c i → setpointIn c i ≡ x .value (tagIn c) i
+  GetLink i (Request w) = Holds x i (w .key) (x .value (tagIn c) i)
+  GetLink i (Reply w) = w .number ≡ x .value (tagIn c) i
+
+-- State 5. The first n versions, or entries, hold what the row had when the READ began.
+abbrev pub Snapshot : World → ℕ → Client → ℕ → ℕ → Type 0
+Snapshot x floor c i n = (i ≡ coordinator → (floor < n) × (n ≤ suc (x .tags))) × (Masked c i → (n ≤ x .held i) × (x .lookup i (x .key floor i) n ≡ some (x .value floor i)))
+
+module _ (x : World) (floor : ℕ) (c : Client) where
+  abbrev pub AllLink : ℕ → Content → Type 0
+  AllLink i Nothing = Snapshot x floor c i (receivedIn c i)
+  AllLink i (Request w) = Unit {0}
+  AllLink i (Reply w) = Snapshot x floor c i (w .number)
+
+-- ---- what a client is at, by its state
+
+module _ (extra : ℕ) (x : World) (floor q : ℕ) (c : Client) (doing : Doing) where
   pub record Writing : Type 0 where
     pub setpoints : List ℕ
     pub begin : ℕ
     pub is : doing ≡ writing (maskIn c) setpoints begin
     pub few : countIn c < 256
-    pub bound : (i : ℕ) → Masked i → i < x .servers
-    pub links : (i : ℕ) → i < targets → WriteLink setpoints i (c .link i)
+    pub bound : (i : ℕ) → Masked c i → i < x .servers
+    pub links : (i : ℕ) → i < targets → WriteLink x q c setpoints i (c .link i)
 
   -- State 2. The request: all servers of the mask hold the key. The reply: the WRITE has its tag.
   pub record Stored : Type 0 where
@@ -51,23 +80,17 @@ module _ (extra : ℕ) (x : World) (floor q : ℕ) (c : Client) (doing : Doing) 
     pub begin : ℕ
     pub is : doing ≡ writing (maskIn c) setpoints begin
     pub few : countIn c < 256
-    pub bound : (i : ℕ) → Masked i → i < x .servers
-    pub all : (i : ℕ) → Masked i → Holds i own (getD setpoints i 0)
+    pub bound : (i : ℕ) → Masked c i → i < x .servers
+    pub all : (i : ℕ) → Masked c i → Holds x i (own q c) (getD setpoints i 0)
 
   abbrev pub EnterLink : Content → Type 0
   EnterLink Nothing = ⊥
-  EnterLink (Request w) = (w .key ≡ own) × (w .number ≡ maskIn c) × Stored
+  EnterLink (Request w) = (w .key ≡ own q c) × (w .number ≡ maskIn c) × Stored
   EnterLink (Reply w) = doing ≡ tagged (w .number)
 
   pub record Entering : Type 0 where
     pub others : (i : ℕ) → i < coordinator → c .link i ≡ Nothing
-    pub head : EnterLink (c .link coordinator)
-
-  -- State 3. The reply's number is that of the entries, one more than the last tag.
-  abbrev pub KeysLink : ℕ → Content → Type 0
-  KeysLink deliveries Nothing = ⊥
-  KeysLink deliveries (Request w) = deliveries ≡ 0
-  KeysLink deliveries (Reply w) = (deliveries ≡ 1) × (floor < w .number) × (w .number ≤ suc (x .tags))
+    pub entry : EnterLink (c .link coordinator)
 
   pub record AskingKeys : Type 0 where
     pub begin : ℕ
@@ -76,15 +99,9 @@ module _ (extra : ℕ) (x : World) (floor q : ℕ) (c : Client) (doing : Doing) 
     pub two : extra ≡ 2
     pub low : floor ≤ x .tags
     pub some : 0 < serversIn (maskIn c)
-    pub bound : (i : ℕ) → Masked i → i < x .servers
+    pub bound : (i : ℕ) → Masked c i → i < x .servers
     pub others : (i : ℕ) → i < coordinator → c .link i ≡ Nothing
-    pub head : KeysLink deliveries (c .link coordinator)
-
-  -- State 4. Every request, reply and setpoint is of the value behind the client's tag.
-  abbrev pub GetLink : ℕ → Content → Type 0
-  GetLink i Nothing = Masked i → setpointIn c i ≡ x .value (tagIn c) i
-  GetLink i (Request w) = Holds i (w .key) (x .value (tagIn c) i)
-  GetLink i (Reply w) = w .number ≡ x .value (tagIn c) i
+    pub keys : KeysLink x floor deliveries (c .link coordinator)
 
   pub record Getting : Type 0 where
     pub begin : ℕ
@@ -92,19 +109,10 @@ module _ (extra : ℕ) (x : World) (floor q : ℕ) (c : Client) (doing : Doing) 
     pub is : doing ≡ reading (maskIn c) begin deliveries
     pub low : floor ≤ tagIn c
     pub high : tagIn c ≤ x .tags
-    pub bound : (i : ℕ) → Masked i → i < x .servers
+    pub bound : (i : ℕ) → Masked c i → i < x .servers
     pub count : deliveries + toCome (c .link) ≡ enough extra (maskIn c)
     pub busy : 0 < toCome (c .link)
-    pub links : (i : ℕ) → i < targets → GetLink i (c .link i)
-
-  -- State 5. The first n versions, or entries, hold what the row had when the READ began.
-  abbrev pub Snapshot : ℕ → ℕ → Type 0
-  Snapshot i n = (i ≡ coordinator → (floor < n) × (n ≤ suc (x .tags))) × (Masked i → (n ≤ x .held i) × (x .lookup i (x .key floor i) n ≡ some (x .value floor i)))
-
-  abbrev pub AllLink : ℕ → Content → Type 0
-  AllLink i Nothing = Snapshot i (receivedIn c i)
-  AllLink i (Request w) = Unit {0}
-  AllLink i (Reply w) = Snapshot i (w .number)
+    pub links : (i : ℕ) → i < targets → GetLink x c i (c .link i)
 
   pub record AskingAll : Type 0 where
     pub begin : ℕ
@@ -112,10 +120,10 @@ module _ (extra : ℕ) (x : World) (floor q : ℕ) (c : Client) (doing : Doing) 
     pub is : doing ≡ reading (maskIn c) begin deliveries
     pub two : extra ≡ 2
     pub low : floor ≤ x .tags
-    pub bound : (i : ℕ) → Masked i → i < x .servers
+    pub bound : (i : ℕ) → Masked c i → i < x .servers
     pub count : deliveries + toCome (c .link) ≡ enough extra (maskIn c)
     pub busy : 0 < toCome (c .link)
-    pub links : (i : ℕ) → i < targets → AllLink i (c .link i)
+    pub links : (i : ℕ) → i < targets → AllLink x floor c i (c .link i)
 
   pub record Idle : Type 0 where
     pub is : doing ≡ nothing
@@ -131,7 +139,7 @@ module _ (extra : ℕ) (x : World) (floor q : ℕ) (c : Client) (doing : Doing) 
 
   pub record ClientOk : Type 0 where
     -- no version bears a later key of this client
-    pub latest : (i n v : ℕ) → Holds i (keyOf n q) v → n ≤ countIn c
+    pub latest : (i n v : ℕ) → Holds x i (keyOf n q) v → n ≤ countIn c
     pub activity : Activity
 
 -- At most 16 clients and servers; the key of server i at a tag is held with the value behind that tag.
@@ -154,7 +162,7 @@ pub record Grown (q : ℕ) (x y : World) : Type 0 where
   pub own : (i n : ℕ) → y .lookup i (keyOf n q) (y .held i) ≡ x .lookup i (keyOf n q) (x .held i)
 
 module _ (extra floor q : ℕ) (x y : World) (g : Grown q x y) (c : Client) (d : Doing) where
-  write-frame : (setpoints : List ℕ) (i : ℕ) (l : Content) → WriteLink extra x floor q c d setpoints i l → WriteLink extra y floor q c d setpoints i l
+  write-frame : (setpoints : List ℕ) (i : ℕ) (l : Content) → WriteLink x q c setpoints i l → WriteLink y q c setpoints i l
   write-frame setpoints i Nothing h = λ m. g .own i (countIn c) ∙ h m
   write-frame setpoints i (Request w) h = (h .0, h .1, rw (g .servers) (h .2), g .own i (countIn c) ∙ h .3)
   write-frame setpoints i (Reply w) h = g .own i (countIn c) ∙ h
@@ -166,23 +174,23 @@ module _ (extra floor q : ℕ) (x y : World) (g : Grown q x y) (c : Client) (d :
       (h .0, h .1, record { setpoints = s .setpoints; begin = s .begin; is = s .is; few = s .few; bound = λ i m. rw (g .servers) (s .bound i m); all = λ i m. g .own i (countIn c) ∙ s .all i m })
   enter-frame (Reply w) h = h
 
-  keys-frame : (deliveries : ℕ) (l : Content) → KeysLink extra x floor q c d deliveries l → KeysLink extra y floor q c d deliveries l
+  keys-frame : (deliveries : ℕ) (l : Content) → KeysLink x floor deliveries l → KeysLink y floor deliveries l
   keys-frame deliveries Nothing h = h
   keys-frame deliveries (Request w) h = h
   keys-frame deliveries (Reply w) h = (h .0, h .1, omega (arith, h .2, g .tags))
 
-  get-frame : tagIn c ≤ x .tags → (i : ℕ) (l : Content) → GetLink extra x floor q c d i l → GetLink extra y floor q c d i l
+  get-frame : tagIn c ≤ x .tags → (i : ℕ) (l : Content) → GetLink x c i l → GetLink y c i l
   get-frame b i Nothing h = λ m. h m ∙ sym (g .value (tagIn c) b i)
   get-frame b i (Request w) h = rw (g .value (tagIn c) b i) (g .more i (w .key) _ h)
   get-frame b i (Reply w) h = h ∙ sym (g .value (tagIn c) b i)
 
-  snapshot-frame : floor ≤ x .tags → (i n : ℕ) → Snapshot extra x floor q c d i n → Snapshot extra y floor q c d i n
+  snapshot-frame : floor ≤ x .tags → (i n : ℕ) → Snapshot x floor c i n → Snapshot y floor c i n
   snapshot-frame b i n h = (
     λ e. (h .0 e .0, omega (arith, h .0 e .1, g .tags)),
     λ m. let s = h .1 m in (omega (arith, s .0, g .held i), rw (g .fewer i _ n (s .0), g .key floor b i, g .value floor b i) (s .1)),
   )
 
-  all-frame : floor ≤ x .tags → (i : ℕ) (l : Content) → AllLink extra x floor q c d i l → AllLink extra y floor q c d i l
+  all-frame : floor ≤ x .tags → (i : ℕ) (l : Content) → AllLink x floor c i l → AllLink y floor c i l
   all-frame b i Nothing h = snapshot-frame b i (receivedIn c i) h
   all-frame b i (Request w) h = tt
   all-frame b i (Reply w) h = snapshot-frame b i (w .number) h
@@ -191,7 +199,7 @@ module _ (extra floor q : ℕ) (x y : World) (g : Grown q x y) (c : Client) (d :
   activity-frame (at-rest e a) = at-rest e (record { is = a .is; links = a .links })
   activity-frame (at-writing e a) =
       at-writing e (record { setpoints = a .setpoints; begin = a .begin; is = a .is; few = a .few; bound = λ i m. rw (g .servers) (a .bound i m); links = λ i l. write-frame (a .setpoints) i (c .link i) (a .links i l) })
-  activity-frame (at-entering e a) = at-entering e (record { others = a .others; head = enter-frame (c .link coordinator) (a .head) })
+  activity-frame (at-entering e a) = at-entering e (record { others = a .others; entry = enter-frame (c .link coordinator) (a .entry) })
   activity-frame (at-keys e a) =
       at-keys e (record {
         begin = a .begin;
@@ -202,7 +210,7 @@ module _ (extra floor q : ℕ) (x y : World) (g : Grown q x y) (c : Client) (d :
         some = a .some;
         bound = λ i m. rw (g .servers) (a .bound i m);
         others = a .others;
-        head = keys-frame (a .deliveries) (c .link coordinator) (a .head);
+        keys = keys-frame (a .deliveries) (c .link coordinator) (a .keys);
       })
   activity-frame (at-getting e a) =
       at-getting e (record {

@@ -24,7 +24,7 @@ use Rattle.rules.specs.Common as rules
 use Rattle.rules.specs.Choice.{versionAt, hasVersion, qualifies, chosenTag}
 use Rattle.rules.specs.declared.Arrival.the-variants as arrival
 use Rattle.serial.specs.Steps.{replied}
-use Rattle.serial.specs.History.{changed, Doing, nothing, writing, tagged, reading, History, ended}
+use Rattle.serial.specs.History.{changed, nothing, writing, tagged, History, ended}
 use Rattle.serial.proofs.Places.{changed-same, changed-other, changed-all, changed-both}
 use Rattle.serial.proofs.Owed.{valueAt}
 use Rattle.serial.proofs.HistoryKept.{value-ended}
@@ -61,10 +61,10 @@ module _ (floor : ℕ → ℕ) (p : Press) (h : History) (tied : Tied floor p h)
 
     -- A server acknowledged.
     module _ (a : Writing (h .extra) x (floor q) q c (h .doing q)) where
-      done-link : (j : ℕ) → j < targets → WriteLink (h .extra) x (floor q) q c (h .doing q) (a .setpoints) j (emptied j)
+      done-link : (j : ℕ) → j < targets → WriteLink x q c (a .setpoints) j (emptied j)
       done-link j l =
-          changed-all (c .link) i Nothing (λ j k. j < targets → WriteLink (h .extra) x (floor q) q c (h .doing q) (a .setpoints) j k)
-          (λ m k. let e : Holds (h .extra) x (floor q) q c (h .doing q) i (keyOf (countIn c) q) (getD (a .setpoints) i 0) = rw lk at (a .links i hi) in e)
+          changed-all (c .link) i Nothing (λ j k. j < targets → WriteLink x q c (a .setpoints) j k)
+          (λ m k. let e : Holds x i (keyOf (countIn c) q) (getD (a .setpoints) i 0) = rw lk at (a .links i hi) in e)
           (λ j ne m. a .links j m) j l
 
       pub done-wait-kept : stateIn c ≡ rules.writing → Kept floor h (replied q i (nothingShown arrival.Wait)) (afterwards (withLink c i Nothing))
@@ -76,7 +76,7 @@ module _ (floor : ℕ → ℕ) (p : Press) (h : History) (tied : Tied floor p h)
         })),
       )
 
-      -- the last one: key and mask go to the head, and every server of the mask holds the key
+      -- the last one: key and mask go to the coordinator, and every server of the mask holds the key
       pub done-next-kept : toCome emptied ≡ 0 → (row : ℕ → ℕ) → row stateField ≡ entering → row countField ≡ countIn c → row maskField ≡ maskIn c →
           Kept floor h (replied q i (nothingShown arrival.Next)) (afterwards (clientOf row (changed emptied coordinator (request (keyOf (countIn c) q) (maskIn c)))))
       done-next-kept all row state count mask =
@@ -86,7 +86,7 @@ module _ (floor : ℕ → ℕ) (p : Press) (h : History) (tied : Tied floor p h)
               latest = λ j n v e. omega (arith, okay .latest j n v e, count);
               activity = at-entering state (record {
                 others = λ j l. changed-other emptied coordinator enter j (λ e. omega arith) ∙ all-empty emptied all j (omega arith);
-                head = rw (changed-same emptied coordinator enter) (
+                entry = rw (changed-same emptied coordinator enter) (
                   rw count,
                   rw mask,
                   record {
@@ -102,10 +102,10 @@ module _ (floor : ℕ → ℕ) (p : Press) (h : History) (tied : Tied floor p h)
             })),
           )
         where
-          here : (j : ℕ) → hasServer (maskIn c) j ≡ true → Holds (h .extra) x (floor q) q c (h .doing q) j (keyOf (countIn c) q) (getD (a .setpoints) j 0)
+          here : (j : ℕ) → hasServer (maskIn c) j ≡ true → Holds x j (keyOf (countIn c) q) (getD (a .setpoints) j 0)
           here j m =
               let l : j < targets = omega (arith, a .bound j m) in
-              let e : WriteLink (h .extra) x (floor q) q c (h .doing q) (a .setpoints) j Nothing = rw (all-empty emptied all j l) at (done-link j l) in
+              let e : WriteLink x q c (a .setpoints) j Nothing = rw (all-empty emptied all j l) at (done-link j l) in
               e m
 
     -- A server's setpoint arrived.
@@ -114,16 +114,16 @@ module _ (floor : ℕ → ℕ) (p : Press) (h : History) (tied : Tied floor p h)
       abbrev got : Client
       got = clientOf row emptied
 
-      same-get : (d : Doing) (j : ℕ) → (j ≡ i → ⊥) → (l : Content) → GetLink (h .extra) x (floor q) q c (h .doing q) j l → GetLink (h .extra) x (floor q) q got d j l
-      same-get d j ne Nothing k = λ m. rw (old j ne, tag) (k (rw mask at m))
-      same-get d j ne (Request v) k = rw tag k
-      same-get d j ne (Reply v) k = rw tag k
+      same-get : (j : ℕ) → (j ≡ i → ⊥) → (l : Content) → GetLink x c j l → GetLink x got j l
+      same-get j ne Nothing k = λ m. rw (old j ne, tag) (k (rw mask at m))
+      same-get j ne (Request v) k = rw tag k
+      same-get j ne (Reply v) k = rw tag k
 
-      got-link : (d : Doing) (j : ℕ) → j < targets → GetLink (h .extra) x (floor q) q got d j (emptied j)
-      got-link d j l =
-          changed-all (c .link) i Nothing (λ j k. j < targets → GetLink (h .extra) x (floor q) q got d j k)
+      got-link : (j : ℕ) → j < targets → GetLink x got j (emptied j)
+      got-link j l =
+          changed-all (c .link) i Nothing (λ j k. j < targets → GetLink x got j k)
           (λ k m. let e : w .number ≡ x .value (tagIn c) i = rw lk at (a .links i hi) in rw (new, tag) e)
-          (λ j ne k. same-get d j ne (c .link j) (a .links j k)) j l
+          (λ j ne k. same-get j ne (c .link j) (a .links j k)) j l
 
       pub got-wait-kept : 0 < toCome emptied → row stateField ≡ askingSetpoints → Kept floor h (replied q i (nothingShown arrival.Wait)) (afterwards got)
       got-wait-kept left state = (
@@ -139,7 +139,7 @@ module _ (floor : ℕ → ℕ) (p : Press) (h : History) (tied : Tied floor p h)
             bound = λ j m. a .bound j (rw mask at m);
             count = rw mask (omega (arith, a .count, come));
             busy = left;
-            links = got-link (reading (maskIn c) (a .begin) (suc (a .deliveries)));
+            links = got-link;
           });
         })),
       )
@@ -167,25 +167,25 @@ module _ (floor : ℕ → ℕ) (p : Press) (h : History) (tied : Tied floor p h)
           here : (j : ℕ) → hasServer (maskIn c) j ≡ true → row (setpointsField + j) ≡ x .value (tagIn c) j
           here j m =
               let l : j < targets = omega (arith, a .bound j m) in
-              let e : GetLink (h .extra) x (floor q) q got (h .doing q) j Nothing = rw (all-empty emptied all j l) at (got-link (h .doing q) j l) in
+              let e : GetLink x got j Nothing = rw (all-empty emptied all j l) at (got-link j l) in
               rw tag at (e (rw mask m))
 
-    -- C: a server or the head told how much it holds.
+    -- C: a server or the coordinator told how much it holds.
     module _ (a : AskingAll (h .extra) x (floor q) q c (h .doing q)) (row : ℕ → ℕ) (mask : row maskField ≡ maskIn c)
         (new : row (receivedField + i) ≡ w .number) (old : (j : ℕ) → (j ≡ i → ⊥) → row (receivedField + j) ≡ receivedIn c j) where
       abbrev told : Client
       told = clientOf row emptied
 
-      same-all : (d : Doing) (j : ℕ) → (j ≡ i → ⊥) → (l : Content) → AllLink (h .extra) x (floor q) q c (h .doing q) j l → AllLink (h .extra) x (floor q) q told d j l
-      same-all d j ne Nothing k = rw (old j ne) (k .0, λ m. k .1 (rw mask at m))
-      same-all d j ne (Request v) k = tt
-      same-all d j ne (Reply v) k = (k .0, λ m. k .1 (rw mask at m))
+      same-all : (j : ℕ) → (j ≡ i → ⊥) → (l : Content) → AllLink x (floor q) c j l → AllLink x (floor q) told j l
+      same-all j ne Nothing k = rw (old j ne) (k .0, λ m. k .1 (rw mask at m))
+      same-all j ne (Request v) k = tt
+      same-all j ne (Reply v) k = (k .0, λ m. k .1 (rw mask at m))
 
-      told-link : (d : Doing) (j : ℕ) → j < targets → AllLink (h .extra) x (floor q) q told d j (emptied j)
-      told-link d j l =
-          changed-all (c .link) i Nothing (λ j k. j < targets → AllLink (h .extra) x (floor q) q told d j k)
-          (λ k. let e : Snapshot (h .extra) x (floor q) q c (h .doing q) i (w .number) = rw lk at (a .links i hi) in rw new (e .0, λ m. e .1 (rw mask at m)))
-          (λ j ne k. same-all d j ne (c .link j) (a .links j k)) j l
+      told-link : (j : ℕ) → j < targets → AllLink x (floor q) told j (emptied j)
+      told-link j l =
+          changed-all (c .link) i Nothing (λ j k. j < targets → AllLink x (floor q) told j k)
+          (λ k. let e : Snapshot x (floor q) c i (w .number) = rw lk at (a .links i hi) in rw new (e .0, λ m. e .1 (rw mask at m)))
+          (λ j ne k. same-all j ne (c .link j) (a .links j k)) j l
 
       pub told-wait-kept : 0 < toCome emptied → row stateField ≡ askingAll → row countField ≡ countIn c → Kept floor h (replied q i (nothingShown arrival.Wait)) (afterwards told)
       told-wait-kept left state count = (
@@ -201,16 +201,16 @@ module _ (floor : ℕ → ℕ) (p : Press) (h : History) (tied : Tied floor p h)
             bound = λ j m. a .bound j (rw mask at m);
             count = rw mask (omega (arith, a .count, come));
             busy = left;
-            links = told-link (reading (maskIn c) (a .begin) (suc (a .deliveries)));
+            links = told-link;
           });
         })),
       )
 
       -- All replies are in: the chosen tag lies at or behind the floor, within the log, and each server's setpoint at it is the value behind it.
       module _ (all : toCome emptied ≡ 0) (received : ℕ → ℕ) (same : (j : ℕ) → j < targets → received j ≡ row (receivedField + j)) where
-        snapshot : (j : ℕ) → j < targets → Snapshot (h .extra) x (floor q) q c (h .doing q) j (received j)
+        snapshot : (j : ℕ) → j < targets → Snapshot x (floor q) c j (received j)
         snapshot j l =
-            let e : AllLink (h .extra) x (floor q) q told (h .doing q) j Nothing = rw (all-empty emptied all j l) at (told-link (h .doing q) j l) in
+            let e : AllLink x (floor q) told j Nothing = rw (all-empty emptied all j l) at (told-link j l) in
             rw (same j l) (e .0, λ m. e .1 (rw mask m))
 
         abbrev tag : ℕ
@@ -219,8 +219,8 @@ module _ (floor : ℕ → ℕ) (p : Press) (h : History) (tied : Tied floor p h)
         abbrev fits : ℕ → Bool
         fits t = qualifies (s .keys) (s .log) (maskIn c) received (s .servers) t
 
-        head : (floor q < received coordinator) × (received coordinator ≤ suc (h .tags))
-        head = snapshot coordinator (omega arith) .0 refl
+        entries : (floor q < received coordinator) × (received coordinator ≤ suc (h .tags))
+        entries = snapshot coordinator (omega arith) .0 refl
 
         floor-fits : fits (floor q) ≡ true
         floor-fits =
@@ -230,13 +230,13 @@ module _ (floor : ℕ → ℕ) (p : Press) (h : History) (tied : Tied floor p h)
             (λ e. rw e))
 
         tag-fits : fits tag ≡ true
-        tag-fits = last-passes fits (received coordinator) (floor q) (head .0) floor-fits
+        tag-fits = last-passes fits (received coordinator) (floor q) (entries .0) floor-fits
 
         low : floor q ≤ tag
-        low = last-most fits (received coordinator) (floor q) (head .0) floor-fits
+        low = last-most fits (received coordinator) (floor q) (entries .0) floor-fits
 
         high : tag ≤ h .tags
-        high = omega (arith, last-below fits (received coordinator) (omega (arith, head .0)), head .1)
+        high = omega (arith, last-below fits (received coordinator) (omega (arith, entries .0)), entries .1)
 
         pub chosen-value : (j : ℕ) → hasServer (maskIn c) j ≡ true → versionWord (s .values) j (versionAt (s .keys) (s .log) j tag (received j)) ≡ x .value tag j
         chosen-value j m =
@@ -267,15 +267,15 @@ module _ (floor : ℕ → ℕ) (p : Press) (h : History) (tied : Tied floor p h)
               ),
         )
 
-  -- The head's reply: nothing is on the other links.
-  head-empty : (j : ℕ) → j < targets → ((j : ℕ) → j < coordinator → c .link j ≡ Nothing) → changed (c .link) coordinator Nothing j ≡ Nothing
-  head-empty j l others = changed-all (c .link) coordinator Nothing (λ j k. j < targets → k ≡ Nothing) (λ m. refl) (λ j ne m. others j (omega arith)) j l
+  -- The coordinator's reply: nothing is on the other links.
+  coordinator-empty : (j : ℕ) → j < targets → ((j : ℕ) → j < coordinator → c .link j ≡ Nothing) → changed (c .link) coordinator Nothing j ≡ Nothing
+  coordinator-empty j l others = changed-all (c .link) coordinator Nothing (λ j k. j < targets → k ≡ Nothing) (λ m. refl) (λ j ne m. others j (omega arith)) j l
 
   -- The tag's arrival ends the WRITE. Its end is no part of the values.
   pub entered-kept : (w : Contents) → c .link coordinator ≡ Reply w → Entering (h .extra) x (floor q) q c (h .doing q) → (row : ℕ → ℕ) → row stateField ≡ idle → row countField ≡ countIn c →
       Kept floor h (replied q coordinator (nothingShown (arrival.Write (w .number)))) (afterwards (clientOf row (changed (c .link) coordinator Nothing)))
   entered-kept w lk a row state count =
-      let is : h .doing q ≡ tagged (w .number) = rw lk at (a .head) in (
+      let is : h .doing q ≡ tagged (w .number) = rw lk at (a .entry) in (
         is,
         rw is record {
           method = tied .method;
@@ -283,7 +283,7 @@ module _ (floor : ℕ → ℕ) (p : Press) (h : History) (tied : Tied floor p h)
           room = tied .room;
           value = λ tag l j k. rw (value-ended (h .initial) (h .write) (w .number) (h .clock) tag j) (tied .value tag l j k);
           clients = changed-both (λ j b d. j < 16 → ClientOk (h .extra) y (floor j) j b d) (p .client) (h .doing) q new nothing
-              (λ l. record { latest = λ j n v e. omega (arith, okay .latest j n v e, count); activity = at-rest state (record { is = refl; links = λ j k. head-empty j k (a .others) }) })
+              (λ l. record { latest = λ j n v e. omega (arith, okay .latest j n v e, count); activity = at-rest state (record { is = refl; links = λ j k. coordinator-empty j k (a .others) }) })
               (λ j ne l. client-frame (h .extra) (floor j) j x y (grown j) (p .client j) (h .doing j) (tied .clients j l));
         },
       )
@@ -311,23 +311,23 @@ module _ (floor : ℕ → ℕ) (p : Press) (h : History) (tied : Tied floor p h)
       (row : ℕ → ℕ) → row stateField ≡ askingSetpoints → row countField ≡ countIn c → row maskField ≡ maskIn c → row tagField ≡ w .number - 1 →
       Kept floor h (replied q coordinator (nothingShown arrival.Next)) (afterwards (clientOf row (sends (maskIn c) (λ i. request (latestKey (s .log) i (w .number - 1)) 0))))
   keys-kept w lk a row state count mask tag =
-      let head : (a .deliveries ≡ 1) × (floor q < w .number) × (w .number ≤ suc (h .tags)) = rw lk at (a .head) in
+      let keys : (a .deliveries ≡ 1) × (floor q < w .number) × (w .number ≤ suc (h .tags)) = rw lk at (a .keys) in
       let gets : ℕ → Content = λ i. request (latestKey (s .log) i (w .number - 1)) 0 in
       let total : toCome (sends (maskIn c) gets) ≡ 2 * serversIn (maskIn c) = sends-come (maskIn c) gets (λ i. refl) (no-coordinator (maskIn c) (s .servers) few (a .bound)) in (
-        rw (a .is) (omega (arith, a .two, a .some, head .0)),
+        rw (a .is) (omega (arith, a .two, a .some, keys .0)),
         rw (a .is) (turned-tied floor p h tied step writes reads q (clientOf row (sends (maskIn c) gets)) _ (record {
           latest = λ j n v e. omega (arith, okay .latest j n v e, count);
           activity = at-getting state (record {
             begin = a .begin;
             deliveries = suc (a .deliveries);
             is = rw mask;
-            low = rw tag (omega (arith, head .1));
-            high = rw tag (omega (arith, head .2));
+            low = rw tag (omega (arith, keys .1));
+            high = rw tag (omega (arith, keys .2));
             bound = λ j m. a .bound j (rw mask at m);
-            count = rw mask (omega (arith, total, a .two, head .0));
+            count = rw mask (omega (arith, total, a .two, keys .0));
             busy = omega (arith, total, a .some);
             links = λ j l. by-test (hasServer (maskIn c) j)
-                (λ e. rw (sends-masked (maskIn c) gets j e, tag) (tied .value (w .number - 1) (omega (arith, head .2)) j (a .bound j e)))
+                (λ e. rw (sends-masked (maskIn c) gets j e, tag) (tied .value (w .number - 1) (omega (arith, keys .2)) j (a .bound j e)))
                 (λ e. rw (sends-other (maskIn c) gets j e) (λ m. absurd (not-both (rw mask at m) e)));
           });
         })),

@@ -270,7 +270,7 @@ module _ (floor : ℕ → ℕ) (t : Tables) (h : History) (tied : Tied floor (vi
             ∙ ap (λ (f : ℕ → ℕ). f (setpointsField + j)) (one-word (setpointsField + i) (w .number) (omega arith))
             ∙ sym (changed-other row stateField idle (setpointsField + j) (λ e. omega arith))
 
-    -- C: how much a server or the head holds arrived
+    -- C: how much a server or the coordinator holds arrived
     all-fair : stateIn c ≡ askingAll → Does floor (view t) h q AskingAll → Okay (onAll w q i t)
     unfolding onAll within
     all-fair state a =

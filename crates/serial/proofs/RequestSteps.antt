@@ -132,16 +132,16 @@ module _ (floor : ℕ → ℕ) (t : Tables) (h : History) (tied : Tied floor (vi
         let there : c .link coordinator ≡ Request w = ap (c .link) (sym at) ∙ link in
         let waiting : due c ≡ 1 = rw (state, there) in
         let room : entriesOf t < logPlaces = omega (arith, entry-room (view t) budget q (in-range t q ready) waiting, ready .sound .scalars .writes) in
-        let head = rw there at (a .head) in
+        let entry = rw there at (a .entry) in
         rw (lt-ltb (entriesOf t) logPlaces room)
         (replied-fair (set (t .counts) entriesField (entriesOf t + 1)) (t .keys) (t .values) (putEntry (t .log) (entriesOf t) (w .key) (w .number)) (taggedRecord (recordOf t q) (entriesOf t) (t .writes)) (entriesOf t)
         (rw (length-set (t .counts) entriesField (entriesOf t + 1)) counts-long) (getD-set-other (t .counts) entriesField stepField (entriesOf t + 1) 0 (λ e. omega arith))
         (entryMore (sharedOf t) (w .key) (w .number))
         (shared-entries (t .counts) (entriesOf t + 1) _ _ _ counts-long ∙ rw (add-one (entriesOf t)))
-        (rw at (enter-kept floor (view t) h tied (few t q ready) q (in-range t q ready) (stepOf t + 1) (writesOf t) (readsOf t) w state a (head .0) (head .1) (head .2) (next-entry t (ready .sound) room)))
+        (rw at (enter-kept floor (view t) h tied (few t q ready) q (in-range t q ready) (stepOf t + 1) (writesOf t) (readsOf t) w state a (entry .0) (entry .1) (entry .2) (next-entry t (ready .sound) room)))
         (rw at (enter-budget (view t) budget q (in-range t q ready) w there state (w .key) (w .number) (entriesOf t))))
 
-    -- the head or a server tells how much it holds
+    -- the coordinator or a server tells how much it holds
     which-fair : i ≡ coordinator → stateIn c ≡ askingKeys → Does floor (view t) h q AskingKeys → Okay (onWhichKeys q i t)
     unfolding onWhichKeys
     which-fair at state a =

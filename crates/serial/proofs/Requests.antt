@@ -124,14 +124,14 @@ module _ (floor : ℕ → ℕ) (p : Press) (h : History) (tied : Tied floor p h)
       own = λ j n. other-key (keyOf n r) (λ e. ne (omega (arith, word-is))) j;
     }
 
-    write-link : (j : ℕ) → (j ≡ i → ⊥) → (l : Content) → WriteLink (h .extra) x (floor q) q c (h .doing q) (a .setpoints) j l → WriteLink (h .extra) y (floor q) q c (h .doing q) (a .setpoints) j l
+    write-link : (j : ℕ) → (j ≡ i → ⊥) → (l : Content) → WriteLink x q c (a .setpoints) j l → WriteLink y q c (a .setpoints) j l
     write-link j ne l k = go l k
       where
         same : y .lookup j (keyOf (countIn c) q) (y .held j) ≡ x .lookup j (keyOf (countIn c) q) (x .held j)
         same = rw (changed-other (s .held) i (suc (s .held i)) j ne)
             (find-before (s .keys) (s .values) i (s .held i) word (w .number) keyed valued room j (s .held j) (keyOf (countIn c) q) (λ e. absurd (ne e)) (tied .room j))
 
-        go : (l : Content) → WriteLink (h .extra) x (floor q) q c (h .doing q) (a .setpoints) j l → WriteLink (h .extra) y (floor q) q c (h .doing q) (a .setpoints) j l
+        go : (l : Content) → WriteLink x q c (a .setpoints) j l → WriteLink y q c (a .setpoints) j l
         go Nothing k = λ m. same ∙ k m
         go (Request w) k = (k .0, k .1, k .2, same ∙ k .3)
         go (Reply w) k = same ∙ k
@@ -150,7 +150,7 @@ module _ (floor : ℕ → ℕ) (p : Press) (h : History) (tied : Tied floor p h)
         is = a .is;
         few = a .few;
         bound = a .bound;
-        links = λ j l. changed-all (c .link) i (reply 0) (λ j l. j < targets → WriteLink (h .extra) y (floor q) q c (h .doing q) (a .setpoints) j l) (λ k. here) (λ j ne k. write-link j ne (c .link j) (a .links j k)) j l;
+        links = λ j l. changed-all (c .link) i (reply 0) (λ j l. j < targets → WriteLink y q c (a .setpoints) j l) (λ k. here) (λ j ne k. write-link j ne (c .link j) (a .links j k)) j l;
       });
     }
 
@@ -247,7 +247,7 @@ module _ (floor : ℕ → ℕ) (p : Press) (h : History) (tied : Tied floor p h)
               latest = okay .latest;
               activity = at-entering state (record {
                 others = λ i k. changed-other (c .link) coordinator (reply (s .entries)) i (λ e. omega arith) ∙ a .others i k;
-                head = rw (changed-same (c .link) coordinator (reply (s .entries))) (rw (tied .entries));
+                entry = rw (changed-same (c .link) coordinator (reply (s .entries))) (rw (tied .entries));
               });
             })
             (λ j ne l. client-frame (h .extra) (floor j) j x z (entry-grown j) (p .client j) (h .doing j) (tied .clients j l));
@@ -267,11 +267,11 @@ module _ (floor : ℕ → ℕ) (p : Press) (h : History) (tied : Tied floor p h)
           by-test (atCoordinator i) (λ e. rw (e, is) t) (λ e. rw (e, is) t),
         )
 
-  -- B's head answers with the number of its entries.
+  -- B's coordinator answers with the number of its entries.
   pub which-keys-kept : (w : Contents) → c .link coordinator ≡ Request w → stateIn c ≡ askingKeys → AskingKeys (h .extra) x (floor q) q c (h .doing q) →
       Kept floor h (requested q coordinator Ok) (pressOf (renumbered step writes reads s) (changed (p .client) q (withLink c coordinator (reply (s .entries)))))
   which-keys-kept w lk state a =
-      let none-yet : a .deliveries ≡ 0 = rw lk at (a .head) in
+      let none-yet : a .deliveries ≡ 0 = rw lk at (a .keys) in
       read-kept coordinator (omega arith) w lk (s .entries) (maskIn c) (a .begin) (a .deliveries) (a .is) (omega (arith, a .two, a .some)) (record {
         latest = okay .latest;
         activity = at-keys state (record {
@@ -283,7 +283,7 @@ module _ (floor : ℕ → ℕ) (p : Press) (h : History) (tied : Tied floor p h)
           some = a .some;
           bound = a .bound;
           others = λ i k. changed-other (c .link) coordinator (reply (s .entries)) i (λ e. omega arith) ∙ a .others i k;
-          head = rw (changed-same (c .link) coordinator (reply (s .entries))) (omega arith, omega (arith, a .low, tied .entries), omega (arith, tied .entries));
+          keys = rw (changed-same (c .link) coordinator (reply (s .entries))) (omega arith, omega (arith, a .low, tied .entries), omega (arith, tied .entries));
         });
       })
 
@@ -305,16 +305,11 @@ module _ (floor : ℕ → ℕ) (p : Press) (h : History) (tied : Tied floor p h)
           bound = a .bound;
           count = omega (arith, a .count, come);
           busy = left;
-          links = λ j l. changed-all (c .link) i (reply v) (λ j k. j < targets → GetLink (h .extra) x (floor q) q c (reading (maskIn c) (a .begin) (suc (a .deliveries))) j k) (λ m. refl) (λ j ne m. same j (c .link j) (a .links j m)) j l;
+          links = λ j l. changed-all (c .link) i (reply v) (λ j k. j < targets → GetLink x c j k) (λ m. refl) (λ j ne m. a .links j m) j l;
         });
       })
-    where
-      same : (j : ℕ) (l : Content) → GetLink (h .extra) x (floor q) q c (h .doing q) j l → GetLink (h .extra) x (floor q) q c (reading (maskIn c) (a .begin) (suc (a .deliveries))) j l
-      same j Nothing k = k
-      same j (Request w) k = k
-      same j (Reply w) k = k
 
-  -- C: how much a server or the head holds at the moment of answering.
+  -- C: how much a server or the coordinator holds at the moment of answering.
   abbrev pub holding : ℕ → ℕ
   holding i = cond (eqb i coordinator) (s .entries) (s .held i)
 
@@ -335,16 +330,11 @@ module _ (floor : ℕ → ℕ) (p : Press) (h : History) (tied : Tied floor p h)
           bound = a .bound;
           count = omega (arith, a .count, come);
           busy = left;
-          links = λ j l. changed-all (c .link) i (reply n) (λ j k. j < targets → AllLink (h .extra) x (floor q) q c (reading (maskIn c) (a .begin) (suc (a .deliveries))) j k) (λ m. snapshot) (λ j ne m. same j (c .link j) (a .links j m)) j l;
+          links = λ j l. changed-all (c .link) i (reply n) (λ j k. j < targets → AllLink x (floor q) c j k) (λ m. snapshot) (λ j ne m. a .links j m) j l;
         });
       })
     where
-      same : (j : ℕ) (l : Content) → AllLink (h .extra) x (floor q) q c (h .doing q) j l → AllLink (h .extra) x (floor q) q c (reading (maskIn c) (a .begin) (suc (a .deliveries))) j l
-      same j Nothing k = k
-      same j (Request w) k = k
-      same j (Reply w) k = k
-
-      snapshot : Snapshot (h .extra) x (floor q) q c (reading (maskIn c) (a .begin) (suc (a .deliveries))) i (holding i)
+      snapshot : Snapshot x (floor q) c i (holding i)
       snapshot =
           by-test (eqb i coordinator)
           (λ e. rw e (λ d. (omega (arith, a .low, tied .entries), omega (arith, tied .entries)), λ m. let z : ⊥ = omega (arith, a .bound i m, eqb-true i coordinator e) in absurd z))

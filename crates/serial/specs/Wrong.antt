@@ -134,7 +134,7 @@ orderly =
     beginning-write 0 1 (1800 ∷ 45 ∷ []) ∷ request 0 0 ∷ reply 0 0 ∷ request 0 16 ∷ reply 0 16 ∷
     beginning-read 1 3 ∷ request 1 16 ∷ reply 1 16 ∷ request 1 0 ∷ reply 1 0 ∷ request 1 1 ∷ reply 1 1 ∷ []
 
--- Under C, a WRITE of both servers that the head has before server 1, and then a READ of both.
+-- Under C, a WRITE of both servers that the coordinator has before server 1, and then a READ of both.
 unfoldable pub hasty : List Step
 hasty =
     beginning-write 0 3 (1800 ∷ 45 ∷ []) ∷ request 0 0 ∷ reply 0 0 ∷ request 0 16 ∷ reply 0 16 ∷
