@@ -9,16 +9,16 @@ use Rattle.schedule.specs.Decimal.{decimal, spacedAll}
 use Rattle.schedule.specs.DecimalLaws.{decimal-one, decimal-more, spaced-more}
 use Rattle.ranges.specs.Turns.{turns-none, turns-more}
 use Rattle.keys.specs.Masks.{hasServer}
-use Rattle.printing.specs.Texts.{spaced, pairText, shownText, shownBelow, endText}
+use Rattle.printing.specs.Texts.{spaced, pairText, serverText, serversBelow, endText}
 use Rattle.printing.specs.Printed.{Printed}
 use Rattle.printing.specs.PrintedLaws.{printed-none, printed-then}
 
 -- the text of a server, by what was asked of the mask
 module _ (mask : ℕ) (setpoints : List ℕ) (server : ℕ) {has : Bool} (m : has ≡ hasServer mask server) where
-  pub server-shown : has ≡ true → shownText mask setpoints server ≡ pairText server (getD setpoints server 0)
+  pub server-shown : has ≡ true → serverText mask setpoints server ≡ pairText server (getD setpoints server 0)
   server-shown e = rw (← m, e)
 
-  pub server-passed : has ≡ false → shownText mask setpoints server ≡ []
+  pub server-passed : has ≡ false → serverText mask setpoints server ≡ []
   server-passed e = rw (← m, e)
 
 -- the text of an end
@@ -47,8 +47,8 @@ module _ (n : ℕ) (b : n < 18446744073709551616) (h : 10 ≤ n) where
   printed-last out at k p q = rw (decimal-more n b h) (printed-then out (decimal (n / 10)) ((48 + n % 10) ∷ []) at k p q)
 
 -- one server more
-pub shown-more : (mask : ℕ) (setpoints : List ℕ) (n : ℕ) → shownBelow mask setpoints (n + 1) ≡ shownBelow mask setpoints n ++ shownText mask setpoints n
-shown-more mask setpoints n = sym (turns-more (λ server text. text ++ shownText mask setpoints server) n [] refl refl)
+pub shown-more : (mask : ℕ) (setpoints : List ℕ) (n : ℕ) → serversBelow mask setpoints (n + 1) ≡ serversBelow mask setpoints n ++ serverText mask setpoints n
+shown-more mask setpoints n = sym (turns-more (λ server text. text ++ serverText mask setpoints server) n [] refl refl)
 
 -- printing a row of numbers, one by one
 module _ (out : List ℕ) (at : ℕ) (h : at ≤ length out) where
@@ -62,9 +62,9 @@ module _ (out : List ℕ) (at : ℕ) (h : at ≤ length out) where
 
   -- printing the setpoints of a mask, server by server
   module _ (mask : ℕ) (setpoints : List ℕ) where
-    pub printed-no-server : Printed out at (shownBelow mask setpoints 0) at out
-    printed-no-server = rw (← turns-none (λ server text. text ++ shownText mask setpoints server) []) (printed-none out at h)
+    pub printed-no-server : Printed out at (serversBelow mask setpoints 0) at out
+    printed-no-server = rw (← turns-none (λ server text. text ++ serverText mask setpoints server) []) (printed-none out at h)
 
     pub printed-server : (n : ℕ) {left last : List ℕ} {next end : ℕ}
-        → Printed out at (shownBelow mask setpoints n) next left → Printed left next (shownText mask setpoints n) end last → Printed out at (shownBelow mask setpoints (n + 1)) end last
-    printed-server n p q = rw (shown-more mask setpoints n) (printed-then out (shownBelow mask setpoints n) (shownText mask setpoints n) at h p q)
+        → Printed out at (serversBelow mask setpoints n) next left → Printed left next (serverText mask setpoints n) end last → Printed out at (serversBelow mask setpoints (n + 1)) end last
+    printed-server n p q = rw (shown-more mask setpoints n) (printed-then out (serversBelow mask setpoints n) (serverText mask setpoints n) at h p q)

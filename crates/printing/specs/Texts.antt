@@ -19,12 +19,12 @@ abbrev pub pairText : ℕ → ℕ → List ℕ
 pairText server setpoint = (spaced server ++ (61 ∷ [])) ++ decimal setpoint
 
 -- a server's, where the mask has it
-abbrev pub shownText : ℕ → List ℕ → ℕ → List ℕ
-shownText mask setpoints server = cond (hasServer mask server) (pairText server (getD setpoints server 0)) []
+abbrev pub serverText : ℕ → List ℕ → ℕ → List ℕ
+serverText mask setpoints server = cond (hasServer mask server) (pairText server (getD setpoints server 0)) []
 
 -- those of the servers below n, rising
-abbrev pub shownBelow : ℕ → List ℕ → ℕ → List ℕ
-shownBelow mask setpoints n = turns (λ server text. text ++ shownText mask setpoints server) n []
+abbrev pub serversBelow : ℕ → List ℕ → ℕ → List ℕ
+serversBelow mask setpoints n = turns (λ server text. text ++ serverText mask setpoints server) n []
 
 -- ` ok`, ` wait`, ` next`, ` write TAG`, ` read TAG` with the setpoints of the mask's servers, ` no NUMBER`
 abbrev pub wordText : Word → ℕ → List ℕ → List ℕ
@@ -32,7 +32,7 @@ wordText Ok mask setpoints = 32 ∷ 111 ∷ 107 ∷ []
 wordText Wait mask setpoints = 32 ∷ 119 ∷ 97 ∷ 105 ∷ 116 ∷ []
 wordText Next mask setpoints = 32 ∷ 110 ∷ 101 ∷ 120 ∷ 116 ∷ []
 wordText (Write tag) mask setpoints = (32 ∷ 119 ∷ 114 ∷ 105 ∷ 116 ∷ 101 ∷ []) ++ spaced tag
-wordText (Read tag) mask setpoints = ((32 ∷ 114 ∷ 101 ∷ 97 ∷ 100 ∷ []) ++ spaced tag) ++ shownBelow mask setpoints 16
+wordText (Read tag) mask setpoints = ((32 ∷ 114 ∷ 101 ∷ 97 ∷ 100 ∷ []) ++ spaced tag) ++ serversBelow mask setpoints 16
 wordText (No number) mask setpoints = (32 ∷ 110 ∷ 111 ∷ []) ++ spaced number
 
 -- the line that answers the line of a number

@@ -3,8 +3,9 @@ ghost use Prim.Native.Nat.{_+_, _*_, _≤_, _<_};
 ghost use mathlib.Core.List.{[], _∷_, _++_};
 ghost use lib.ListN.{length};
 ghost use Rattle.schedule.specs.Decimal.{decimal, spacedAll};
-ghost use Rattle.printing.specs.Texts.{spaced, pairText, shownText, shownBelow, wordText, answerText, endText, writeText, readText};
+ghost use Rattle.printing.specs.Texts.{spaced, pairText, serverText, serversBelow, wordText, answerText, endText, writeText, readText};
 ghost use Rattle.printing.specs.Printed.{Printed};
+ghost use Rattle.printing.specs.Sizes.{spacedMost, pairMost, shownMost, wordMost, answerMost, recordMost};
 
 // One byte.
 fn put_byte(byte: u8, out: &mut [u8], at: usize) -> usize
@@ -43,8 +44,8 @@ fn print_bytes(text: &[u8], out: &mut [u8], at: usize) -> usize
 
 // A number behind one space.
 fn print_spaced(number: u32, out: &mut [u8], at: usize) -> usize
-    requires { ⌜ at + 11 ≤ length (now out) ⌝ }
-    ensures { λ r. ⌜ Printed (now (out .entry)) at (spaced number) r (now (out .exit)) × (r ≤ at + 11) ⌝ }
+    requires { ⌜ at + spacedMost ≤ length (now out) ⌝ }
+    ensures { λ r. ⌜ Printed (now (out .entry)) at (spaced number) r (now (out .exit)) × (r ≤ at + spacedMost) ⌝ }
 {
     let next = put_byte(b' ', out, at);
     print_decimal(number as u64, out, next)
@@ -52,8 +53,8 @@ fn print_spaced(number: u32, out: &mut [u8], at: usize) -> usize
 
 // Some numbers, each behind one space.
 fn print_numbers(numbers: &[u32], out: &mut [u8], at: usize) -> usize
-    requires { ⌜ at + 11 * length (now numbers) ≤ length (now out) ⌝ }
-    ensures { λ r. ⌜ Printed (now (out .entry)) at (spacedAll (now (numbers .entry))) r (now (out .exit)) × (r ≤ at + 11 * length (now (numbers .entry))) ⌝ }
+    requires { ⌜ at + spacedMost * length (now numbers) ≤ length (now out) ⌝ }
+    ensures { λ r. ⌜ Printed (now (out .entry)) at (spacedAll (now (numbers .entry))) r (now (out .exit)) × (r ≤ at + spacedMost * length (now (numbers .entry))) ⌝ }
 {
     let mut next = at;
     let mut i = 0;
@@ -66,8 +67,8 @@ fn print_numbers(numbers: &[u32], out: &mut [u8], at: usize) -> usize
 
 // A server with its setpoint.
 fn print_pair(server: u32, setpoint: u32, out: &mut [u8], at: usize) -> usize
-    requires { ⌜ (server < 16) × (at + 14 ≤ length (now out)) ⌝ }
-    ensures { λ r. ⌜ Printed (now (out .entry)) at (pairText server setpoint) r (now (out .exit)) × (r ≤ at + 14) ⌝ }
+    requires { ⌜ (server < 16) × (at + pairMost ≤ length (now out)) ⌝ }
+    ensures { λ r. ⌜ Printed (now (out .entry)) at (pairText server setpoint) r (now (out .exit)) × (r ≤ at + pairMost) ⌝ }
 {
     let behind = print_spaced(server, out, at);
     let next = put_byte(b'=', out, behind);
@@ -75,9 +76,9 @@ fn print_pair(server: u32, setpoint: u32, out: &mut [u8], at: usize) -> usize
 }
 
 // A server with its setpoint, where the mask has it.
-fn print_shown(mask: u32, setpoints: &[u32], server: usize, out: &mut [u8], at: usize) -> usize
-    requires { ⌜ ((server < 16) × (server < length (now setpoints))) × (at + 14 ≤ length (now out)) ⌝ }
-    ensures { λ r. ⌜ Printed (now (out .entry)) at (shownText mask (now (setpoints .entry)) server) r (now (out .exit)) × (r ≤ at + 14) ⌝ }
+fn print_server(mask: u32, setpoints: &[u32], server: usize, out: &mut [u8], at: usize) -> usize
+    requires { ⌜ ((server < 16) × (server < length (now setpoints))) × (at + pairMost ≤ length (now out)) ⌝ }
+    ensures { λ r. ⌜ Printed (now (out .entry)) at (serverText mask (now (setpoints .entry)) server) r (now (out .exit)) × (r ≤ at + pairMost) ⌝ }
 {
     if keys::has_server(mask, server) {
         return print_pair(server as u32, setpoints[server], out, at);
@@ -87,13 +88,13 @@ fn print_shown(mask: u32, setpoints: &[u32], server: usize, out: &mut [u8], at: 
 
 // The servers of a mask, rising, each with its setpoint.
 fn print_setpoints(mask: u32, setpoints: &[u32], out: &mut [u8], at: usize) -> usize
-    requires { ⌜ (16 ≤ length (now setpoints)) × (at + 224 ≤ length (now out)) ⌝ }
-    ensures { λ r. ⌜ Printed (now (out .entry)) at (shownBelow mask (now (setpoints .entry)) 16) r (now (out .exit)) × (r ≤ at + 224) ⌝ }
+    requires { ⌜ (16 ≤ length (now setpoints)) × (at + shownMost ≤ length (now out)) ⌝ }
+    ensures { λ r. ⌜ Printed (now (out .entry)) at (serversBelow mask (now (setpoints .entry)) 16) r (now (out .exit)) × (r ≤ at + shownMost) ⌝ }
 {
     let mut next = at;
     let mut server = 0;
     while server < 16 {
-        next = print_shown(mask, setpoints, server, out, next);
+        next = print_server(mask, setpoints, server, out, next);
         server += 1;
     }
     next
@@ -101,8 +102,8 @@ fn print_setpoints(mask: u32, setpoints: &[u32], out: &mut [u8], at: usize) -> u
 
 // A word, and a tag or a number behind it.
 fn print_tagged(text: &[u8], tag: u32, out: &mut [u8], at: usize) -> usize
-    requires { ⌜ at + length (now text) + 11 ≤ length (now out) ⌝ }
-    ensures { λ r. ⌜ Printed (now (out .entry)) at (now (text .entry) ++ spaced tag) r (now (out .exit)) × (r ≤ at + length (now (text .entry)) + 11) ⌝ }
+    requires { ⌜ at + length (now text) + spacedMost ≤ length (now out) ⌝ }
+    ensures { λ r. ⌜ Printed (now (out .entry)) at (now (text .entry) ++ spaced tag) r (now (out .exit)) × (r ≤ at + length (now (text .entry)) + spacedMost) ⌝ }
 {
     let next = print_bytes(text, out, at);
     print_spaced(tag, out, next)
@@ -110,8 +111,8 @@ fn print_tagged(text: &[u8], tag: u32, out: &mut [u8], at: usize) -> usize
 
 // A READ's tag and its setpoints.
 fn print_read(tag: u32, mask: u32, setpoints: &[u32], out: &mut [u8], at: usize) -> usize
-    requires { ⌜ (16 ≤ length (now setpoints)) × (at + 240 ≤ length (now out)) ⌝ }
-    ensures { λ r. ⌜ Printed (now (out .entry)) at (wordText (Word.Read tag) mask (now (setpoints .entry))) r (now (out .exit)) × (r ≤ at + 240) ⌝ }
+    requires { ⌜ (16 ≤ length (now setpoints)) × (at + wordMost ≤ length (now out)) ⌝ }
+    ensures { λ r. ⌜ Printed (now (out .entry)) at (wordText (Word.Read tag) mask (now (setpoints .entry))) r (now (out .exit)) × (r ≤ at + wordMost) ⌝ }
 {
     let next = print_tagged(b" read", tag, out, at);
     print_setpoints(mask, setpoints, out, next)
@@ -132,8 +133,8 @@ pub enum Word {
 
 // The answer behind the line's number.
 fn print_word(word: Word, mask: u32, setpoints: &[u32], out: &mut [u8], at: usize) -> usize
-    requires { ⌜ (16 ≤ length (now setpoints)) × (at + 240 ≤ length (now out)) ⌝ }
-    ensures { λ r. ⌜ Printed (now (out .entry)) at (wordText word mask (now (setpoints .entry))) r (now (out .exit)) × (r ≤ at + 240) ⌝ }
+    requires { ⌜ (16 ≤ length (now setpoints)) × (at + wordMost ≤ length (now out)) ⌝ }
+    ensures { λ r. ⌜ Printed (now (out .entry)) at (wordText word mask (now (setpoints .entry))) r (now (out .exit)) × (r ≤ at + wordMost) ⌝ }
 {
     match word {
         Word::Ok => print_bytes(b" ok", out, at),
@@ -154,8 +155,8 @@ pub fn print_answer(
     out: &mut [u8],
     at: usize,
 ) -> usize
-    requires { ⌜ (16 ≤ length (now setpoints)) × (at + 300 ≤ length (now out)) ⌝ }
-    ensures { λ r. ⌜ Printed (now (out .entry)) at (answerText number word mask (now (setpoints .entry))) r (now (out .exit)) × (r ≤ at + 300) ⌝ }
+    requires { ⌜ (16 ≤ length (now setpoints)) × (at + answerMost ≤ length (now out)) ⌝ }
+    ensures { λ r. ⌜ Printed (now (out .entry)) at (answerText number word mask (now (setpoints .entry))) r (now (out .exit)) × (r ≤ at + answerMost) ⌝ }
 {
     let behind = print_decimal(number, out, at);
     let next = print_word(word, mask, setpoints, out, behind);
@@ -163,9 +164,9 @@ pub fn print_answer(
 }
 
 // The end step of a WRITE.
-fn print_end(end: u32, out: &mut [u8], at: usize) -> usize
-    requires { ⌜ at + 11 ≤ length (now out) ⌝ }
-    ensures { λ r. ⌜ Printed (now (out .entry)) at (endText end) r (now (out .exit)) × (r ≤ at + 11) ⌝ }
+fn print_end_step(end: u32, out: &mut [u8], at: usize) -> usize
+    requires { ⌜ at + spacedMost ≤ length (now out) ⌝ }
+    ensures { λ r. ⌜ Printed (now (out .entry)) at (endText end) r (now (out .exit)) × (r ≤ at + spacedMost) ⌝ }
 {
     if end == 0 {
         return print_bytes(b" -", out, at);
@@ -174,9 +175,9 @@ fn print_end(end: u32, out: &mut [u8], at: usize) -> usize
 }
 
 // A byte, and some numbers behind it.
-fn print_row(byte: u8, numbers: &[u32], out: &mut [u8], at: usize) -> usize
-    requires { ⌜ at + 1 + 11 * length (now numbers) ≤ length (now out) ⌝ }
-    ensures { λ r. ⌜ Printed (now (out .entry)) at ((byte ∷ []) ++ spacedAll (now (numbers .entry))) r (now (out .exit)) × (r ≤ at + 1 + 11 * length (now (numbers .entry))) ⌝ }
+fn print_lettered(byte: u8, numbers: &[u32], out: &mut [u8], at: usize) -> usize
+    requires { ⌜ at + 1 + spacedMost * length (now numbers) ≤ length (now out) ⌝ }
+    ensures { λ r. ⌜ Printed (now (out .entry)) at ((byte ∷ []) ++ spacedAll (now (numbers .entry))) r (now (out .exit)) × (r ≤ at + 1 + spacedMost * length (now (numbers .entry))) ⌝ }
 {
     let next = put_byte(byte, out, at);
     print_numbers(numbers, out, next)
@@ -192,12 +193,12 @@ pub fn print_write_record(
     out: &mut [u8],
     at: usize,
 ) -> usize
-    requires { ⌜ at + 57 ≤ length (now out) ⌝ }
-    ensures { λ r. ⌜ Printed (now (out .entry)) at (writeText tag client count begin end) r (now (out .exit)) × (r ≤ at + 57) ⌝ }
+    requires { ⌜ at + recordMost ≤ length (now out) ⌝ }
+    ensures { λ r. ⌜ Printed (now (out .entry)) at (writeText tag client count begin end) r (now (out .exit)) × (r ≤ at + recordMost) ⌝ }
 {
     let numbers = [tag, client, count, begin];
-    let behind = print_row(b'W', &numbers, out, at);
-    let next = print_end(end, out, behind);
+    let behind = print_lettered(b'W', &numbers, out, at);
+    let next = print_end_step(end, out, behind);
     put_byte(b'\n', out, next)
 }
 
@@ -211,10 +212,10 @@ pub fn print_read_record(
     out: &mut [u8],
     at: usize,
 ) -> usize
-    requires { ⌜ at + 57 ≤ length (now out) ⌝ }
-    ensures { λ r. ⌜ Printed (now (out .entry)) at (readText tag client begin end overlap) r (now (out .exit)) × (r ≤ at + 57) ⌝ }
+    requires { ⌜ at + recordMost ≤ length (now out) ⌝ }
+    ensures { λ r. ⌜ Printed (now (out .entry)) at (readText tag client begin end overlap) r (now (out .exit)) × (r ≤ at + recordMost) ⌝ }
 {
     let numbers = [tag, client, begin, end, overlap];
-    let next = print_row(b'R', &numbers, out, at);
+    let next = print_lettered(b'R', &numbers, out, at);
     put_byte(b'\n', out, next)
 }

@@ -1,19 +1,26 @@
 -- "then, at the end of the text, the register: `W tag panel count begin end` (`-` unfinished), `R tag panel begin end overlap`"
-use Prim.Native.Nat.{ℕ, zero, suc}
+use Prim.Native.Nat.{ℕ, zero, suc, _+_, _*_}
 use mathlib.Core.Bool.{cond}
 use mathlib.Core.List.{List, [], _++_, flatMap}
 use lib.Dec.{eqb}
 use lib.ListN.{take, drop, getD}
+use Rattle.tables.specs.Layout.{recordPlaces}
 use Rattle.tables.specs.Tables.{Tables, methodOf}
 use Rattle.printing.specs.Texts.{writeText, readText}
+use Rattle.printing.specs.Sizes.{recordMost}
 use Rattle.listing.specs.Register.{lineWidth, lineWords, register}
 
--- the line of a row of words: kind, tag, client, count or mask, begin, end, overlap
+-- The line of a row of words, which stand as listing lays them.
 abbrev pub rowText : List ℕ → List ℕ
 rowText row =
-    cond (eqb (getD row 0 0) 0)
-    (writeText (getD row 1 0) (getD row 2 0) (getD row 3 0) (getD row 4 0) (getD row 5 0))
-    (readText (getD row 1 0) (getD row 2 0) (getD row 4 0) (getD row 5 0) (getD row 6 0))
+    let kind = getD row 0 0 in
+    let tag = getD row 1 0 in
+    let client = getD row 2 0 in
+    let count = getD row 3 0 in
+    let begin = getD row 4 0 in
+    let end = getD row 5 0 in
+    let overlap = getD row 6 0 in
+    cond (eqb kind 0) (writeText tag client count begin end) (readText tag client begin end overlap)
 
 -- the lines of the first n rows of a list
 unfoldable pub rowsText : List ℕ → ℕ → List ℕ
@@ -23,6 +30,13 @@ rowsText list (suc n) = rowText (take lineWidth list) ++ rowsText (drop lineWidt
 -- all lines of the register
 abbrev pub registerText : Tables → List ℕ
 registerText t = flatMap (λ line. rowText (lineWords t line)) (register t)
+
+-- as many lines as a register can have, "255 WRITEs" and "255 READs", and their bytes at most
+abbrev pub mostLines : ℕ
+mostLines = recordPlaces + recordPlaces
+
+abbrev pub registerMost : ℕ
+registerMost = recordMost * mostLines
 
 -- "Kept per opening": before any there is none
 unfoldable pub registerPrinted : Tables → List ℕ

@@ -17,7 +17,7 @@ use Rattle.listing.specs.declared.Listed.{Listed}
 use Rattle.listing.specs.declared.Listed.the-variants.{Rows, Refused}
 use Rattle.listing.specs.Register.{Line, write, read, lineWidth, lineWords, register, registerWords, Listing, listing, listedSound, listRegister}
 use Rattle.listing.specs.Changes.{register-few}
-use Rattle.register_text.specs.Text.{rowText, rowsText, registerText, registerPrinted}
+use Rattle.register_text.specs.Text.{rowText, rowsText, registerText, mostLines, registerPrinted}
 
 module _ (row : List ℕ) where
   pub row-write : getD row 0 0 ≡ 0 → rowText row ≡ writeText (getD row 1 0) (getD row 2 0) (getD row 3 0) (getD row 4 0) (getD row 5 0)
@@ -61,7 +61,7 @@ rows-of-lines t (write place ∷ lines) rest = ap (λ (l : List ℕ). rowText (l
 rows-of-lines t (read place ∷ lines) rest = ap (λ (l : List ℕ). rowText (lineWords t (read place)) ++ l) (rows-of-lines t lines rest)
 
 -- a listing's answer and list, where there is room for every register
-module _ (t : Tables) (s : Sound t) (list : List ℕ) (room : 3570 ≤ length list) where
+module _ (t : Tables) (s : Sound t) (list : List ℕ) (room : lineWidth * mostLines ≤ length list) where
   listed-fits : listRegister t list ≡ listing (Rows (length (register t))) (registerWords t ++ drop (lineWidth * length (register t)) list)
   unfolding listRegister listedSound
   listed-fits =
@@ -81,7 +81,7 @@ module _ (t : Tables) (s : Sound t) (list : List ℕ) (room : 3570 ≤ length li
         let r : n ≡ length (register t) = ap (λ (x : Listing). rowsOf (x .answer)) f in
         rw (l, r) (rows-of-lines t (register t) (drop (lineWidth * length (register t)) list))
 
-    rows-few : (n : ℕ) → listing (Rows n) left ≡ listRegister t list → n ≤ 510
+    rows-few : (n : ℕ) → listing (Rows n) left ≡ listRegister t list → n ≤ mostLines
     rows-few n e =
         let r : n ≡ length (register t) = ap (λ (x : Listing). rowsOf (x .answer)) (e ∙ listed-fits) in
         omega (arith, r, register-few t s)
@@ -96,7 +96,7 @@ module _ (t : Tables) (s : Sound t) (list : List ℕ) (room : 3570 ≤ length li
 
     -- as the code meets it: the answer, and what it was told of it
     module _ {r : Listed} (told : listing r left ≡ listRegister t list) where
-      pub asked-rows : {n : ℕ} → r ≡ Rows n → length left ≡ length list → (lineWidth * n ≤ length left) × (n ≤ 510)
+      pub asked-rows : {n : ℕ} → r ≡ Rows n → length left ≡ length list → (lineWidth * n ≤ length left) × (n ≤ mostLines)
       asked-rows {n} e l =
           let f = rows-few n (ap (λ (x : Listed). listing x left) (sym e) ∙ told) in
           (omega (arith, f, l, room), f)

@@ -4,16 +4,22 @@ ghost use lib.ListN.{length};
 ghost use Rattle.tables.specs.Tables.{tablesOf};
 ghost use Rattle.soundness.specs.Facts.{Sound};
 ghost use Rattle.printing.specs.Printed.{Printed};
-ghost use Rattle.register_text.specs.Text.{rowText, rowsText, registerText};
+ghost use Rattle.printing.specs.Sizes.{recordMost};
+ghost use Rattle.listing.specs.Register.{lineWidth};
+ghost use Rattle.register_text.specs.Text.{rowText, rowsText, registerText, mostLines, registerMost};
 use listing::Listed;
 
-// How many words listing needs at most: 510 rows of 7.
-pub const LIST: usize = 3570;
+// The words of a row, the rows of the longest register, and so how many words listing needs at most.
+const WIDTH: usize = 7;
+
+const ROWS: usize = 510;
+
+const LIST: usize = WIDTH * ROWS;
 
 // The line of a row: kind, tag, client, count or mask, begin, end, overlap.
 fn print_row(row: &[u32], out: &mut [u8], at: usize) -> usize
-    requires { ⌜ (7 ≤ length (now row)) × (at + 57 ≤ length (now out)) ⌝ }
-    ensures { λ r. ⌜ Printed (now (out .entry)) at (rowText (now (row .entry))) r (now (out .exit)) × (r ≤ at + 57) ⌝ }
+    requires { ⌜ (lineWidth ≤ length (now row)) × (at + recordMost ≤ length (now out)) ⌝ }
+    ensures { λ r. ⌜ Printed (now (out .entry)) at (rowText (now (row .entry))) r (now (out .exit)) × (r ≤ at + recordMost) ⌝ }
 {
     if row[0] == 0 {
         return printing::print_write_record(row[1], row[2], row[3], row[4], row[5], out, at);
@@ -23,14 +29,14 @@ fn print_row(row: &[u32], out: &mut [u8], at: usize) -> usize
 
 // The lines of the first rows of a list.
 fn print_rows(list: &[u32], rows: usize, out: &mut [u8], at: usize) -> usize
-    requires { ⌜ (7 * rows ≤ length (now list)) × (at + 57 * rows ≤ length (now out)) ⌝ }
-    requires { ⌜ rows ≤ 510 ⌝ }
-    ensures { λ r. ⌜ Printed (now (out .entry)) at (rowsText (now (list .entry)) rows) r (now (out .exit)) × (r ≤ at + 57 * rows) ⌝ }
+    requires { ⌜ (lineWidth * rows ≤ length (now list)) × (at + recordMost * rows ≤ length (now out)) ⌝ }
+    requires { ⌜ rows ≤ mostLines ⌝ }
+    ensures { λ r. ⌜ Printed (now (out .entry)) at (rowsText (now (list .entry)) rows) r (now (out .exit)) × (r ≤ at + recordMost * rows) ⌝ }
 {
     let mut next = at;
     let mut i = 0;
     while i < rows {
-        next = print_row(&list[7 * i..7 * i + 7], out, next);
+        next = print_row(&list[WIDTH * i..WIDTH * i + WIDTH], out, next);
         i += 1;
     }
     next
@@ -50,8 +56,8 @@ pub fn print_register(
     at: usize,
 ) -> usize
     requires { ⌜ Sound (tablesOf (now counts) (now clients) (now links) (now keys) (now values) (now log) (now writes) (now reads)) ⌝ }
-    requires { ⌜ at + 29070 ≤ length (now out) ⌝ }
-    ensures { λ r. ⌜ Printed (now (out .entry)) at (registerText (tablesOf (now (counts .entry)) (now (clients .entry)) (now (links .entry)) (now (keys .entry)) (now (values .entry)) (now (log .entry)) (now (writes .entry)) (now (reads .entry)))) r (now (out .exit)) × (r ≤ at + 29070) ⌝ }
+    requires { ⌜ at + registerMost ≤ length (now out) ⌝ }
+    ensures { λ r. ⌜ Printed (now (out .entry)) at (registerText (tablesOf (now (counts .entry)) (now (clients .entry)) (now (links .entry)) (now (keys .entry)) (now (values .entry)) (now (log .entry)) (now (writes .entry)) (now (reads .entry)))) r (now (out .exit)) × (r ≤ at + registerMost) ⌝ }
 {
     let mut list = [0u32; LIST];
     match listing::list_register_sound(

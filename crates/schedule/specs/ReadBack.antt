@@ -17,7 +17,7 @@ use Rattle.schedule.specs.Decimal.{glyph, decimal, spacedAll}
 use Rattle.schedule.specs.DecimalLaws.{decimal-one, decimal-more}
 use Rattle.schedule.specs.declared.Step.{Step}
 use Rattle.schedule.specs.declared.Step.the-variants.{Unreadable, Open, BeginWrite, BeginRead, Request, Reply}
-use Rattle.schedule.specs.Steps.{Named, unreadable, namedOpen, namedWrite, namedPair, named, stepOf, lineByte, lineNumbers, lineText}
+use Rattle.schedule.specs.Steps.{Named, unreadable, namedOpen, namedWrite, namedPair, named, stepOf, lineByte, lineNumbers, stepText}
 use Rattle.schedule.specs.StepLaws.{step-read}
 use Rattle.schedule.specs.Numbers.{digitOf, digitHead, mayFollow, readOn, numberOf, spacedOf, Read, readThen, numbersBehind, numbersOf}
 use Rattle.schedule.specs.NumberLaws.{skipped, ends-of}
@@ -115,7 +115,7 @@ HasSetpoints (Reply client target) setpoints = setpoints ≡ []
 
 pub record FitsLine (n : Named) : Type 0 where
   pub numbers : AllFit (lineNumbers (n .step) (n .setpoints))
-  pub size : length (lineText n) ≤ 200
+  pub size : length (stepText n) ≤ 200
   pub shape : HasSetpoints (n .step) (n .setpoints)
 
 named-back : (step : Step) (setpoints : List ℕ) → HasSetpoints step setpoints → named (lineByte step) (lineNumbers step setpoints) ≡ record { step = step; setpoints = setpoints }
@@ -127,7 +127,7 @@ named-back (Request client target) setpoints h = rw h
 named-back (Reply client target) setpoints h = rw h
 
 -- A step printed as a line is read back as that step.
-pub step-back : (n : Named) → FitsLine n → stepOf (lineText n) ≡ n
+pub step-back : (n : Named) → FitsLine n → stepOf (stepText n) ≡ n
 step-back n f =
     step-read (lineByte (n .step)) (spacedAll (lineNumbers (n .step) (n .setpoints))) (f .size)
     ∙ rw (numbers-back (lineNumbers (n .step) (n .setpoints)) (f .numbers)) (named-back (n .step) (n .setpoints) (f .shape))
@@ -204,7 +204,7 @@ numbers-only s e = only-behind 0 s e
 
 -- a text names no step, or it is the text of the step
 abbrev pub Told : List ℕ → Named → Type 0
-Told text n = (n ≡ unreadable) ⊎ (text ≡ lineText n)
+Told text n = (n ≡ unreadable) ⊎ (text ≡ stepText n)
 
 module _ (byte : ℕ) where
   told-open : (l : List ℕ) → byte ≡ 79 → Told (byte ∷ spacedAll l) (namedOpen l)

@@ -90,5 +90,5 @@ lineNumbers (BeginRead client mask) setpoints = client ∷ mask ∷ []
 lineNumbers (Request client target) setpoints = client ∷ target ∷ []
 lineNumbers (Reply client target) setpoints = client ∷ target ∷ []
 
-abbrev pub lineText : Named → List ℕ
-lineText n = lineByte (n .step) ∷ spacedAll (lineNumbers (n .step) (n .setpoints))
+abbrev pub stepText : Named → List ℕ
+stepText n = lineByte (n .step) ∷ spacedAll (lineNumbers (n .step) (n .setpoints))

@@ -11,7 +11,7 @@ use Rattle.ranges.specs.Tests.{by-equal, both}
 use Rattle.keys.specs.declared.Key.{Key}
 use Rattle.formats.specs.declared.state.State.{State}
 use Rattle.formats.specs.Grammar.{good}
-use Rattle.formats.specs.Table.{count, of, sortAt, bitsOf, leastOf, mostOf, entriesIn, hasNumbers}
+use Rattle.formats.specs.Table.{entryPlace, ownerPlace, numberPlace, count, of, sortAt, bitsOf, leastOf, mostOf, entriesIn, hasNumbers}
 use Rattle.formats.specs.Format.{fieldOf, within, leftAfter, placeAfter, nextOf, entries, fixed, format}
 use Rattle.frames.specs.declared.Message.the-variants.{Set, SetDone, Enter, Entered, WhichKeys, Keys, Get, Got, GetAll, All, GetLog, Log}
 use Rattle.ranges.specs.Laid.{built, built-first}
@@ -111,18 +111,18 @@ built-three f n =
 
 -- the state ahead of an entry
 abbrev ahead : ℕ → ℕ → ℕ → ℕ → State
-ahead kind q before left = record { kind = kind; client = q; before = before; left = left; place = 8 }
+ahead kind q before left = record { kind = kind; client = q; before = before; left = left; place = entryPlace }
 
 -- the number beside a key stands in its field
 abbrev numberStands : ℕ → ℕ → ℕ → ℕ → Bool
-numberStands kind q p v = ltb v (2 ^ bitsOf (sortAt kind 10)) && (leb (leastOf (sortAt kind 10) q) v && leb v (mostOf (sortAt kind 10) q p))
+numberStands kind q p v = ltb v (2 ^ bitsOf (sortAt kind numberPlace)) && (leb (leastOf (sortAt kind numberPlace) q) v && leb v (mostOf (sortAt kind numberPlace) q p))
 
 -- an entry's three values stand in their fields
 record EntryStands (kind q n p v : ℕ) : Type 0 where
   key : KeyFits n p
   number : numberStands kind q p v ≡ true
 
-module _ (kind q : ℕ) (counted : sortAt kind 8 ≡ count) (owned : sortAt kind 9 ≡ of) where
+module _ (kind q : ℕ) (counted : sortAt kind entryPlace ≡ count) (owned : sortAt kind ownerPlace ≡ of) where
   -- one entry, then others
   entry-ahead : (n before left a b c : ℕ) (vs : List ℕ) → EntryStands kind q a b c → ((left′ : ℕ) → good (entries n (ahead kind q c left′)) vs ≡ true) → good (entries (suc (suc (suc n))) (ahead kind q before left)) (a ∷ b ∷ c ∷ vs) ≡ true
   unfolding good entries nextOf placeAfter leftAfter fieldOf within bitsOf leastOf mostOf

@@ -1,7 +1,7 @@
 -- A text behind a text.
 use mathlib.Core.List.{[], _∷_, _++_}
 use native.Mathlib.Omega.{arith}
-use Rattle.printing.specs.Texts.{spaced, shownBelow}
+use Rattle.printing.specs.Texts.{spaced, serversBelow}
 use Rattle.printing.specs.PrintedLaws.{printed-then}
 use borrow.Author.Needs.{needs}
 use Rattle.printing.proofs.print_read.Statement.{statement}
@@ -10,7 +10,7 @@ use Rattle.printing.proofs.print_read.Tie as tie
 returns : tie.Need-returns
 returns c =
     let a = c .before .before .before .before .before .before .before .before .before .before .before .args in (
-      printed-then (a .out .now) ((32 ∷ 114 ∷ 101 ∷ 97 ∷ 100 ∷ []) ++ spaced (a .tag)) (shownBelow (a .mask) (a .setpoints .now) 16) (a .at)
+      printed-then (a .out .now) ((32 ∷ 114 ∷ 101 ∷ 97 ∷ 100 ∷ []) ++ spaced (a .tag)) (serversBelow (a .mask) (a .setpoints .now) 16) (a .at)
           (omega arith) (c .before .before .before .before .before .before .print-tagged .ensures .0)
           (c .before .before .print-setpoints .ensures .0),
       omega

@@ -11,9 +11,9 @@ returns : tie.Need-returns
 returns c =
     let a = c .before .before .before .before .before .before .before .before .before .before .args in (
       printed-then (a .out .now) ((82 ∷ []) ++ spacedAll (a .tag ∷ a .client ∷ a .begin ∷ a .end ∷ a .overlap ∷ [])) (10 ∷ []) (a .at) (omega arith)
-          (c .before .before .before .before .before .before .print-row .ensures .0) (c .before .before .put-byte .ensures),
+          (c .before .before .before .before .before .before .print-lettered .ensures .0) (c .before .before .put-byte .ensures),
       omega
-          (arith, c .before .before .before .before .before .before .print-row .ensures .1, c .before .before .put-byte .ensures .end),
+          (arith, c .before .before .before .before .before .before .print-lettered .ensures .1, c .before .before .put-byte .ensures .end),
     )
 
 pub print-read-record-spec : {M : Type 1} → statement M

@@ -13,9 +13,9 @@ returns c =
     let a = c .before .before .before .before .before .before .before .before .before .before .before .before .before .before .args in
     let out = a .out .now in
     let row = (87 ∷ []) ++ spacedAll (a .tag ∷ a .client ∷ a .count ∷ a .begin ∷ []) in
-    let both = printed-then out row (endText (a .end)) (a .at) (omega arith) (c .before .before .before .before .before .before .before .before .before .before .print-row .ensures .0) (c .before .before .before .before .before .before .print-end .ensures .0) in (
+    let both = printed-then out row (endText (a .end)) (a .at) (omega arith) (c .before .before .before .before .before .before .before .before .before .before .print-lettered .ensures .0) (c .before .before .before .before .before .before .print-end-step .ensures .0) in (
       printed-then out (row ++ endText (a .end)) (10 ∷ []) (a .at) (omega arith) both (c .before .before .put-byte .ensures),
-      omega (arith, c .before .before .before .before .before .before .before .before .before .before .print-row .ensures .1, c .before .before .before .before .before .before .print-end .ensures .1, c .before .before .put-byte .ensures .end),
+      omega (arith, c .before .before .before .before .before .before .before .before .before .before .print-lettered .ensures .1, c .before .before .before .before .before .before .print-end-step .ensures .1, c .before .before .put-byte .ensures .end),
     )
 
 pub print-write-record-spec : {M : Type 1} → statement M

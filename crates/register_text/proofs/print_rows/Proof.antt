@@ -1,9 +1,10 @@
--- The rows passed are printed, each in at most 57 bytes.
+-- The rows passed are printed, each in as many bytes as a line can have.
 use Prim.Native.Nat.{ℕ, _+_, _*_, _≤_, _-_}
 use mathlib.Core.Path.{_≡_, subst, _∙_}
 use native.Mathlib.Omega.{arith}
 use lib.ListN.{length}
 use Rattle.printing.specs.Printed.{Printed}
+use Rattle.printing.specs.Sizes.{recordMost}
 use Rattle.register_text.specs.Text.{rowsText}
 use Rattle.register_text.specs.TextLaws.{printed-no-row, printed-row}
 use borrow.Author.Needs.{needs}
@@ -11,7 +12,7 @@ use Rattle.register_text.proofs.print_rows.Statement.{statement}
 use Rattle.register_text.proofs.print_rows.Tie as tie
 
 abbrev Inv-loop : tie.InvT-loop
-Inv-loop list rows out₀ at next₀ i₀ out next i = Printed out₀ at (rowsText list i) next out × ((next ≤ at + 57 * i) × ((i ≤ rows) × (length out ≡ length out₀)))
+Inv-loop list rows out₀ at next₀ i₀ out next i = Printed out₀ at (rowsText list i) next out × ((next ≤ at + recordMost * i) × ((i ≤ rows) × (length out ≡ length out₀)))
 
 abbrev μ-loop : tie.MeasureT-loop
 μ-loop list rows out₀ at next₀ i₀ out next i = rows - i

@@ -2,8 +2,8 @@
 use native.Mathlib.Omega.{arith}
 use Rattle.printing.specs.TextLaws.{no-end, some-end}
 use borrow.Author.Needs.{needs}
-use Rattle.printing.proofs.print_end.Statement.{statement}
-use Rattle.printing.proofs.print_end.Tie as tie
+use Rattle.printing.proofs.print_end_step.Statement.{statement}
+use Rattle.printing.proofs.print_end_step.Tie as tie
 
 returns : tie.Need-returns
 returns c = (
@@ -19,7 +19,7 @@ returns-2 c = (
   c .before .before .print-spaced .ensures .1,
 )
 
-pub print-end-spec : {M : Type 1} → statement M
-print-end-spec =
+pub print-end-step-spec : {M : Type 1} → statement M
+print-end-step-spec =
     tie.close
     (tie.spec (λ c. search needs) (λ c κs. search needs) (λ c. search needs) returns (λ c κs. search needs) (λ c. search needs) returns-2)

@@ -3,8 +3,8 @@ use native.Mathlib.Omega.{arith}
 use Rattle.printing.specs.PrintedLaws.{printed-none}
 use Rattle.printing.specs.TextLaws.{server-shown, server-passed}
 use borrow.Author.Needs.{needs}
-use Rattle.printing.proofs.print_shown.Statement.{statement}
-use Rattle.printing.proofs.print_shown.Tie as tie
+use Rattle.printing.proofs.print_server.Statement.{statement}
+use Rattle.printing.proofs.print_server.Tie as tie
 
 returns : tie.Need-returns
 returns c = (
@@ -20,7 +20,7 @@ returns-2 c = (
   omega arith,
 )
 
-pub print-shown-spec : {M : Type 1} → statement M
-print-shown-spec =
+pub print-server-spec : {M : Type 1} → statement M
+print-server-spec =
     tie.close
     (tie.spec (λ c κs. search needs) (λ c. search needs) (λ c. search needs) (λ c. search needs) (λ c κs. search needs) (λ c. search needs) returns returns-2)

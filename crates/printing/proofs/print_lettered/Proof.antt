@@ -4,8 +4,8 @@ use native.Mathlib.Omega.{arith}
 use Rattle.schedule.specs.Decimal.{spacedAll}
 use Rattle.printing.specs.PrintedLaws.{printed-then}
 use borrow.Author.Needs.{needs}
-use Rattle.printing.proofs.print_row.Statement.{statement}
-use Rattle.printing.proofs.print_row.Tie as tie
+use Rattle.printing.proofs.print_lettered.Statement.{statement}
+use Rattle.printing.proofs.print_lettered.Tie as tie
 
 returns : tie.Need-returns
 returns c =
@@ -16,5 +16,5 @@ returns c =
           (arith, c .before .before .before .before .before .before .put-byte .ensures .end, c .before .before .print-numbers .ensures .1),
     )
 
-pub print-row-spec : {M : Type 1} → statement M
-print-row-spec = tie.close (tie.spec (λ c κs. search needs) (λ c κs. search needs) (λ c. search needs) returns)
+pub print-lettered-spec : {M : Type 1} → statement M
+print-lettered-spec = tie.close (tie.spec (λ c κs. search needs) (λ c κs. search needs) (λ c. search needs) returns)
