@@ -16,7 +16,7 @@ use Rattle.ranges.specs.Turns.{turns, turns-keep}
 use Rattle.ranges.specs.Picked.{picked}
 use Rattle.keys.specs.Masks.{hasServer}
 use Rattle.tables.specs.Layout.{versionWord}
-use Rattle.choice.specs.Bits.{or-bit, one-bit, no-bit}
+use Rattle.keys.specs.Bits.{or-bit, one-bit, no-bit}
 
 abbrev pub slots : ℕ
 slots = 4096

@@ -1,6 +1,5 @@
--- What C's choice relies on, the cases of it, the bits of masks, the table of holders, and the walk up the log.
+-- What C's choice relies on, the cases of it, the table of holders, and the walk up the log.
 pub mod Ready
 pub mod Cases
-pub mod Bits
 pub mod Holders
 pub mod Walk

@@ -19,7 +19,7 @@ use Rattle.server.specs.Held.{firstBearing}
 use Rattle.coordinator.specs.Latest.{wrote, latestTag}
 use Rattle.rules.specs.Choice.{hasVersion, qualifies, chosenTag}
 use Rattle.choice.specs.Cases.{serves}
-use Rattle.choice.specs.Bits.{without, and-bit, or-bit, without-bit, no-bit, first-bit, beyond-bit, gathered, gathered-bit}
+use Rattle.keys.specs.Bits.{without, and-bit, or-bit, without-bit, no-bit, first-bit, beyond-bit, gathered, gathered-bit}
 use Rattle.choice.specs.Holders.{tabled, slotOf, Marked}
 
 -- a key is among the versions received from server i

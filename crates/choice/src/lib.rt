@@ -1,6 +1,6 @@
 // Method C's last reply: the choice of the tag, and the setpoints at it.
 ghost use mathlib.Core.Path.{_≡_};
-ghost use Prim.Native.Nat.{ℕ, _+_, _*_, _%_, _^_, _≤_, _<_};
+ghost use Prim.Native.Nat.{ℕ, _+_, _*_, _≤_, _<_};
 ghost use lib.Dec.{eqb};
 ghost use lib.ListN.{length};
 ghost use Rattle.tables.specs.Rows.{HasRow};
@@ -14,7 +14,7 @@ ghost use Rattle.rules.specs.Choice.{versionAt, hasVersion, qualifies, chosenTa
 ghost use Rattle.rules.specs.Reply.{receivedIn, forget};
 ghost use Rattle.choice.specs.Ready.{Received, ChoiceReady};
 ghost use Rattle.choice.specs.Cases.{serves, keptSetpoints};
-ghost use Rattle.choice.specs.Bits.{without, addServer, gathered};
+ghost use Rattle.keys.specs.Bits.{without, addServer, gathered};
 ghost use Rattle.choice.specs.Holders.{slots, tabled, slotOf, marked, markVersions, markServers, Marked};
 ghost use Rattle.choice.specs.Walk.{holdsKey, holdersOf, lackingAfter};
 use keys::Key;
@@ -105,14 +105,6 @@ fn slot_of(word: u32) -> usize
     (word / 256 * 16 + word % 256) as usize
 }
 
-// The mask of one server.
-fn mask_of(server: usize) -> u32
-    requires { ⌜ server ≤ 16 ⌝ }
-    ensures { λ r. ⌜ r ≡ 2 ^ server ⌝ }
-{
-    1 << server
-}
-
 // The servers of a mask go into the slot of a word, if it has one.
 fn mark(holders: &mut [u16], mask: u16, word: u32)
     requires { ⌜ slots ≤ length (now holders) ⌝ }
@@ -130,7 +122,7 @@ fn mark_versions(holders: &mut [u16], keys: &[u32], server: usize, received: usi
     requires { ⌜ (server < 16) × (serverPlaces * server + received ≤ length (now keys)) ⌝ }
     ensures { λ _. ⌜ now (holders .exit) ≡ markVersions (now (keys .entry)) server received (now (holders .entry)) ⌝ }
 {
-    let mask = mask_of(server) as u16;
+    let mask = keys::one_server(server) as u16;
     let mut place = 0;
     while place < received {
         mark(holders, mask, versions::key_word(keys, server, place));
@@ -191,7 +183,7 @@ fn with_holder(
 {
     let received = clients::client_word(clients, client, clients::RECEIVED + server) as usize;
     if server::find(keys, server, received, key) < received {
-        return found | mask_of(server);
+        return found | keys::one_server(server);
     }
     found
 }
@@ -230,20 +222,13 @@ fn holders_of(
     search_holders(clients, keys, client, servers, key)
 }
 
-// The servers of a mask that another does not have.
-fn without(mask: u32, other: u32) -> u32
-    ensures { λ r. ⌜ r ≡ without mask other ⌝ }
-{
-    mask - (mask & other)
-}
-
 // Of the wanted servers, those that lack their key at a tag, from those at the tag before it: one that the entry wrote has the entry's key there,
 // and lacks it unless it holds it; any other lacks its key as before.
 fn lacking_after(lacking: u32, wanted: u32, written: u32, holding: u32) -> u32
     ensures { λ r. ⌜ r ≡ lackingAfter lacking wanted written holding ⌝ }
 {
     let touched = wanted & written;
-    without(lacking | touched, touched & holding)
+    keys::without(lacking | touched, touched & holding)
 }
 
 // The same, of the entry at the tag.
@@ -286,7 +271,7 @@ fn lacking_first(
         (holdersOf (now (holders .entry)) (now (keys .entry)) (receivedIn (now (clients .entry)) client) servers (entryKey (now (log .entry)) 0)) ⌝ }
 {
     let key = log::entry_key(log, 0);
-    without(
+    keys::without(
         wanted,
         holders_of(holders, clients, keys, client, servers, key),
     )
@@ -367,14 +352,6 @@ fn greatest_tag(
     )
 }
 
-// The first servers of a mask.
-fn first_servers(mask: u32, servers: usize) -> u32
-    requires { ⌜ servers ≤ 16 ⌝ }
-    ensures { λ r. ⌜ r ≡ mask % 2 ^ servers ⌝ }
-{
-    mask % mask_of(servers)
-}
-
 // The greatest tag among the first entries of the log that qualifies. It does not stop at the first tag whose key is missing. The newest is tried first:
 // it qualifies unless a WRITE came between the replies.
 pub fn chosen_tag(
@@ -396,7 +373,7 @@ pub fn chosen_tag(
     if all_serve(clients, keys, log, client, mask, servers, entries - 1) {
         return entries - 1;
     }
-    let wanted = first_servers(mask, servers);
+    let wanted = keys::first_servers(mask, servers);
     greatest_tag(clients, keys, log, client, wanted, servers, entries)
 }
 

@@ -1,3 +1,4 @@
 -- Keys and masks: what they are as numbers.
 pub mod Keys
 pub mod Masks
+pub mod Bits

@@ -1,8 +1,9 @@
 // Keys and masks by value.
 ghost use mathlib.Core.Path.{_≡_};
-ghost use Prim.Native.Nat.{_≤_, _<_};
+ghost use Prim.Native.Nat.{_-_, _%_, _^_, _≤_, _<_};
 ghost use Rattle.keys.specs.Keys.{keyOf, opening, sameKey, keyWord, keyAtWord};
 ghost use Rattle.keys.specs.Masks.{hasServer, maskWithin};
+ghost use Rattle.keys.specs.Bits.{without};
 
 // A key names a WRITE: the count of the client's WRITEs so far, this one included, and the client.
 pub struct Key {
@@ -76,4 +77,35 @@ pub fn mask_within(mask: u32, servers: u32) -> bool
         return false;
     }
     mask >> servers == 0
+}
+
+// The mask of one server.
+pub fn one_server(server: usize) -> u32
+    requires { ⌜ server ≤ 16 ⌝ }
+    ensures { λ r. ⌜ r ≡ 2 ^ server ⌝ }
+{
+    1 << server
+}
+
+// The mask of the first servers: each bit below their number.
+pub fn all_servers(servers: u32) -> u32
+    requires { ⌜ servers ≤ 16 ⌝ }
+    ensures { λ r. ⌜ r ≡ 2 ^ servers - 1 ⌝ }
+{
+    one_server(servers as usize) - 1
+}
+
+// The first servers of a mask.
+pub fn first_servers(mask: u32, servers: usize) -> u32
+    requires { ⌜ servers ≤ 16 ⌝ }
+    ensures { λ r. ⌜ r ≡ mask % 2 ^ servers ⌝ }
+{
+    mask % one_server(servers)
+}
+
+// The servers of a mask that another does not have.
+pub fn without(mask: u32, other: u32) -> u32
+    ensures { λ r. ⌜ r ≡ without mask other ⌝ }
+{
+    mask - (mask & other)
 }

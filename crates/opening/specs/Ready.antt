@@ -1,11 +1,9 @@
 -- What an opening relies on, and its scalars.
-use Prim.Native.Nat.{ℕ, _*_, _%_, _^_, _≤_}
+use Prim.Native.Nat.{ℕ, _*_, _≤_}
 use mathlib.Core.Path.{_≡_}
 use mathlib.Core.List.{List, [], _∷_}
 use lib.ListN.{length}
 use lib.Seq.{sets}
-use lib.Pow.{pow-mono}
-use native.Mathlib.Omega.{arith}
 use Rattle.ranges.specs.Turns.{turns}
 use Rattle.keys.specs.Keys.{opening}
 use Rattle.tables.specs.Layout.{countWords, serverPlaces, entryWidth, putEntry}
@@ -23,10 +21,6 @@ pub record OpenReady (counts keys values log setpoints : List ℕ) (k : ℕ) : T
   pub keyed : serverPlaces * k ≤ length keys
   pub valued : serverPlaces * k ≤ length values
   pub logged : entryWidth ≤ length log
-
--- a shift by at most 16 loses no bit
-pub shifted-one : (k : ℕ) → k ≤ 16 → (1 * 2 ^ k) % 4294967296 ≡ 2 ^ k
-shifted-one k h = let l : 2 ^ k ≤ 65536 = pow-mono h in omega arith
 
 -- what the opening's calls leave, taken together
 pub store-opened : (method k p : ℕ) (setpoints : List ℕ) (t : Tables) {counts clients links keys values log : List ℕ} {all : ℕ} → length setpoints ≡ k →

@@ -6,7 +6,7 @@ ghost use lib.ListN.{length};
 ghost use Rattle.ranges.specs.Turns.{turns};
 ghost use Rattle.tables.specs.Tables.{tablesOf};
 ghost use Rattle.tables.specs.Layout.{countWords, serverPlaces};
-ghost use Rattle.rules.specs.Open.{cleared, holdOne, openedCounts, openKey, openValue, allServers, opened};
+ghost use Rattle.rules.specs.Open.{cleared, holdOne, openedCounts, openKey, openValue, opened};
 ghost use Rattle.opening.specs.Ready.{OpenReady, openScalars};
 use keys::Key;
 use tables::counts;
@@ -61,14 +61,6 @@ fn open_versions(keys: &mut [u32], values: &mut [u32], setpoints: &[u32])
     }
 }
 
-// The mask of all servers.
-fn all_servers(servers: u32) -> u32
-    requires { ⌜ servers ≤ 16 ⌝ }
-    ensures { λ r. ⌜ r ≡ allServers servers ⌝ }
-{
-    (1u32 << servers) - 1
-}
-
 // The counts of an opened store.
 fn open_counts(counts: &mut [u32], method: u32, servers: u32, clients: u32)
     requires { ⌜ (countWords ≤ length (now counts)) × (servers ≤ 16) ⌝ }
@@ -102,5 +94,5 @@ pub fn open(
     clear(clients);
     clear(links);
     open_versions(keys, values, setpoints);
-    log::put_entry(log, 0, Key::OPENING, all_servers(servers));
+    log::put_entry(log, 0, Key::OPENING, keys::all_servers(servers));
 }

@@ -1,25 +1,15 @@
 // The log: tag 0 holds the opening's key with all servers, and every entry is in its range.
 ghost use mathlib.Core.Path.{_≡_};
-ghost use Prim.Native.Nat.{_≤_};
 ghost use Rattle.ranges.specs.All.{allBelow};
 ghost use Rattle.tables.specs.Rows.{HasRow};
 ghost use Rattle.tables.specs.Layout.{entryWidth};
 ghost use Rattle.tables.specs.Tables.{Tables, withCounts, withLog, entriesOf};
-ghost use Rattle.rules.specs.Open.{allServers};
 ghost use Rattle.soundness.specs.Sound.{entrySound, logSound};
 ghost use Rattle.soundness.specs.Asked.{Counted, LogThere};
 ghost use Rattle.soundness.specs.Parts.{firstEntrySound};
 use super::scalars;
 use tables::counts;
 use tables::log;
-
-// The mask of all servers: each bit below their number.
-fn all_servers(servers: u32) -> u32
-    requires { ⌜ servers ≤ 16 ⌝ }
-    ensures { λ r. ⌜ r ≡ allServers servers ⌝ }
-{
-    (1 << servers) - 1
-}
 
 fn first_entry_sound(counts: &[u32], log: &[u32]) -> bool
     requires { ⌜ Counted (now counts) ⌝ }
@@ -29,7 +19,7 @@ fn first_entry_sound(counts: &[u32], log: &[u32]) -> bool
     if log::key_word(log, 0) != 0 {
         return false;
     }
-    log::entry_mask(log, 0) == all_servers(counts::count_at(counts, counts::SERVERS))
+    log::entry_mask(log, 0) == keys::all_servers(counts::count_at(counts, counts::SERVERS))
 }
 
 fn entry_sound(counts: &[u32], log: &[u32], tag: usize) -> bool

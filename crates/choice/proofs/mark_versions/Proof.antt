@@ -18,13 +18,13 @@ abbrev μ-loop : tie.MeasureT-loop
 μ-loop holders₀ keys server received mask place₀ holders place = received - place
 
 cast-mask : tie.Need-cast-mask Inv-loop μ-loop
-cast-mask c = let h : 2 ^ c .before .before .before .args .server < 2 ^ 16 = pow-lt (c .before .before .before .pre .1 .0) in omega (arith, c .mask-of .ensures, h)
+cast-mask c = let h : 2 ^ c .before .before .before .args .server < 2 ^ 16 = pow-lt (c .before .before .before .pre .1 .0) in omega (arith, c .one-server .ensures, h)
 
 loop-holds : tie.Need-loop-holds Inv-loop μ-loop
 loop-holds c = let a = c .before .before .before .args in (search needs, (search needs, turns-none (λ place. marked (2 ^ a .server) (versionWord (a .keys .now) (a .server) place)) (a .holders .now)))
 
 loop-again : tie.Need-loop-again Inv-loop μ-loop
-loop-again c = let a = c .before .before .before .before .before .before .before .before .before .before .args in (search needs, (search needs, turns-more (λ place. marked (2 ^ a .server) (versionWord (a .keys .now) (a .server) place)) (c .before .before .before .before .before .before .loop .place) (a .holders .now) (c .before .before .before .before .before .before .loop .inv .1 .1) (c .before .before .mark .ensures ∙ rw (c .before .before .before .before .before .before .before .mask-of .ensures, c .before .before .before .key-word .ensures))))
+loop-again c = let a = c .before .before .before .before .before .before .before .before .before .before .args in (search needs, (search needs, turns-more (λ place. marked (2 ^ a .server) (versionWord (a .keys .now) (a .server) place)) (c .before .before .before .before .before .before .loop .place) (a .holders .now) (c .before .before .before .before .before .before .loop .inv .1 .1) (c .before .before .mark .ensures ∙ rw (c .before .before .before .before .before .before .before .one-server .ensures, c .before .before .before .key-word .ensures))))
 
 returns : tie.Need-returns Inv-loop μ-loop
 returns c = let e : c .before .loop .place ≡ c .before .before .before .before .before .args .received = omega arith in rw (← e) (c .before .loop .inv .1 .1)

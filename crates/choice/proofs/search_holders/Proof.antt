@@ -5,7 +5,7 @@ use native.Mathlib.Omega.{arith}
 use Rattle.ranges.specs.Turns.{turns-none, turns-more}
 use Rattle.ranges.specs.Picked.{picked}
 use Rattle.rules.specs.Reply.{receivedIn}
-use Rattle.choice.specs.Bits.{addServer, gathered}
+use Rattle.keys.specs.Bits.{addServer, gathered}
 use Rattle.choice.specs.Walk.{holdsKey}
 use borrow.Author.Needs.{needs}
 use Rattle.choice.proofs.search_holders.Statement.{statement}

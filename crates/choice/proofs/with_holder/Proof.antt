@@ -6,7 +6,7 @@ use Rattle.choice.proofs.with_holder.Statement.{statement}
 use Rattle.choice.proofs.with_holder.Tie as tie
 
 returns : tie.Need-returns
-returns c = let a = c .before .before .before .before .before .before .args in rw (c .mask-of .ensures, holds-found (a .keys .now) (receivedIn (a .clients .now) (a .client)) (a .key) (a .server) (c .before .before .before .client-word .ensures) (c .before .before .find .ensures) (c .before .if1 .taken))
+returns c = let a = c .before .before .before .before .before .before .args in rw (c .one-server .ensures, holds-found (a .keys .now) (receivedIn (a .clients .now) (a .client)) (a .key) (a .server) (c .before .before .before .client-word .ensures) (c .before .before .find .ensures) (c .before .if1 .taken))
 
 returns-2 : tie.Need-returns-2
 returns-2 c = let a = c .before .before .before .before .before .args in rw (holds-not (a .keys .now) (receivedIn (a .clients .now) (a .client)) (a .key) (a .server) (c .before .before .client-word .ensures) (c .before .find .ensures) (c .if1 .left))

@@ -1,8 +1,8 @@
--- What is taken away is in the mask, so nothing is borrowed.
+-- `keys::without` meets its contract: what is taken away is in the mask, so the difference takes just those bits.
 use lib.Bits.{and-le-l}
 use borrow.Author.Needs.{needs}
-use Rattle.choice.proofs.without.Statement.{statement}
-use Rattle.choice.proofs.without.Tie as tie
+use Rattle.keys.proofs.without.Statement.{statement}
+use Rattle.keys.proofs.without.Tie as tie
 
 sub-result : tie.Need-sub-result
 sub-result c = and-le-l (c .args .mask) (c .args .other)
