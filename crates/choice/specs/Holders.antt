@@ -8,10 +8,10 @@ use lib.Dec.{eqb, ltb}
 use lib.Bits.{bitOr}
 use lib.ListN.{length, getD, set, length-set, replicate, length-replicate, getD-replicate}
 use lib.Seq.{getD-set-same, getD-set-other}
-use borrow.Author.Tests.{ltb-true, ltb-false, lt-ltb, le-ltb, eq-eqb, ne-eqb}
-use Rattle.ranges.specs.Tests.{either, by-equal, by-test, not-both, both-left, both-right}
-use Rattle.ranges.specs.All.{anyBelow, any-at, any-of}
-use Rattle.ranges.specs.First.{firstBelow, first-found}
+use borrow.Author.Tests.{ltb-true, lt-ltb, le-ltb, eq-eqb, ne-eqb}
+use Rattle.ranges.specs.Tests.{either, by-equal, by-test, both-left, both-right}
+use Rattle.ranges.specs.All.{anyBelow}
+use Rattle.ranges.specs.First.{firstBelow, found-any}
 use Rattle.ranges.specs.Turns.{turns, turns-keep}
 use Rattle.ranges.specs.Picked.{picked}
 use Rattle.keys.specs.Masks.{hasServer}
@@ -91,19 +91,6 @@ servers-long keys mask received k holders =
 -- whether a key's slot has a server
 abbrev pub slotHas : List ℕ → ℕ → ℕ → Bool
 slotHas holders w i = hasServer (getD holders (slotOf w) 0) i
-
--- a search finds a place below its end where any passes
-found-any : (p : ℕ → Bool) (n : ℕ) → ltb (firstBelow p n) n ≡ anyBelow p n
-found-any p n =
-    let f = first-found p n in
-    by-test (anyBelow p n)
-    (λ e. let a = any-of p n e in
-    by-test (ltb (firstBelow p n) n)
-    (λ b. b ∙ sym e)
-    (λ b. absurd (not-both (a .2) (f .before (a .0) (omega (arith, ltb-false (firstBelow p n) n b, a .1))))))
-    (λ e. by-test (ltb (firstBelow p n) n)
-    (λ b. let h : firstBelow p n < n = ltb-true _ _ b in absurd (not-both (any-at p n (firstBelow p n) h (f .here h)) e))
-    (λ b. b ∙ sym e))
 
 -- what the slot of a key says of server i: after one word, after the versions of one server, after several servers
 module _ (w i : ℕ) (t : tabled w ≡ true) where

@@ -4,8 +4,9 @@ use mathlib.Core.Path.{_≡_, sym, _∙_}
 use mathlib.Core.Bool.{Bool, true, false, cond}
 use native.Mathlib.Omega.{arith}
 use lib.Dec.{ltb}
-use borrow.Author.Tests.{ltb-true, ltb-false}
+use borrow.Author.Tests.{ltb-true, ltb-false, lt-ltb}
 use Rattle.ranges.specs.Tests.{by-equal, by-test, not-both}
+use Rattle.ranges.specs.All.{anyBelow, any-at, any-of}
 
 -- the first of the n numbers from a on that passes, and a + n where none does
 unfoldable pub firstFrom : (ℕ → Bool) → ℕ → ℕ → ℕ
@@ -46,6 +47,21 @@ module _ (p : ℕ → Bool) where
   -- it is the first
   pub first-found : (n : ℕ) → First p n (firstBelow p n)
   first-found n = let f = first-from n 0 in record { within = omega arith; before = λ i h. f .1 .1 .0 i (omega arith) h; here = λ h. f .1 .1 .1 (omega arith) }
+
+  -- it is below n where any below n passes, and else not
+  pub first-below : (n i : ℕ) → i < n → p i ≡ true → firstBelow p n < n
+  first-below n i h e =
+      by-test (ltb (firstBelow p n) n)
+      (λ b. ltb-true _ _ b)
+      (λ b. absurd (not-both e (first-found n .before i (omega (arith, ltb-false (firstBelow p n) n b)))))
+
+  pub found-any : (n : ℕ) → ltb (firstBelow p n) n ≡ anyBelow p n
+  found-any n =
+      by-test (anyBelow p n)
+      (λ e. let a = any-of p n e in lt-ltb (firstBelow p n) n (first-below n (a .0) (a .1) (a .2)) ∙ sym e)
+      (λ e. by-test (ltb (firstBelow p n) n)
+      (λ b. let h = ltb-true (firstBelow p n) n b in absurd (not-both (any-at p n (firstBelow p n) h (first-found n .here h)) e))
+      (λ b. b ∙ sym e))
 
 -- and there is one first only
 pub first-one : (p : ℕ → Bool) (n r s : ℕ) → First p n r → First p n s → r ≡ s

@@ -9,7 +9,7 @@ use lib.Dec.{eqb}
 use borrow.Author.Tests.{lt-ltb, eq-eqb}
 use Rattle.ranges.specs.Tests.{by-test, by-equal, not-both, both}
 use Rattle.ranges.specs.All.{any-at, all-of}
-use Rattle.ranges.specs.First.{firstBelow, first-found}
+use Rattle.ranges.specs.First.{first-below}
 use Rattle.keys.specs.Masks.{hasServer}
 use Rattle.tables.specs.Rows.{HasRow, word-same, word-other}
 use Rattle.tables.specs.Layout.{clientWidth, receivedField, serverPlaces}
@@ -32,12 +32,6 @@ use Rattle.replies.specs.Ready.{KeysReady, Concludable, toldRow, AllReady, Brin
 use Rattle.keeping.specs.Accepted.{Deliverable}
 use Rattle.keeping.specs.States.{uses-setpoints, uses-all, by-state, keys-target, masked-server, holding-log, holding-server, arrived, received-none, received-some, keys-told, all-told}
 use Rattle.store.specs.Ready.{target, answerable, reply-used, reply-sound}
-
--- the first number that passes is below n where 0 passes
-first-below : (p : ℕ → Bool) (n : ℕ) → p 0 ≡ true → 0 < n → firstBelow p n < n
-first-below p n e h =
-    let f = first-found p n in
-    by-equal (firstBelow p n) 0 (λ z. rw z h) (λ z. absurd (not-both e (f .before 0 (omega arith))))
 
 module _ (t : Tables) (s : Sound t) where
   -- the opening's version is the first of each server, and its key is the server's at tag 0
@@ -121,7 +115,7 @@ module _ (t : Tables) (s : Sound t) where
           (λ b.
           let u : uses (stateOf t q) (maskOf t q) j ≡ true = rw (z, uses-all (maskOf t q) j, b) in
           rw b (lt-ltb (firstBearing (t .keys) j (latestKey (t .log) j 0) (receivedIn told q j)) (receivedIn told q j)
-          (first-below (bears (t .keys) j (latestKey (t .log) j 0)) (receivedIn told q j) (opening-key j l) (told-some none j (omega (arith, server-fits t s j l)) u))))
+          (first-below (bears (t .keys) j (latestKey (t .log) j 0)) (receivedIn told q j) 0 (told-some none j (omega (arith, server-fits t s j l)) u) (opening-key j l))))
           (λ b. rw b))
 
       concludable : pending (putLink (t .links) q i Nothing) q ≡ false →
