@@ -1,16 +1,12 @@
 -- What a begin relies on. Sound tables have all of it.
-use Prim.Native.Nat.{ℕ, _+_, _*_, _<_, _≤_}
+use Prim.Native.Nat.{ℕ, _*_, _<_, _≤_}
 use mathlib.Core.Path.{_≡_}
 use mathlib.Core.List.{List}
 use lib.ListN.{length}
 use Rattle.tables.specs.Rows.{HasRow}
 use Rattle.tables.specs.Layout.{countAt, countWords, clientWidth, clientWord, countField, serversField, entriesField, writesField, entryWidth}
-use Rattle.tables.specs.Links.{targets, linkWidth}
+use Rattle.tables.specs.Links.{HasLinks}
 use Rattle.history.specs.Ready.{BeginReady}
-
--- all links of a client are there
-abbrev pub HasLinks : List ℕ → ℕ → Type 0
-HasLinks links q = linkWidth * (targets * q + targets) ≤ length links
 
 -- a READ: the client's row and links, and the log's entries
 pub record AskReady (counts clients links log : List ℕ) (q : ℕ) : Type 0 where

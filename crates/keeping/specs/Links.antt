@@ -1,25 +1,21 @@
--- A link by its three words: what it holds, what soundness asks of it, and what a put leaves.
+-- A link by its three words: what it holds, and what soundness asks of it.
 use Prim.Native.Nat.{ℕ, _≤_, _<_}
-use mathlib.Core.Path.{_≡_, refl, sym, _∙_, ap}
+use mathlib.Core.Path.{_≡_, sym, _∙_, ap}
 use mathlib.Core.Bool.{Bool, true, false, not, _&&_}
 use mathlib.Core.List.{List}
 use native.Mathlib.Omega.{arith}
-use lib.ListN.{getD, length}
 use Rattle.ranges.specs.Tests.{by-equal, both, both-left, both-right, not-both}
 use Rattle.ranges.specs.All.{any-at, any-same}
-use Rattle.tables.specs.Rows.{wordAt, HasRow, place-one, row-same, row-other}
-use Rattle.tables.specs.Links.{targets, linkWidth, linkRow, linkAt, putLink, isEmpty, contentWords, contentsOf}
+use Rattle.tables.specs.Links.{targets, linkWidth, linkAt, isEmpty, contentsOf}
+pub use Rattle.tables.specs.Links.{linkWord, put-same, put-other, put-beside}
 use Rattle.tables.specs.Tables.{Tables, stateOf, maskOf, contentAt}
 use Rattle.tables.specs.declared.links.Contents.{Contents}
 use Rattle.tables.specs.declared.links.Content.{Content}
 use Rattle.tables.specs.declared.links.Content.the-variants.{Nothing, Request, Reply}
 use Rattle.tables.specs.declared.links.Link.{Link}
-use Rattle.rules.specs.Common.{pending}
+use Rattle.rules.specs.Common.{filled, pending}
 use Rattle.soundness.specs.Sound.{uses, requestSound, replySound, keyOn, contentSound}
 use Rattle.soundness.specs.Facts.{LinkFacts}
-
-abbrev pub linkWord : List ℕ → ℕ → ℕ → ℕ → ℕ
-linkWord links q i f = wordAt linkWidth links (linkRow q i) f
 
 abbrev pub kindOn : Tables → ℕ → ℕ → ℕ
 kindOn t q i = linkWord (t .links) q i 0
@@ -99,17 +95,14 @@ module _ (links : List ℕ) (q i : ℕ) where
   kind-full h d = kind-by h (λ k. absurd (d k)) (λ k. ap isEmpty (at-request k)) (λ k. ap isEmpty (at-reply k))
 
 -- some link of the client is full, or none is
-abbrev full : List ℕ → ℕ → ℕ → Bool
-full links q i = not (isEmpty (linkAt links q i .content))
-
 pub pending-at : (links : List ℕ) (q i : ℕ) → i < targets → linkWord links q i 0 ≤ 2 → (linkWord links q i 0 ≡ 0 → ⊥) → pending links q ≡ true
-pending-at links q i h k d = any-at (full links q) targets i h (ap not (kind-full links q i k d))
+pending-at links q i h k d = any-at (filled links q) targets i h (ap not (kind-full links q i k d))
 
 pub none-pending : (links : List ℕ) (q i : ℕ) → i < targets → linkWord links q i 0 ≤ 2 → pending links q ≡ false → linkWord links q i 0 ≡ 0
 none-pending links q i h k e = by-equal (linkWord links q i 0) 0 (λ z. z) (λ d. absurd (not-both (pending-at links q i h k d) e))
 
 pub pending-same : (links links′ : List ℕ) (q : ℕ) → ((i f : ℕ) → i < targets → f < linkWidth → linkWord links′ q i f ≡ linkWord links q i f) → pending links′ q ≡ pending links q
-pending-same links links′ q h = any-same (full links′ q) (full links q) targets (λ i l. rw (link-same-words links links′ q i (λ f g. h i f l g)))
+pending-same links links′ q h = any-same (filled links′ q) (filled links q) targets (λ i l. rw (link-same-words links links′ q i (λ f g. h i f l g)))
 
 -- What soundness asks of a link, by its kind.
 pub record LinkAsks (t : Tables) (q i : ℕ) : Type 0 where
@@ -146,23 +139,3 @@ module _ (t : Tables) (q i : ℕ) where
             (λ k. rw (at-request (t .links) q i k) (both _ _ (a .used (λ z. omega arith)) (a .request k)))
             (λ k. rw (at-reply (t .links) q i k) (both _ _ (a .used (λ z. omega arith)) (a .reply k)));
       }
-
--- What a put leaves: the words of what was put, and every other link's words.
-words-three : (c : Content) → length (contentWords c) ≡ 3
-words-three Nothing = refl
-words-three (Request w) = refl
-words-three (Reply w) = refl
-
-module _ (links : List ℕ) (q i : ℕ) (c : Content) where
-  pub put-same : (f : ℕ) → HasRow linkWidth links (linkRow q i) → f < linkWidth → linkWord (putLink links q i c) q i f ≡ getD (contentWords c) f 0
-  unfolding putLink
-  put-same f h g = row-same linkWidth links (linkRow q i) (contentWords c) f h (rw (words-three c) (omega arith)) (rw (words-three c) g)
-
-  pub put-other : (p j f : ℕ) → i < targets → j < targets → ((p ≡ q) × (j ≡ i) → ⊥) → f < linkWidth → linkWord (putLink links q i c) p j f ≡ linkWord links p j f
-  unfolding putLink
-  put-other p j f h g d l = row-other linkWidth links (linkRow q i) (contentWords c) (linkRow p j) f (rw (words-three c) (omega arith)) l (λ e. d (place-one targets p j q i g h e))
-
-  -- of the same client: every other target
-  pub put-beside : (j f : ℕ) → (j ≡ i → ⊥) → f < linkWidth → linkWord (putLink links q i c) q j f ≡ linkWord links q j f
-  unfolding putLink
-  put-beside j f d l = row-other linkWidth links (linkRow q i) (contentWords c) (linkRow q j) f (rw (words-three c) (omega arith)) l (λ e. d (omega arith))

@@ -5,7 +5,7 @@ use mathlib.Core.List.{List}
 use lib.ListN.{length}
 use Rattle.tables.specs.Rows.{HasRow}
 use Rattle.tables.specs.Layout.{countAt, stepField, serversField, clientWidth, clientWord, putClientWord, stateField, countField, recordField, recordWidth, entryWidth, logPlaces, tagField, maskField, receivedField}
-use Rattle.tables.specs.Links.{linkAt, putLink, targets}
+use Rattle.tables.specs.Links.{targets, HasLinks, linkAt, putLink}
 use Rattle.tables.specs.declared.links.Contents.{Contents}
 use Rattle.tables.specs.declared.links.Content.the-variants.{Nothing, Reply}
 use Rattle.rules.specs.declared.Delivered.{Delivered}
@@ -15,7 +15,6 @@ use Rattle.rules.specs.Reply.{readShown, receivedIn, forget}
 use Rattle.choice.specs.Ready.{ChoiceReady}
 use Rattle.choice.specs.Cases.{keptSetpoints}
 use Rattle.requests.specs.Ready.{Answerable}
-use Rattle.begins.specs.Ready.{HasLinks}
 use Rattle.ranges.specs.Last.{last-below, last-passes}
 use Rattle.ranges.specs.Turns.{turns}
 use mathlib.Core.Bool.{Bool, true, false}

@@ -5,7 +5,7 @@ ghost use Prim.Native.Nat.{ℕ, _+_, _<_};
 ghost use Rattle.tables.specs.Tables.{tablesOf};
 ghost use Rattle.tables.specs.Rows.{HasRow};
 ghost use Rattle.tables.specs.Layout.{clientWidth};
-ghost use Rattle.tables.specs.Links.{putLink};
+ghost use Rattle.tables.specs.Links.{HasLinks, putLink};
 ghost use Rattle.tables.specs.Layout.{stateField, countField, maskField, recordWidth, putClientWord, clientWord};
 ghost use Rattle.keys.specs.Keys.{keyOf};
 ghost use Rattle.rules.specs.Answers.{arrived};
@@ -14,7 +14,6 @@ ghost use Rattle.rules.specs.Reply.{shownSetpoints, onSetDone, onEntered, onKey
 ghost use Rattle.replies.specs.Ready.{Settled, CountFits, GotReady, KeysReady, Finished, Concludable, FinishedByC, AllReady, Brings, ReplyReady};
 ghost use Rattle.choice.specs.Ready.{ChoiceReady};
 ghost use Rattle.requests.specs.Ready.{Answerable};
-ghost use Rattle.begins.specs.Ready.{HasLinks};
 use keys::Key;
 use rules::Arrival;
 use rules::Delivered;

@@ -50,9 +50,12 @@ nextStep t = stepOf t + 1
 abbrev pub counted : List ℕ → List ℕ
 counted counts = set counts stepField (countAt counts stepField + 1)
 
--- some link of the client holds a request or a reply
+-- a link of the client, or some link of it, holds a request or a reply
+abbrev pub filled : List ℕ → ℕ → ℕ → Bool
+filled links q i = not (isEmpty (linkAt links q i .content))
+
 abbrev pub pending : List ℕ → ℕ → Bool
-pending links q = anyBelow (λ i. not (isEmpty (linkAt links q i .content))) targets
+pending links q = anyBelow (filled links q) targets
 
 -- a begin: "Records stand in order of begin." The record in the next place, with no tag and no end; one transaction of its kind more, one step more.
 abbrev pub begunCounts : ℕ → List ℕ → List ℕ

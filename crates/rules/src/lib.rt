@@ -1,8 +1,6 @@
 // The rules of the steps: what each accepted step changes and answers, as definitions in specs/. The answers and the states are declared here.
 ghost use mathlib.Core.Path.{_≡_};
-ghost use Prim.Native.Nat.{_*_, _≤_};
-ghost use lib.ListN.{length};
-ghost use Rattle.tables.specs.Links.{linkWidth, linkRow, targets};
+ghost use Rattle.tables.specs.Links.{HasLinks};
 ghost use Rattle.rules.specs.Answers.{nothingShown};
 ghost use Rattle.rules.specs.Common.{pending};
 
@@ -43,7 +41,7 @@ pub fn showing_nothing(arrival: Arrival) -> Delivered
 
 // Whether some link of a client holds a request or a reply.
 pub fn is_pending(links: &[u32], client: usize) -> bool
-    requires { ⌜ linkWidth * linkRow client targets ≤ length (now links) ⌝ }
+    requires { ⌜ HasLinks (now links) client ⌝ }
     ensures { λ r. ⌜ r ≡ pending (now (links .entry)) client ⌝ }
 {
     let mut target = 0;

@@ -14,7 +14,7 @@ use Rattle.keys.specs.Masks.{hasServer, serversIn, Within, some-server}
 use Rattle.coordinator.specs.Latest.{latestKey}
 use Rattle.tables.specs.Rows.{HasRow, word-same, word-other}
 use Rattle.tables.specs.Layout.{clientWidth, clientWord, putClientWord, stateField, countField, maskField, tagField, recordField, setpointsField, writesField, readsField, recordPlaces, countWords}
-use Rattle.tables.specs.Links.{targets, linkAt}
+use Rattle.tables.specs.Links.{targets, HasLinks, linkAt}
 use Rattle.tables.specs.Tables.{Tables, methodOf, serversOf, clientsOf, stepOf, writesOf, readsOf, stateOf, countOf}
 use Rattle.tables.specs.declared.links.Content.{Content}
 use Rattle.tables.specs.declared.links.Content.the-variants.{Nothing}

@@ -15,7 +15,7 @@ use Rattle.keys.specs.Masks.{hasServer}
 use Rattle.coordinator.specs.Latest.{latestKey}
 use Rattle.tables.specs.Rows.{HasRow, word-same, word-other, word-length}
 use Rattle.tables.specs.Layout.{clientWidth, clientWord, putClientWord, stateField, countField, maskField, tagField, setpointsField, receivedField}
-use Rattle.tables.specs.Links.{targets, linkAt, putLink, link-length}
+use Rattle.tables.specs.Links.{targets, HasLinks, linkAt, putLink, link-length}
 use Rattle.tables.specs.Tables.{Tables, tablesOf, serversOf, stepOf, writesOf, readsOf, stateOf, countOf, maskOf, recordOf, contentAt}
 use Rattle.tables.specs.declared.links.Contents.{Contents}
 use Rattle.tables.specs.declared.links.Content.{Content}

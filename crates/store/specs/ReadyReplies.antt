@@ -1,7 +1,7 @@
 -- Sound tables are ready for the delivery of a reply.
 use Prim.Native.Nat.{ℕ, _+_, _*_, _≤_, _<_}
 use mathlib.Core.Path.{_≡_, sym, _∙_}
-use mathlib.Core.Bool.{Bool, true, false, not, _&&_, or-true}
+use mathlib.Core.Bool.{true, false, _&&_, or-true}
 use mathlib.Core.List.{List}
 use native.Mathlib.Omega.{arith}
 use lib.ListN.{length, length-set}
@@ -20,7 +20,7 @@ use Rattle.tables.specs.declared.links.Content.the-variants.{Nothing, Reply}
 use Rattle.coordinator.specs.Latest.{latestTag, latestKey}
 use Rattle.coordinator.specs.LatestLaws.{latest-within}
 use Rattle.server.specs.Held.{firstBearing, bears}
-use Rattle.rules.specs.Common.{askingKeys, askingSetpoints, askingAll, coordinator, pending}
+use Rattle.rules.specs.Common.{askingKeys, askingSetpoints, askingAll, coordinator, filled, pending}
 use Rattle.rules.specs.Choice.{qualifies}
 use Rattle.rules.specs.Reply.{receivedIn}
 use Rattle.soundness.specs.Sound.{uses, holding}
@@ -83,7 +83,7 @@ module _ (t : Tables) (s : Sound t) where
           let same : linkAt (putLink (t .links) q i Nothing) q j ≡ linkAt (t .links) q j = link-other (t .links) q i Nothing q j (target t s q i d) l (λ x. y (x .1)) in
           let free : isEmpty (contentAt t q j) ≡ true =
           by-test (isEmpty (contentAt t q j)) (λ b. b)
-          (λ b. absurd (not-both (any-at (λ k. not (isEmpty (linkAt (putLink (t .links) q i Nothing) q k .content))) targets j l (rw (same, b))) none)) in
+          (λ b. absurd (not-both (any-at (filled (putLink (t .links) q i Nothing) q) targets j l (rw (same, b))) none)) in
           let in′ = received-some t q j (both (eqb (stateOf t q) askingAll) (uses (stateOf t q) (maskOf t q) j && isEmpty (contentAt t q j)) (eq-eqb _ _ z) (both (uses (stateOf t q) (maskOf t q) j) (isEmpty (contentAt t q j)) u free)) (s .client q (d .client) .received j l) in
           rw (told-other j l y) (in′ .least))
 

@@ -90,8 +90,11 @@ logPlaces = 256
 abbrev pub entryWidth : ℕ
 entryWidth = 2
 
+abbrev pub entryWord : List ℕ → ℕ → ℕ
+entryWord log tag = wordAt entryWidth log tag 0
+
 abbrev pub entryKey : List ℕ → ℕ → Key
-entryKey log tag = keyAtWord (wordAt entryWidth log tag 0)
+entryKey log tag = keyAtWord (entryWord log tag)
 
 abbrev pub entryMask : List ℕ → ℕ → ℕ
 entryMask log tag = wordAt entryWidth log tag 1

@@ -1,5 +1,5 @@
 -- The links: "Each link (panel, target) holds nothing, a request or a reply with its contents." A row of three words: kind, key, number.
-use Prim.Native.Nat.{ℕ, _+_, _*_, _<_}
+use Prim.Native.Nat.{ℕ, _+_, _*_, _≤_, _<_}
 use mathlib.Core.Path.{_≡_, refl, _∙_}
 use mathlib.Core.Bool.{Bool, true, false, cond}
 use mathlib.Core.List.{List, [], _∷_}
@@ -26,6 +26,14 @@ linkWidth = 3
 abbrev pub linkRow : ℕ → ℕ → ℕ
 linkRow q i = targets * q + i
 
+-- word f of a link: 0 its kind, 1 its key, 2 its number
+abbrev pub linkWord : List ℕ → ℕ → ℕ → ℕ → ℕ
+linkWord links q i f = wordAt linkWidth links (linkRow q i) f
+
+-- all links of a client are there
+abbrev pub HasLinks : List ℕ → ℕ → Type 0
+HasLinks links q = linkWidth * linkRow q targets ≤ length links
+
 -- a content as the words of its row; nothing is all 0
 abbrev pub contentWords : Content → List ℕ
 contentWords Nothing = 0 ∷ 0 ∷ 0 ∷ []
@@ -40,8 +48,7 @@ abbrev pub contentsOf : ℕ → ℕ → Contents
 contentsOf key number = record { key = keyAtWord key; number = number }
 
 unfoldable pub linkAt : List ℕ → ℕ → ℕ → Link
-linkAt links q i =
-    record { content = contentOf (wordAt linkWidth links (linkRow q i) 0) (contentsOf (wordAt linkWidth links (linkRow q i) 1) (wordAt linkWidth links (linkRow q i) 2)) }
+linkAt links q i = record { content = contentOf (linkWord links q i 0) (contentsOf (linkWord links q i 1) (linkWord links q i 2)) }
 
 unfoldable pub putLink : List ℕ → ℕ → ℕ → Content → List ℕ
 putLink links q i content = putRow linkWidth links (linkRow q i) (contentWords content)
@@ -70,22 +77,27 @@ words-three (Request w) = refl
 words-three (Reply w) = refl
 
 module _ (links : List ℕ) (q i : ℕ) (content : Content) where
-  word-same : (f : ℕ) → HasRow linkWidth links (linkRow q i) → f < linkWidth → wordAt linkWidth (putLink links q i content) (linkRow q i) f ≡ getD (contentWords content) f 0
+  pub put-same : (f : ℕ) → HasRow linkWidth links (linkRow q i) → f < linkWidth → linkWord (putLink links q i content) q i f ≡ getD (contentWords content) f 0
   unfolding putLink
-  word-same f h g = row-same linkWidth links (linkRow q i) (contentWords content) f h (rw (words-three content) (omega arith)) (rw (words-three content) g)
+  put-same f h g = row-same linkWidth links (linkRow q i) (contentWords content) f h (rw (words-three content) (omega arith)) (rw (words-three content) g)
 
   pub link-same : HasRow linkWidth links (linkRow q i) → ContentFits content → linkAt (putLink links q i content) q i .content ≡ content
   unfolding linkAt
-  link-same h f = read-back content f (word-same 0 h (omega arith)) (word-same 1 h (omega arith)) (word-same 2 h (omega arith))
+  link-same h f = read-back content f (put-same 0 h (omega arith)) (put-same 1 h (omega arith)) (put-same 2 h (omega arith))
 
   -- every other link stays: two rows differ unless client and target are the same
-  word-other : (p j f : ℕ) → i < targets → j < targets → ((p ≡ q) × (j ≡ i) → ⊥) → f < linkWidth → wordAt linkWidth (putLink links q i content) (linkRow p j) f ≡ wordAt linkWidth links (linkRow p j) f
+  pub put-other : (p j f : ℕ) → i < targets → j < targets → ((p ≡ q) × (j ≡ i) → ⊥) → f < linkWidth → linkWord (putLink links q i content) p j f ≡ linkWord links p j f
   unfolding putLink
-  word-other p j f h g d l = row-other linkWidth links (linkRow q i) (contentWords content) (linkRow p j) f (rw (words-three content) (omega arith)) l (λ e. d (place-one targets p j q i g h e))
+  put-other p j f h g d l = row-other linkWidth links (linkRow q i) (contentWords content) (linkRow p j) f (rw (words-three content) (omega arith)) l (λ e. d (place-one targets p j q i g h e))
+
+  -- of the same client: every other target, whatever its number
+  pub put-beside : (j f : ℕ) → (j ≡ i → ⊥) → f < linkWidth → linkWord (putLink links q i content) q j f ≡ linkWord links q j f
+  unfolding putLink
+  put-beside j f d l = row-other linkWidth links (linkRow q i) (contentWords content) (linkRow q j) f (rw (words-three content) (omega arith)) l (λ e. d (omega arith))
 
   pub link-other : (p j : ℕ) → i < targets → j < targets → ((p ≡ q) × (j ≡ i) → ⊥) → linkAt (putLink links q i content) p j ≡ linkAt links p j
   unfolding linkAt
-  link-other p j h g d = rw (word-other p j 0 h g d (omega arith), word-other p j 1 h g d (omega arith), word-other p j 2 h g d (omega arith))
+  link-other p j h g d = rw (put-other p j 0 h g d (omega arith), put-other p j 1 h g d (omega arith), put-other p j 2 h g d (omega arith))
 
   pub link-length : length (putLink links q i content) ≡ length links
   unfolding putLink
@@ -105,30 +117,27 @@ module _ (links : List ℕ) (q i : ℕ) where
   unfolding putLink
   put-reply e d f = f ∙ rw (e, d)
 
-  abbrev wordOf : ℕ → ℕ
-  wordOf f = wordAt linkWidth links (linkRow q i) f
-
-  pub is-request : {k : Key} → wordOf 0 ≡ 1 → k ≡ keyAtWord (wordOf 1) → record { content = Request (record { key = k; number = wordOf 2 }) } ≡ linkAt links q i
+  pub is-request : {k : Key} → linkWord links q i 0 ≡ 1 → k ≡ keyAtWord (linkWord links q i 1) → record { content = Request (record { key = k; number = linkWord links q i 2 }) } ≡ linkAt links q i
   unfolding linkAt
   is-request e d = rw (d, e)
 
-  pub is-reply : {k : Key} → (wordOf 0 ≡ 1 → ⊥) → wordOf 0 ≡ 2 → k ≡ keyAtWord (wordOf 1) → record { content = Reply (record { key = k; number = wordOf 2 }) } ≡ linkAt links q i
+  pub is-reply : {k : Key} → (linkWord links q i 0 ≡ 1 → ⊥) → linkWord links q i 0 ≡ 2 → k ≡ keyAtWord (linkWord links q i 1) → record { content = Reply (record { key = k; number = linkWord links q i 2 }) } ≡ linkAt links q i
   unfolding linkAt
   is-reply f e d = rw (d, ne-eqb _ _ f, eq-eqb _ _ e)
 
-  pub is-nothing : (wordOf 0 ≡ 1 → ⊥) → (wordOf 0 ≡ 2 → ⊥) → record { content = Nothing } ≡ linkAt links q i
+  pub is-nothing : (linkWord links q i 0 ≡ 1 → ⊥) → (linkWord links q i 0 ≡ 2 → ⊥) → record { content = Nothing } ≡ linkAt links q i
   unfolding linkAt
   is-nothing f g = rw (ne-eqb _ _ f, ne-eqb _ _ g)
 
   -- whether a link holds anything
-  pub full-request : wordOf 0 ≡ 1 → false ≡ isEmpty (linkAt links q i .content)
+  pub full-request : linkWord links q i 0 ≡ 1 → false ≡ isEmpty (linkAt links q i .content)
   unfolding linkAt
   full-request e = rw e
 
-  pub full-reply : (wordOf 0 ≡ 1 → ⊥) → wordOf 0 ≡ 2 → false ≡ isEmpty (linkAt links q i .content)
+  pub full-reply : (linkWord links q i 0 ≡ 1 → ⊥) → linkWord links q i 0 ≡ 2 → false ≡ isEmpty (linkAt links q i .content)
   unfolding linkAt
   full-reply f e = rw (ne-eqb _ _ f, eq-eqb _ _ e)
 
-  pub none-there : (wordOf 0 ≡ 1 → ⊥) → (wordOf 0 ≡ 2 → ⊥) → true ≡ isEmpty (linkAt links q i .content)
+  pub none-there : (linkWord links q i 0 ≡ 1 → ⊥) → (linkWord links q i 0 ≡ 2 → ⊥) → true ≡ isEmpty (linkAt links q i .content)
   unfolding linkAt
   none-there f g = rw (ne-eqb _ _ f, ne-eqb _ _ g)

@@ -4,8 +4,8 @@ ghost use Prim.Native.Nat.{_+_, _<_};
 ghost use mathlib.Core.List.{[], _∷_};
 ghost use lib.ListN.{length};
 ghost use lib.Seq.{sets};
-ghost use Rattle.tables.specs.Rows.{wordAt, HasRow};
-ghost use Rattle.tables.specs.Links.{linkWidth, linkRow, linkAt, putLink, isEmpty};
+ghost use Rattle.tables.specs.Rows.{HasRow};
+ghost use Rattle.tables.specs.Links.{linkWidth, linkRow, linkWord, linkAt, putLink, isEmpty};
 use keys::Key;
 
 // What a request or a reply carries. The number is the setpoint, mask, tag or n; what a message does not carry is 0.
@@ -65,7 +65,7 @@ pub fn link_at(links: &[u32], client: usize, target: usize) -> Link
 pub fn link_word(links: &[u32], client: usize, target: usize, field: usize) -> u32
     requires { ⌜ HasRow linkWidth (now links) (linkRow client target) ⌝ }
     requires { ⌜ field < linkWidth ⌝ }
-    ensures { λ r. ⌜ r ≡ wordAt linkWidth (now (links .entry)) (linkRow client target) field ⌝ }
+    ensures { λ r. ⌜ r ≡ linkWord (now (links .entry)) client target field ⌝ }
 {
     links[WIDTH * (TARGETS * client + target) + field]
 }

@@ -1,7 +1,7 @@
 // The coordinator's log: (key, mask) at each tag.
 ghost use mathlib.Core.Path.{_≡_};
-ghost use Rattle.tables.specs.Rows.{wordAt, HasRow};
-ghost use Rattle.tables.specs.Layout.{entryWidth, entryKey, entryMask, putEntry};
+ghost use Rattle.tables.specs.Rows.{HasRow};
+ghost use Rattle.tables.specs.Layout.{entryWidth, entryWord, entryKey, entryMask, putEntry};
 use keys::Key;
 
 pub const PLACES: usize = 256;
@@ -22,7 +22,7 @@ pub fn entry_key(log: &[u32], tag: usize) -> Key
 // The word of an entry's key as it stands, for those who ask whether it is in its range.
 pub fn key_word(log: &[u32], tag: usize) -> u32
     requires { ⌜ HasRow entryWidth (now log) tag ⌝ }
-    ensures { λ r. ⌜ r ≡ wordAt entryWidth (now (log .entry)) tag 0 ⌝ }
+    ensures { λ r. ⌜ r ≡ entryWord (now (log .entry)) tag ⌝ }
 {
     log[WIDTH * tag + KEY]
 }

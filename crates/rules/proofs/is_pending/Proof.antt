@@ -1,17 +1,13 @@
 -- `rules::is_pending` meets its contract: no link that the loop has passed holds anything.
-use Prim.Native.Nat.{ℕ, _-_, _≤_}
+use Prim.Native.Nat.{_-_, _≤_}
 use mathlib.Core.Path.{_≡_, sym}
-use mathlib.Core.Bool.{Bool, false, not}
-use mathlib.Core.List.{List}
+use mathlib.Core.Bool.{false}
 use native.Mathlib.Omega.{arith}
 use Rattle.ranges.specs.All.{anyBelow, any-at, any-none, any-more, any-end}
-use Rattle.tables.specs.Links.{linkAt, isEmpty}
+use Rattle.rules.specs.Common.{filled}
 use borrow.Author.Needs.{needs}
 use Rattle.rules.proofs.is_pending.Statement.{statement}
 use Rattle.rules.proofs.is_pending.Tie as tie
-
-abbrev filled : List ℕ → ℕ → ℕ → Bool
-filled links client i = not (isEmpty (linkAt links client i .content))
 
 abbrev Inv-loop : tie.InvT-loop
 Inv-loop links client target₀ target = (target ≤ 17) × (anyBelow (filled links client) target ≡ false)
