@@ -1,28 +1,24 @@
 -- The cases of C's choice, as the code meets them.
 use Prim.Native.Nat.{ℕ, _+_, _≤_, _<_}
 use mathlib.Core.Path.{_≡_, refl, sym, _∙_}
-use mathlib.Core.Bool.{Bool, true, false, cond}
+use mathlib.Core.Bool.{Bool, true, false}
 use mathlib.Core.List.{List}
 use native.Mathlib.Omega.{arith}
 use lib.ListN.{length}
 use borrow.Author.Tests.{ltb-true}
 use Rattle.ranges.specs.Tests.{either}
 use Rattle.ranges.specs.All.{all-at}
-use Rattle.ranges.specs.Turns.{turns, turns-keep-below}
+use Rattle.ranges.specs.Turns.{turns-keep-below}
 use Rattle.ranges.specs.Picked.{picked}
 use Rattle.tables.specs.Rows.{word-other}
-use Rattle.tables.specs.Layout.{clientWidth, setpointsField, receivedField, versionWord}
+use Rattle.tables.specs.Layout.{clientWidth, setpointsField, receivedField}
 use Rattle.choice.specs.Ready.{Received}
 use Rattle.keys.specs.declared.Key.{Key}
 use Rattle.keys.specs.Masks.{hasServer}
 use Rattle.server.specs.Held.{firstBearing}
 use Rattle.coordinator.specs.Latest.{latestKey}
-use Rattle.rules.specs.Choice.{versionAt, hasVersion, qualifies}
-use Rattle.rules.specs.Reply.{receivedIn, keepSetpoint}
-
--- what a server must have for a tag to qualify: nothing where the mask does not have it
-abbrev pub serves : List ℕ → List ℕ → ℕ → (ℕ → ℕ) → ℕ → ℕ → Bool
-serves keys log mask received t i = cond (hasServer mask i) (hasVersion keys log received t i) true
+use Rattle.rules.specs.Choice.{hasVersion, serves, qualifies, chosenSetpoint}
+use Rattle.rules.specs.Reply.{receivedIn, keepSetpoint, keptSetpoints}
 
 -- has is what was asked of the mask, b what was asked of the versions
 module _ (keys log : List ℕ) (mask : ℕ) (received : ℕ → ℕ) (t i : ℕ) {has : Bool} (m : has ≡ hasServer mask i) where
@@ -39,15 +35,8 @@ kept-place keys log clients q t i {n} {place} c k p e =
     let l : firstBearing keys i (latestKey log i t) (receivedIn clients q i) < receivedIn clients q i = ltb-true _ _ e in
     rw (p, k, c) l
 
--- the setpoint of server i at a tag, as the versions received have it
-abbrev pub setpointIn : List ℕ → List ℕ → List ℕ → ℕ → List ℕ → ℕ → ℕ → ℕ
-setpointIn keys values log t clients q i = versionWord values i (versionAt keys log i t (receivedIn clients q i))
-
-abbrev pub keptSetpoints : List ℕ → List ℕ → List ℕ → ℕ → ℕ → ℕ → ℕ → List ℕ → List ℕ
-keptSetpoints keys values log t q mask k clients = turns (picked (hasServer mask) (keepSetpoint (setpointIn keys values log t clients q) q)) k clients
-
 -- a setpoint kept leaves the n received
-received-kept : (v : ℕ → ℕ) (q mask k j : ℕ) (clients : List ℕ) → k ≤ 16 → j < 17 → receivedIn (turns (picked (hasServer mask) (keepSetpoint v q)) k clients) q j ≡ receivedIn clients q j
+received-kept : (v : ℕ → ℕ) (q mask k j : ℕ) (clients : List ℕ) → k ≤ 16 → j < 17 → receivedIn (keptSetpoints v q mask k clients) q j ≡ receivedIn clients q j
 received-kept v q mask k j clients h g =
     turns-keep-below (picked (hasServer mask) (keepSetpoint v q)) (λ (y : List ℕ). receivedIn y q j ≡ receivedIn clients q j) k
     (λ i l y e.
@@ -57,9 +46,9 @@ received-kept v q mask k j clients h g =
 
 -- so a loop that has come to server i finds there what it found at first
 module _ (keys values log : List ℕ) (t q mask k : ℕ) (clients : List ℕ) {now′ : List ℕ} {i : ℕ} (few : k ≤ 16) (below : i < k)
-    (same : length now′ ≡ length clients) (come : now′ ≡ keptSetpoints keys values log t q mask i clients) where
+    (same : length now′ ≡ length clients) (come : now′ ≡ keptSetpoints (chosenSetpoint keys values log (receivedIn clients q) t) q mask i clients) where
   pub still-received : receivedIn now′ q i ≡ receivedIn clients q i
-  still-received = rw come (received-kept (setpointIn keys values log t clients q) q mask i i clients (omega arith) (omega arith))
+  still-received = rw come (received-kept (chosenSetpoint keys values log (receivedIn clients q) t) q mask i i clients (omega arith) (omega arith))
 
   pub still-there : Received clients keys q i → Received now′ keys q i
   still-there r = record { server = r .server; row = omega (arith, r .row); held = rw still-received (r .held); count = rw still-received (r .count) }

@@ -17,14 +17,9 @@ use Rattle.keys.specs.Masks.{hasServer, some-server}
 use Rattle.tables.specs.Layout.{entryKey, entryMask}
 use Rattle.server.specs.Held.{firstBearing}
 use Rattle.coordinator.specs.Latest.{wrote, latestTag}
-use Rattle.rules.specs.Choice.{hasVersion, qualifies, chosenTag}
-use Rattle.choice.specs.Cases.{serves}
+use Rattle.rules.specs.Choice.{holdsKey, hasVersion, serves, qualifies, chosenTag}
 use Rattle.keys.specs.Bits.{without, and-bit, or-bit, without-bit, no-bit, first-bit, beyond-bit, gathered, gathered-bit}
 use Rattle.choice.specs.Holders.{tabled, slotOf, Marked}
-
--- a key is among the versions received from server i
-abbrev pub holdsKey : List ℕ → (ℕ → ℕ) → Key → ℕ → Bool
-holdsKey keys received key i = ltb (firstBearing keys i key (received i)) (received i)
 
 -- the holders of a key: those in its slot, and where it has none those found by a search
 unfoldable pub holdersOf : List ℕ → List ℕ → (ℕ → ℕ) → ℕ → Key → ℕ

@@ -8,15 +8,14 @@ ghost use mathlib.Core.Bool.{true, cond};
 ghost use Rattle.ranges.specs.Picked.{picked};
 ghost use Rattle.ranges.specs.Turns.{turns};
 ghost use Rattle.keys.specs.Masks.{hasServer};
-ghost use Rattle.tables.specs.Layout.{clientWidth, entryWidth, serverPlaces, setpointsField, tagField, putClientWord, versionWord, entryKey, entryMask};
+ghost use Rattle.tables.specs.Layout.{clientWidth, entryWidth, serverPlaces, entryKey, entryMask};
 ghost use Rattle.tables.specs.Links.{targets};
-ghost use Rattle.rules.specs.Choice.{versionAt, hasVersion, qualifies, chosenTag};
-ghost use Rattle.rules.specs.Reply.{receivedIn, forget};
+ghost use Rattle.rules.specs.Choice.{holdsKey, hasVersion, serves, qualifies, chosenTag, chosenSetpoint};
+ghost use Rattle.rules.specs.Reply.{receivedIn, keepSetpoint, keptSetpoints, forget, concludedRow};
 ghost use Rattle.choice.specs.Ready.{Received, ChoiceReady};
-ghost use Rattle.choice.specs.Cases.{serves, keptSetpoints};
 ghost use Rattle.keys.specs.Bits.{without, addServer, gathered};
 ghost use Rattle.choice.specs.Holders.{slots, tabled, slotOf, marked, markVersions, markServers, Marked};
-ghost use Rattle.choice.specs.Walk.{holdsKey, holdersOf, lackingAfter};
+ghost use Rattle.choice.specs.Walk.{holdersOf, lackingAfter};
 use keys::Key;
 use tables::clients;
 use tables::links;
@@ -391,10 +390,8 @@ fn keep_setpoint(
     requires { ⌜ Received (now clients) (now keys) client server ⌝ }
     requires { ⌜ (HasRow entryWidth (now log) tag) × (HasRow serverPlaces (now values) server) ⌝ }
     requires { ⌜ (hasServer mask server ≡ true → hasVersion (now keys) (now log) (receivedIn (now clients) client) tag server ≡ true) ⌝ }
-    ensures { λ _. ⌜ now (clients .exit) ≡ cond (hasServer mask server)
-        (putClientWord (now (clients .entry)) client (setpointsField + server)
-        (versionWord (now (values .entry)) server (versionAt (now (keys .entry)) (now (log .entry)) server tag (receivedIn (now (clients .entry)) client server))))
-        (now (clients .entry)) ⌝ }
+    ensures { λ _. ⌜ now (clients .exit) ≡ picked (hasServer mask)
+        (keepSetpoint (chosenSetpoint (now (keys .entry)) (now (values .entry)) (now (log .entry)) (receivedIn (now (clients .entry)) client) tag) client) server (now (clients .entry)) ⌝ }
 {
     if keys::has_server(mask, server) {
         let received = clients::client_word(clients, client, clients::RECEIVED + server) as usize;
@@ -431,7 +428,7 @@ fn keep_setpoints(
     requires { ⌜ ChoiceReady (now clients) (now keys) (now values) client servers ⌝ }
     requires { ⌜ HasRow entryWidth (now log) tag ⌝ }
     requires { ⌜ qualifies (now keys) (now log) mask (receivedIn (now clients) client) servers tag ≡ true ⌝ }
-    ensures { λ _. ⌜ now (clients .exit) ≡ keptSetpoints (now (keys .entry)) (now (values .entry)) (now (log .entry)) tag client mask servers (now (clients .entry)) ⌝ }
+    ensures { λ _. ⌜ now (clients .exit) ≡ keptSetpoints (chosenSetpoint (now (keys .entry)) (now (values .entry)) (now (log .entry)) (receivedIn (now (clients .entry)) client) tag) client mask servers (now (clients .entry)) ⌝ }
 {
     let mut server = 0;
     while server < servers {
@@ -454,8 +451,8 @@ pub fn conclude(
     requires { ⌜ ChoiceReady (now clients) (now keys) (now values) client servers ⌝ }
     requires { ⌜ (HasRow clientWidth (now clients) client) × (HasRow entryWidth (now log) tag) ⌝ }
     requires { ⌜ qualifies (now keys) (now log) mask (receivedIn (now clients) client) servers tag ≡ true ⌝ }
-    ensures { λ _. ⌜ now (clients .exit) ≡ putClientWord (turns (forget client) targets
-        (keptSetpoints (now (keys .entry)) (now (values .entry)) (now (log .entry)) tag client mask servers (now (clients .entry)))) client tagField tag ⌝ }
+    ensures { λ _. ⌜ now (clients .exit)
+        ≡ concludedRow (chosenSetpoint (now (keys .entry)) (now (values .entry)) (now (log .entry)) (receivedIn (now (clients .entry)) client) tag) tag client mask servers (now (clients .entry)) ⌝ }
 {
     keep_setpoints(
         clients,

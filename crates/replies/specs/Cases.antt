@@ -17,8 +17,8 @@ use Rattle.rules.specs.declared.Delivered.{Delivered}
 use Rattle.rules.specs.Answers.{Arrived, arrived, nothingShown}
 use Rattle.rules.specs.Common.{idle, writing, entering, askingKeys, askingSetpoints, coordinator, request, pending, endedRecord, taggedRecord}
 use Rattle.rules.specs.Begin.{sentGets}
-use Rattle.rules.specs.Reply.{emptied, readShown, onSetDone, onEntered, onKeys, gotSetpoint, onGot, gotNumber, tagChosen, concluded, onAll, onReplyIn, onReply, replyDelivered}
-use Rattle.replies.specs.Ready.{Settled, FinishedByC, tagFrom, concludedRow}
+use Rattle.rules.specs.Reply.{emptied, readShown, onSetDone, onEntered, onKeys, gotSetpoint, onGot, gotNumber, onAll, onReplyIn, onReply, replyDelivered}
+use Rattle.replies.specs.Ready.{Settled, FinishedByC}
 
 -- s is what `settle` left, b whether a link is pending then
 module _ (q i : ℕ) (t : Tables) {step : ℕ} {counts links : List ℕ} (s : Settled (t .counts) (t .links) q i step counts links) where
@@ -58,17 +58,11 @@ module _ (q i : ℕ) (t : Tables) {step : ℕ} {counts links : List ℕ} (s : Se
       unfolding onAll
       all-waits e f = rw (is-pending e, f, g, s .counted′, s .emptied)
 
-      pub all-ends : {d : Delivered} {clients′ clients″ reads : List ℕ} {mask place tag : ℕ} → b ≡ false → mask ≡ maskOf t q → place ≡ recordOf t q → tag ≡ tagChosen clients q t →
-          clients′ ≡ concluded tag clients q t → d ≡ readShown tag clients′ q mask → clients″ ≡ putClientWord clients′ q stateField idle →
-          reads ≡ endedRecord place step (taggedRecord place tag (t .reads)) →
-          arrived d (tablesOf counts clients″ links (t .keys) (t .values) (t .log) (t .writes) reads) ≡ onAll w q i t
+      pub all-ends : {d : Delivered} {clients′ reads : List ℕ} {mask place k : ℕ} → b ≡ false → mask ≡ maskOf t q → place ≡ recordOf t q → k ≡ serversOf t →
+          FinishedByC clients (t .keys) (t .values) (t .log) (t .reads) q mask k place step d clients′ reads →
+          arrived d (tablesOf counts clients′ links (t .keys) (t .values) (t .log) (t .writes) reads) ≡ onAll w q i t
       unfolding onAll
-      all-ends e m p′ a k f c r = rw (is-pending e, f, c, r, k, a, g, m, p′, s .stepped, s .counted′, s .emptied)
-
-      pub all-finishes : {d : Delivered} {clients″ reads : List ℕ} {mask place k : ℕ} → b ≡ false → mask ≡ maskOf t q → place ≡ recordOf t q → k ≡ serversOf t →
-          FinishedByC clients (t .keys) (t .values) (t .log) (t .reads) q mask k place step d clients″ reads →
-          arrived d (tablesOf counts clients″ links (t .keys) (t .values) (t .log) (t .writes) reads) ≡ onAll w q i t
-      all-finishes {mask = mask} {k = k} e m p′ h f = all-ends {clients′ = concludedRow clients (t .keys) (t .values) (t .log) q mask k (tagFrom clients (t .keys) (t .log) q mask k)} {tag = tagFrom clients (t .keys) (t .log) q mask k} e m p′ (rw (m, h)) (rw (m, h)) (f .shown) (f .idled) (f .recorded)
+      all-ends e m p′ h f = rw (is-pending e, f .shown, f .idled, f .recorded, g, m, p′, h, s .stepped, s .counted′, s .emptied)
 
   -- state 2
   pub write-ends : (w : Contents) {d : Delivered} {clients writes : List ℕ} {place : ℕ} → place ≡ recordOf t q → d ≡ nothingShown (Write (w .number)) →

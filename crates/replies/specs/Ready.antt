@@ -4,19 +4,17 @@ use mathlib.Core.Path.{_≡_, sym, _∙_}
 use mathlib.Core.List.{List}
 use lib.ListN.{length}
 use Rattle.tables.specs.Rows.{HasRow}
-use Rattle.tables.specs.Layout.{countAt, stepField, serversField, clientWidth, clientWord, putClientWord, stateField, countField, recordField, recordWidth, entryWidth, logPlaces, tagField, maskField, receivedField}
+use Rattle.tables.specs.Layout.{countAt, stepField, serversField, clientWidth, clientWord, putClientWord, stateField, countField, recordField, recordWidth, entryWidth, logPlaces, maskField}
 use Rattle.tables.specs.Links.{targets, HasLinks, linkAt, putLink}
 use Rattle.tables.specs.declared.links.Contents.{Contents}
 use Rattle.tables.specs.declared.links.Content.the-variants.{Nothing, Reply}
 use Rattle.rules.specs.declared.Delivered.{Delivered}
 use Rattle.rules.specs.Common.{counted, idle, writing, entering, askingKeys, askingSetpoints, pending, coordinator, endedRecord, taggedRecord}
-use Rattle.rules.specs.Choice.{qualifies, chosenTag}
-use Rattle.rules.specs.Reply.{readShown, receivedIn, forget}
+use Rattle.rules.specs.Choice.{qualifies, chosenTag, chosenSetpoint}
+use Rattle.rules.specs.Reply.{readShown, receivedIn, putReceived, tagFrom, concludedRow}
 use Rattle.choice.specs.Ready.{ChoiceReady}
-use Rattle.choice.specs.Cases.{keptSetpoints}
 use Rattle.requests.specs.Ready.{Answerable}
 use Rattle.ranges.specs.Last.{last-below, last-passes}
-use Rattle.ranges.specs.Turns.{turns}
 use mathlib.Core.Bool.{Bool, true, false}
 
 -- what `settle` leaves
@@ -58,18 +56,11 @@ pub record Concludable (clients keys log reads : List ℕ) (q mask k place : ℕ
   pub logged : entryWidth * receivedIn clients q coordinator ≤ length log
   pub opening : qualifies keys log mask (receivedIn clients q) k 0 ≡ true
 
--- the tag that C chooses, by what the client has received
-abbrev pub tagFrom : List ℕ → List ℕ → List ℕ → ℕ → ℕ → ℕ → ℕ
-tagFrom clients keys log q mask k = chosenTag keys log mask (receivedIn clients q) k (receivedIn clients q coordinator)
-
--- the client's row once the READ is concluded at a tag
-abbrev pub concludedRow : List ℕ → List ℕ → List ℕ → List ℕ → ℕ → ℕ → ℕ → ℕ → List ℕ
-concludedRow clients keys values log q mask k tag = putClientWord (turns (forget q) targets (keptSetpoints keys values log tag q mask k clients)) q tagField tag
-
 -- what `finish_by_c` leaves
 abbrev pub FinishedByC : List ℕ → List ℕ → List ℕ → List ℕ → List ℕ → ℕ → ℕ → ℕ → ℕ → ℕ → Delivered → List ℕ → List ℕ → Type 0
 FinishedByC clients keys values log reads q mask k place step d clients′ reads′ =
-    Finished (concludedRow clients keys values log q mask k (tagFrom clients keys log q mask k)) reads q mask place (tagFrom clients keys log q mask k) step d clients′ reads′
+    let tag = tagFrom clients keys log q mask k in
+    Finished (concludedRow (chosenSetpoint keys values log (receivedIn clients q) tag) tag q mask k clients) reads q mask place tag step d clients′ reads′
 
 -- the tag chosen is below the entries received, and it qualifies
 module _ (clients keys log : List ℕ) (q mask k : ℕ) (some : 0 < receivedIn clients q coordinator) where
@@ -83,22 +74,18 @@ module _ (clients keys log : List ℕ) (q mask k : ℕ) (some : 0 < receivedIn c
   pub tag-is : {n tag : ℕ} → n ≡ receivedIn clients q coordinator → tag ≡ chosenTag keys log mask (receivedIn clients q) k n → tag ≡ tagFrom clients keys log q mask k
   tag-is e d = d ∙ rw e
 
--- the client's row with the number put
-abbrev pub toldRow : List ℕ → ℕ → ℕ → ℕ → List ℕ
-toldRow clients q i number = putClientWord clients q (receivedField + i) number
-
 -- a reply to C: where it is the last, the choice is ready
 pub record AllReady (counts clients links keys values log reads : List ℕ) (q i number : ℕ) : Type 0 where
   pub row : HasRow clientWidth clients q
   pub target : i < targets
   pub linked : HasLinks links q
   pub last : pending (putLink links q i Nothing) q ≡ false →
-      (ChoiceReady (toldRow clients q i number) keys values q (countAt counts serversField)
-      × Concludable (toldRow clients q i number) keys log reads q (clientWord clients q maskField) (countAt counts serversField) (clientWord clients q recordField))
+      (ChoiceReady (putReceived clients q i number) keys values q (countAt counts serversField)
+      × Concludable (putReceived clients q i number) keys log reads q (clientWord clients q maskField) (countAt counts serversField) (clientWord clients q recordField))
 
 -- the last reply, as the code finds it: the words read, and what was put
 pub last-ready : (counts clients links keys values log reads : List ℕ) (q i number : ℕ) {told links′ : List ℕ} {b : Bool} {k mask place : ℕ} →
-    AllReady counts clients links keys values log reads q i number → links′ ≡ putLink links q i Nothing → b ≡ pending links′ q → b ≡ false → told ≡ toldRow clients q i number →
+    AllReady counts clients links keys values log reads q i number → links′ ≡ putLink links q i Nothing → b ≡ pending links′ q → b ≡ false → told ≡ putReceived clients q i number →
     k ≡ countAt counts serversField → mask ≡ clientWord clients q maskField → place ≡ clientWord clients q recordField →
     (ChoiceReady told keys values q k × Concludable told keys log reads q mask k place)
 last-ready counts clients links keys values log reads q i number r l p e t k m c = rw (t, k, m, c) (r .last (rw l at (sym p ∙ e)))

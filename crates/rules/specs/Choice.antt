@@ -5,21 +5,30 @@ use mathlib.Core.List.{List}
 use lib.Dec.{ltb}
 use Rattle.ranges.specs.All.{allBelow}
 use Rattle.ranges.specs.Last.{lastBelow}
+use Rattle.keys.specs.declared.Key.{Key}
 use Rattle.keys.specs.Masks.{hasServer}
+use Rattle.tables.specs.Layout.{versionWord}
 use Rattle.server.specs.Held.{firstBearing}
 use Rattle.coordinator.specs.Latest.{latestKey}
 
--- the first version of server i that bears its key at tag t, among the first n; n where none does
-abbrev pub versionAt : List ℕ → List ℕ → ℕ → ℕ → ℕ → ℕ
-versionAt keys log i t n = firstBearing keys i (latestKey log i t) n
+-- a key is among the versions received from server i; received gives the n that came from each target
+abbrev pub holdsKey : List ℕ → (ℕ → ℕ) → Key → ℕ → Bool
+holdsKey keys received key i = ltb (firstBearing keys i key (received i)) (received i)
 
--- received gives the n that came from each target
 abbrev pub hasVersion : List ℕ → List ℕ → (ℕ → ℕ) → ℕ → ℕ → Bool
-hasVersion keys log received t i = ltb (versionAt keys log i t (received i)) (received i)
+hasVersion keys log received t i = holdsKey keys received (latestKey log i t) i
+
+-- a server does not stand in a tag's way: the mask does not have it, or its key at the tag was received
+abbrev pub serves : List ℕ → List ℕ → ℕ → (ℕ → ℕ) → ℕ → ℕ → Bool
+serves keys log mask received t i = cond (hasServer mask i) (hasVersion keys log received t i) true
 
 abbrev pub qualifies : List ℕ → List ℕ → ℕ → (ℕ → ℕ) → ℕ → ℕ → Bool
-qualifies keys log mask received k t = allBelow (λ i. cond (hasServer mask i) (hasVersion keys log received t i) true) k
+qualifies keys log mask received k t = allBelow (serves keys log mask received t) k
 
 -- among the first n entries of the log; 0 where none qualifies: on sound tables tag 0 does
 abbrev pub chosenTag : List ℕ → List ℕ → ℕ → (ℕ → ℕ) → ℕ → ℕ → ℕ
 chosenTag keys log mask received k n = lastBelow (qualifies keys log mask received k) n
+
+-- the setpoint of server i at a tag, as the versions received have it
+abbrev pub chosenSetpoint : List ℕ → List ℕ → List ℕ → (ℕ → ℕ) → ℕ → ℕ → ℕ
+chosenSetpoint keys values log received t i = versionWord values i (firstBearing keys i (latestKey log i t) (received i))

@@ -8,7 +8,7 @@ use Rattle.ranges.specs.Turns.{turns}
 use Rattle.ranges.specs.Picked.{picked}
 use Rattle.keys.specs.Keys.{keyOf}
 use Rattle.keys.specs.Masks.{hasServer}
-use Rattle.tables.specs.Layout.{putClientWord, clientWord, stateField, tagField, setpointsField, receivedField, versionWord}
+use Rattle.tables.specs.Layout.{putClientWord, clientWord, stateField, tagField, setpointsField, receivedField}
 use Rattle.tables.specs.Links.{targets, putLink}
 use Rattle.tables.specs.Tables.{Tables, withCounts, withClients, withLinks, withWrites, withReads, serversOf, stateOf, countOf, maskOf, tagOf, recordOf, contentAt}
 use Rattle.tables.specs.declared.links.Contents.{Contents}
@@ -20,7 +20,7 @@ use Rattle.rules.specs.declared.Delivered.{Delivered}
 use Rattle.rules.specs.Answers.{Arrived, arrived, nothingShown}
 use Rattle.rules.specs.Common.{idle, writing, entering, askingKeys, askingSetpoints, coordinator, request, nextStep, counted, pending, endedRecord, taggedRecord}
 use Rattle.rules.specs.Begin.{sentGets}
-use Rattle.rules.specs.Choice.{versionAt, chosenTag}
+use Rattle.rules.specs.Choice.{chosenTag, chosenSetpoint}
 
 abbrev pub said : Arrival → Tables → Arrived
 said a t = arrived (nothingShown a) t
@@ -80,33 +80,43 @@ onGot w q i t =
     (said Wait (moved (gotSetpoint w q i t) (emptied q i t) t))
     (endedRead q (tagOf t q) (gotSetpoint w q i t) (emptied q i t) t)
 
--- C: "when all replies are in", the tag is chosen, and the setpoint of each masked station at that tag is stored
-abbrev pub gotNumber : Contents → ℕ → ℕ → Tables → List ℕ
-gotNumber w q i t = putClientWord (t .clients) q (receivedField + i) (w .number)
-
+-- C: the n that came from each target stands in the client's row
 abbrev pub receivedIn : List ℕ → ℕ → ℕ → ℕ
 receivedIn clients q i = clientWord clients q (receivedField + i)
 
--- the setpoint of server i at a tag, as its versions received have it
-abbrev pub setpointAt : ℕ → List ℕ → ℕ → Tables → ℕ → ℕ
-setpointAt tag clients q t i = versionWord (t .values) i (versionAt (t .keys) (t .log) i tag (receivedIn clients q i))
+abbrev pub putReceived : List ℕ → ℕ → ℕ → ℕ → List ℕ
+putReceived clients q i number = putClientWord clients q (receivedField + i) number
 
+abbrev pub gotNumber : Contents → ℕ → ℕ → Tables → List ℕ
+gotNumber w q i t = putReceived (t .clients) q i (w .number)
+
+-- "when all replies are in", the tag is chosen
+abbrev pub tagFrom : List ℕ → List ℕ → List ℕ → ℕ → ℕ → ℕ → ℕ
+tagFrom clients keys log q mask k = chosenTag keys log mask (receivedIn clients q) k (receivedIn clients q coordinator)
+
+abbrev pub tagChosen : List ℕ → ℕ → Tables → ℕ
+tagChosen clients q t = tagFrom clients (t .keys) (t .log) q (maskOf t q) (serversOf t)
+
+-- and the setpoint of each masked station at that tag is stored
 abbrev pub keepSetpoint : (ℕ → ℕ) → ℕ → ℕ → List ℕ → List ℕ
 keepSetpoint setpoint q i clients = putClientWord clients q (setpointsField + i) (setpoint i)
 
+abbrev pub keptSetpoints : (ℕ → ℕ) → ℕ → ℕ → ℕ → List ℕ → List ℕ
+keptSetpoints setpoint q mask k clients = turns (picked (hasServer mask) (keepSetpoint setpoint q)) k clients
+
 -- "an end sets state 0 and n to 0"
 abbrev pub forget : ℕ → ℕ → List ℕ → List ℕ
-forget q i clients = putClientWord clients q (receivedField + i) 0
-
-abbrev pub tagChosen : List ℕ → ℕ → Tables → ℕ
-tagChosen clients q t = chosenTag (t .keys) (t .log) (maskOf t q) (receivedIn clients q) (serversOf t) (receivedIn clients q coordinator)
+forget q i clients = putReceived clients q i 0
 
 -- the client's row at the end: the setpoints at the tag, the n forgotten, the tag
+abbrev pub concludedRow : (ℕ → ℕ) → ℕ → ℕ → ℕ → ℕ → List ℕ → List ℕ
+concludedRow setpoint tag q mask k clients = putClientWord (turns (forget q) targets (keptSetpoints setpoint q mask k clients)) q tagField tag
+
+abbrev pub setpointAt : ℕ → List ℕ → ℕ → Tables → ℕ → ℕ
+setpointAt tag clients q t = chosenSetpoint (t .keys) (t .values) (t .log) (receivedIn clients q) tag
+
 abbrev pub concluded : ℕ → List ℕ → ℕ → Tables → List ℕ
-concluded tag clients q t =
-    putClientWord
-    (turns (forget q) targets (turns (picked (hasServer (maskOf t q)) (keepSetpoint (setpointAt tag clients q t) q)) (serversOf t) clients))
-    q tagField tag
+concluded tag clients q t = concludedRow (setpointAt tag clients q t) tag q (maskOf t q) (serversOf t) clients
 
 abbrev pub endedByC : ℕ → List ℕ → ℕ → List ℕ → Tables → Arrived
 endedByC tag clients q links t = endedRead q tag (concluded tag clients q t) links t

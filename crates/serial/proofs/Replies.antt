@@ -1,7 +1,7 @@
 -- The delivery of a reply keeps the tie and pays what it owes.
 use Prim.Native.Nat.{ℕ, suc, _+_, _-_, _*_, _≤_, _<_}
 use mathlib.Core.Path.{_≡_, refl, sym, ap, _∙_}
-use mathlib.Core.Bool.{Bool, true, cond}
+use mathlib.Core.Bool.{Bool, true}
 use mathlib.Core.Option.{some, Option·some-injective}
 use mathlib.Core.List.{List}
 use native.Mathlib.Omega.{arith}
@@ -13,7 +13,7 @@ use Rattle.ranges.specs.Last.{last-below, last-passes, last-most}
 use Rattle.keys.specs.Keys.{keyOf}
 use Rattle.keys.specs.Masks.{hasServer, serversIn}
 use Rattle.coordinator.specs.Latest.{latestKey}
-use Rattle.tables.specs.Layout.{versionWord, stateField, countField, maskField, tagField, setpointsField, receivedField}
+use Rattle.tables.specs.Layout.{stateField, countField, maskField, tagField, setpointsField, receivedField}
 use Rattle.tables.specs.Links.{targets}
 use Rattle.tables.specs.declared.links.Contents.{Contents}
 use Rattle.tables.specs.declared.links.Content.{Content}
@@ -21,7 +21,7 @@ use Rattle.tables.specs.declared.links.Content.the-variants.{Nothing, Request, 
 use Rattle.rules.specs.Answers.{nothingShown}
 use Rattle.rules.specs.Common.{idle, entering, askingSetpoints, askingAll, coordinator, request}
 use Rattle.rules.specs.Common as rules
-use Rattle.rules.specs.Choice.{versionAt, hasVersion, qualifies, chosenTag}
+use Rattle.rules.specs.Choice.{hasVersion, serves, qualifies, chosenTag, chosenSetpoint}
 use Rattle.rules.specs.declared.Arrival.the-variants as arrival
 use Rattle.serial.specs.Steps.{replied}
 use Rattle.serial.specs.History.{changed, nothing, writing, tagged, History, ended}
@@ -224,7 +224,7 @@ module _ (floor : ℕ → ℕ) (p : Press) (h : History) (tied : Tied floor p h)
 
         floor-fits : fits (floor q) ≡ true
         floor-fits =
-            all-of (λ j. cond (hasServer (maskIn c) j) (hasVersion (s .keys) (s .log) received (floor q) j) true) (s .servers) (λ j l.
+            all-of (serves (s .keys) (s .log) (maskIn c) received (floor q)) (s .servers) (λ j l.
             by-test (hasServer (maskIn c) j)
             (λ e. rw e (lt-ltb _ _ (found-place (s .keys) (s .values) j (x .key (floor q) j) (received j) _ (snapshot j (omega arith) .1 e .1) .0)))
             (λ e. rw e))
@@ -238,17 +238,17 @@ module _ (floor : ℕ → ℕ) (p : Press) (h : History) (tied : Tied floor p h)
         high : tag ≤ h .tags
         high = omega (arith, last-below fits (received coordinator) (omega (arith, entries .0)), entries .1)
 
-        pub chosen-value : (j : ℕ) → hasServer (maskIn c) j ≡ true → versionWord (s .values) j (versionAt (s .keys) (s .log) j tag (received j)) ≡ x .value tag j
+        pub chosen-value : (j : ℕ) → hasServer (maskIn c) j ≡ true → chosenSetpoint (s .keys) (s .values) (s .log) received tag j ≡ x .value tag j
         chosen-value j m =
             let l : j < s .servers = a .bound j m in
-            let v = versionWord (s .values) j (versionAt (s .keys) (s .log) j tag (received j)) in
+            let v = chosenSetpoint (s .keys) (s .values) (s .log) received tag j in
             let has : hasVersion (s .keys) (s .log) received tag j ≡ true
-            = rw m at (all-at (λ i. cond (hasServer (maskIn c) i) (hasVersion (s .keys) (s .log) received tag i) true) (s .servers) tag-fits j l) in
+            = rw m at (all-at (serves (s .keys) (s .log) (maskIn c) received tag) (s .servers) tag-fits j l) in
             let found = found-more (s .keys) (s .values) j (x .key tag j) (received j) (s .held j) v (snapshot j (omega arith) .1 m .0) (place-found (s .keys) (s .values) j (x .key tag j) (received j) (ltb-true _ _ has)) in
             Option·some-injective _ _ (sym found ∙ tied .value tag high j l)
 
         pub told-end-kept : (row′ : ℕ → ℕ) → row′ stateField ≡ idle → row′ countField ≡ countIn c → (shown : List ℕ) →
-            ((j : ℕ) → hasServer (maskIn c) j ≡ true → getD shown j 0 ≡ versionWord (s .values) j (versionAt (s .keys) (s .log) j tag (received j))) →
+            ((j : ℕ) → hasServer (maskIn c) j ≡ true → getD shown j 0 ≡ chosenSetpoint (s .keys) (s .values) (s .log) received tag j) →
             Kept floor h (replied q i (record { arrival = arrival.Read tag; setpoints = shown })) (afterwards (clientOf row′ emptied))
         told-end-kept row′ state count shown shows = (
           record {

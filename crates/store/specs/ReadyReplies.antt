@@ -21,14 +21,13 @@ use Rattle.coordinator.specs.Latest.{latestTag, latestKey}
 use Rattle.coordinator.specs.LatestLaws.{latest-within}
 use Rattle.server.specs.Held.{firstBearing, bears}
 use Rattle.rules.specs.Common.{askingKeys, askingSetpoints, askingAll, coordinator, filled, pending}
-use Rattle.rules.specs.Choice.{qualifies}
-use Rattle.rules.specs.Reply.{receivedIn}
+use Rattle.rules.specs.Choice.{serves, qualifies}
+use Rattle.rules.specs.Reply.{receivedIn, gotNumber}
 use Rattle.soundness.specs.Sound.{uses, holding}
 use Rattle.soundness.specs.Facts.{Sound, Between}
 use Rattle.soundness.specs.Room.{few-servers, server-fits, client-fits, client-row, client-links, write-row, read-row, log-entries}
 use Rattle.choice.specs.Ready.{ChoiceReady}
-use Rattle.choice.specs.Cases.{serves}
-use Rattle.replies.specs.Ready.{KeysReady, Concludable, toldRow, AllReady, Brings, ReplyReady}
+use Rattle.replies.specs.Ready.{KeysReady, Concludable, AllReady, Brings, ReplyReady}
 use Rattle.keeping.specs.Accepted.{Deliverable}
 use Rattle.keeping.specs.States.{uses-setpoints, uses-all, by-state, keys-target, masked-server, holding-log, holding-server, arrived, received-none, received-some, keys-told, all-told}
 use Rattle.store.specs.Ready.{target, answerable, reply-used, reply-sound}
@@ -61,7 +60,7 @@ module _ (t : Tables) (s : Sound t) where
     -- state 5
     module _ (z : stateOf t q ≡ askingAll) where
       abbrev told : List ℕ
-      told = toldRow (t .clients) q i (w .number)
+      told = gotNumber w q i t
 
       number-between : Between 1 (w .number) (holding t i)
       number-between = all-told t i (w .number) (rw z at (reply-sound t s q i d w e))

@@ -6,7 +6,7 @@ use native.Mathlib.Omega.{arith}
 use borrow.Author.Tests.{not-true, not-false}
 use Rattle.ranges.specs.All.{allBelow, all-none, all-more, all-not}
 use Rattle.rules.specs.Reply.{receivedIn}
-use Rattle.choice.specs.Cases.{serves}
+use Rattle.rules.specs.Choice.{serves}
 use borrow.Author.Needs.{needs}
 use Rattle.choice.proofs.all_serve.Statement.{statement}
 use Rattle.choice.proofs.all_serve.Tie as tie

@@ -6,20 +6,21 @@ use lib.ListN.{length}
 use Rattle.ranges.specs.Turns.{turns-none, turns-more}
 use Rattle.ranges.specs.Picked.{picked}
 use Rattle.keys.specs.Masks.{hasServer}
-use Rattle.rules.specs.Reply.{keepSetpoint}
-use Rattle.choice.specs.Cases.{setpointIn, keptSetpoints, still-received, still-there, still-qualifies}
+use Rattle.rules.specs.Choice.{chosenSetpoint}
+use Rattle.rules.specs.Reply.{receivedIn, keepSetpoint, keptSetpoints}
+use Rattle.choice.specs.Cases.{still-received, still-there, still-qualifies}
 use borrow.Author.Needs.{needs}
 use Rattle.choice.proofs.keep_setpoints.Statement.{statement}
 use Rattle.choice.proofs.keep_setpoints.Tie as tie
 
 abbrev Inv-loop : tie.InvT-loop
-Inv-loop clients₀ keys values log client mask servers tag server₀ clients server = (server ≤ servers) × ((length clients ≡ length clients₀) × (clients ≡ keptSetpoints keys values log tag client mask server clients₀))
+Inv-loop clients₀ keys values log client mask servers tag server₀ clients server = (server ≤ servers) × ((length clients ≡ length clients₀) × (clients ≡ keptSetpoints (chosenSetpoint keys values log (receivedIn clients₀ client) tag) client mask server clients₀))
 
 abbrev μ-loop : tie.MeasureT-loop
 μ-loop clients₀ keys values log client mask servers tag server₀ clients server = servers - server
 
 loop-holds : tie.Need-loop-holds Inv-loop μ-loop
-loop-holds c = let a = c .before .before .before .before .args in (search needs, (search needs, turns-none (picked (hasServer (a .mask)) (keepSetpoint (setpointIn (a .keys .now) (a .values .now) (a .log .now) (a .tag) (a .clients .now) (a .client)) (a .client))) _))
+loop-holds c = let a = c .before .before .before .before .args in (search needs, (search needs, turns-none (picked (hasServer (a .mask)) (keepSetpoint (chosenSetpoint (a .keys .now) (a .values .now) (a .log .now) (receivedIn (a .clients .now) (a .client)) (a .tag)) (a .client))) _))
 
 keep-setpoint-requires : tie.Need-keep-setpoint-requires Inv-loop μ-loop
 keep-setpoint-requires c κs = let a = c .before .before .before .before .before .before .before .args in let p = c .before .before .before .before .before .before .before .pre in let v = c .before .before .loop .inv in let i = c .before .before .loop .server in let l = c .before .loop-test .taken in (
@@ -33,7 +34,7 @@ keep-setpoint-requires c κs = let a = c .before .before .before .before .before
 loop-again : tie.Need-loop-again Inv-loop μ-loop
 loop-again c = let a = c .before .before .before .before .before .before .before .before .before .before .args in let v = c .before .before .before .before .before .loop .inv in let i = c .before .before .before .before .before .loop .server in
     let s = still-received (a .keys .now) (a .values .now) (a .log .now) (a .tag) (a .client) (a .mask) (a .servers) (a .clients .now) (c .before .before .before .before .before .before .before .before .before .before .pre .0 .servers) (c .before .before .before .before .loop-test .taken) (v .1 .0) (v .1 .1) in
-    (search needs, (search needs, turns-more (picked (hasServer (a .mask)) (keepSetpoint (setpointIn (a .keys .now) (a .values .now) (a .log .now) (a .tag) (a .clients .now) (a .client)) (a .client))) i _ (v .1 .1) (rw s at (c .before .before .keep-setpoint .ensures))))
+    (search needs, (search needs, turns-more (picked (hasServer (a .mask)) (keepSetpoint (chosenSetpoint (a .keys .now) (a .values .now) (a .log .now) (receivedIn (a .clients .now) (a .client)) (a .tag)) (a .client))) i _ (v .1 .1) (rw s at (c .before .before .keep-setpoint .ensures))))
 
 returns : tie.Need-returns Inv-loop μ-loop
 returns c = let e : c .before .loop .server ≡ c .before .before .before .before .before .before .args .servers = omega arith in rw (← e) (c .before .loop .inv .1 .1)

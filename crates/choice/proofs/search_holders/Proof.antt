@@ -6,7 +6,7 @@ use Rattle.ranges.specs.Turns.{turns-none, turns-more}
 use Rattle.ranges.specs.Picked.{picked}
 use Rattle.rules.specs.Reply.{receivedIn}
 use Rattle.keys.specs.Bits.{addServer, gathered}
-use Rattle.choice.specs.Walk.{holdsKey}
+use Rattle.rules.specs.Choice.{holdsKey}
 use borrow.Author.Needs.{needs}
 use Rattle.choice.proofs.search_holders.Statement.{statement}
 use Rattle.choice.proofs.search_holders.Tie as tie
