@@ -49,9 +49,13 @@ onGet w q i t =
     let place = firstBearing (t .keys) i (w .key) (heldOf t i) in
     cond (ltb place (heldOf t i)) (answered q i (versionWord (t .values) i place) t) (refused 8 t)
 
+-- how many versions a server holds, how many entries the log has
+abbrev pub holding : Tables → ℕ → ℕ
+holding t i = cond (eqb i coordinator) (entriesOf t) (heldOf t i)
+
 -- "C's replies hold the first n versions, or the first n log entries, of the moment of answering."
 unfoldable pub onGetAll : ℕ → ℕ → Tables → Left
-onGetAll q i t = answered q i (cond (eqb i coordinator) (entriesOf t) (heldOf t i)) t
+onGetAll q i t = answered q i (holding t i) t
 
 -- what comes behind the four is state 5: on sound tables the links of an idle client hold nothing
 unfoldable pub onRequestIn : ℕ → Contents → ℕ → ℕ → Tables → Left

@@ -16,6 +16,7 @@ use Rattle.tables.specs.declared.links.Content.{Content}
 use Rattle.tables.specs.declared.links.Content.the-variants.{Nothing, Request, Reply}
 use Rattle.rules.specs.Common.{idle, writing, entering, askingKeys, askingSetpoints, askingAll, coordinator, pending}
 use Rattle.rules.specs.Open.{allServers}
+pub use Rattle.rules.specs.Request.{holding}
 
 -- "Long enough (256 versions for each of k stations, 256 log entries, 255 records of each kind, p panels with their links)"
 unfoldable pub longEnough : ℕ → ℕ → Tables → Bool
@@ -87,10 +88,6 @@ uses state mask i =
     cond (eqb state writing || eqb state askingSetpoints) (hasServer mask i)
     (cond (eqb state entering || eqb state askingKeys) (eqb i coordinator)
     (cond (eqb state askingAll) (hasServer mask i || eqb i coordinator) false))
-
--- how many versions a server holds, how many entries the log has
-abbrev pub holding : Tables → ℕ → ℕ
-holding t i = cond (eqb i coordinator) (entriesOf t) (heldOf t i)
 
 -- a WRITE's own key, as a word: a count of 1 to 255 and the link's client
 abbrev pub ownKey : ℕ → ℕ → Bool
