@@ -5,15 +5,13 @@ use mathlib.Core.Bool.{true}
 use mathlib.Core.List.{List, [], _∷_}
 use native.Mathlib.Nat.{zero-add}
 use native.Mathlib.Omega.{arith}
-use lib.ListN.{getD, length, length-set, length-replicate, getD-replicate, List·getD-eq-default}
+use lib.ListN.{getD, length, length-set, length-replicate}
 use lib.Seq.{getD-set-same, getD-set-other, sets, length-sets}
 use lib.Pow.{pow-mono}
-use lib.Dec.{ltb}
-use borrow.Author.Tests.{ltb-true, ltb-false}
-use Rattle.ranges.specs.Tests.{by-test}
 use Rattle.ranges.specs.Sum.{sumBelow, sum-most, count-zero}
 use Rattle.ranges.specs.Turns.{turns, turns-keep}
 use Rattle.ranges.specs.Picked.{is-picked}
+use Rattle.ranges.specs.Words.{zeros}
 use Rattle.keys.specs.Masks.{Within}
 use Rattle.tables.specs.Rows.{wordAt, HasRow, word-same, word-other, word-length, row-same, row-length, sets-at, sets-behind}
 use Rattle.tables.specs.Layout.{countWords, clientWidth, clientWord, serverPlaces, versionWord, putVersionWord, heldField, entryWidth, entryMask, clientsField, countField, entriesField, maskField, methodField, readsField, receivedField, serversField, stateField, stepField, tagField, writesField}
@@ -27,15 +25,9 @@ use Rattle.keeping.specs.Accepted.{Openable, openable}
 use Rattle.keeping.specs.Links.{linkWord}
 use Rattle.keeping.specs.Rounds.{idle-client}
 
--- a cleared table has its length, and holds 0 everywhere
+-- a cleared table has its length
 cleared-length : (words : List ℕ) → length (cleared words) ≡ length words
 cleared-length words = length-replicate (length words) 0
-
-cleared-word : (words : List ℕ) (i : ℕ) → getD (cleared words) i 0 ≡ 0
-cleared-word words i =
-    by-test (ltb i (length words))
-    (λ b. getD-replicate (length words) i 0 0 (ltb-true _ _ b))
-    (λ b. List·getD-eq-default (cleared words) 0 (rw (cleared-length words) (ltb-false _ _ b)))
 
 -- the counts that an opening leaves
 module _ (m k p : ℕ) (counts : List ℕ) (long : countWords ≤ length counts) where
@@ -59,7 +51,7 @@ module _ (m k p : ℕ) (counts : List ℕ) (long : countWords ≤ length counts)
   scalar f h = before-held f (omega arith) ∙ rw (zero-add f) at (sets-at row (cleared counts) 0 f h (rw (cleared-length counts) (omega arith)))
 
   none-begun : (f : ℕ) → 5 ≤ f → f < heldField → getD (openedCounts m k p counts) f 0 ≡ 0
-  none-begun f h g = before-held f g ∙ (sets-behind row (cleared counts) 0 f (omega arith) ∙ cleared-word counts f)
+  none-begun f h g = before-held f g ∙ (sets-behind row (cleared counts) 0 f (omega arith) ∙ zeros (length counts) f)
 
   one-held : (i : ℕ) → k ≤ 16 → i < k → getD (openedCounts m k p counts) (heldField + i) 0 ≡ 1
   one-held i few h =
@@ -130,8 +122,8 @@ opened-words m k p setpoints t a =
       value = first-put k (λ i. getD setpoints i 0) (t .values) (l .values);
       entrykey = row-same entryWidth (t .log) 0 (0 ∷ allServers k ∷ []) 0 entry (omega arith) (omega arith);
       entrymask = row-same entryWidth (t .log) 0 (0 ∷ allServers k ∷ []) 1 entry (omega arith) (omega arith);
-      word = λ q f. cleared-word (t .clients) (clientWidth * q + f);
-      link = λ q i f. cleared-word (t .links) (linkWidth * linkRow q i + f);
+      word = λ q f. zeros (length (t .clients)) (clientWidth * q + f);
+      link = λ q i f. zeros (length (t .links)) (linkWidth * linkRow q i + f);
     }
 
 -- Tables opened so are sound.

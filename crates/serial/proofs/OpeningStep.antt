@@ -4,13 +4,14 @@ use mathlib.Core.Path.{_≡_, refl, ap, _∙_}
 use mathlib.Core.Option.{some}
 use mathlib.Core.List.{List, [], _∷_}
 use native.Mathlib.Omega.{arith}
-use lib.ListN.{getD, length, length-replicate, getD-replicate, List·getD-eq-default}
+use lib.ListN.{getD, length}
 use lib.Seq.{getD-set-other, sets}
 use lib.Dec.{ltb}
 use borrow.Author.Tests.{ltb-true, ltb-false, eq-eqb, eqb-true}
 use Rattle.ranges.specs.Tests.{by-test}
 use Rattle.ranges.specs.Sum.{sumBelow, sum-most}
 use Rattle.ranges.specs.Turns.{turns-keep-below}
+use Rattle.ranges.specs.Words.{zeros}
 use Rattle.keys.specs.Keys.{keyOf, keyAtWord, opening}
 use Rattle.coordinator.specs.Latest.{latestKey, latestTag}
 use Rattle.coordinator.specs.LatestLaws.{latest-within}
@@ -32,13 +33,6 @@ use Rattle.serial.proofs.Budget.{waits, due, ahead, Budget, no-waits, n
 use Rattle.serial.proofs.View.{within-at}
 use Rattle.serial.proofs.Invariant.{at-rest, Tied}
 
-cleared-word : (words : List ℕ) (i : ℕ) → getD (cleared words) i 0 ≡ 0
-cleared-word words i =
-    let size : length (cleared words) ≡ length words = length-replicate (length words) 0 in
-    by-test (ltb i (length words))
-    (λ b. getD-replicate (length words) i 0 0 (ltb-true _ _ b))
-    (λ b. List·getD-eq-default (cleared words) 0 (rw size (ltb-false _ _ b)))
-
 module _ (m k p : ℕ) (setpoints : List ℕ) (t : Tables) (o : Openable m k p setpoints t) where
   abbrev left : Tables
   left = opened m k p setpoints t
@@ -52,7 +46,7 @@ module _ (m k p : ℕ) (setpoints : List ℕ) (t : Tables) (o : Openable m k p s
       let first : List ℕ = m ∷ k ∷ p ∷ 1 ∷ 1 ∷ [] in
       turns-keep-below holdOne (λ xs. getD xs (heldField + i) 0 ≡ getD (sets (cleared (t .counts)) 0 first) (heldField + i) 0) k
       (λ j h xs e. getD-set-other xs (heldField + j) (heldField + i) 1 0 (λ z. omega arith) ∙ e) (sets (cleared (t .counts)) 0 first) refl
-      ∙ sets-behind first (cleared (t .counts)) 0 (heldField + i) (omega arith) ∙ cleared-word (t .counts) (heldField + i)
+      ∙ sets-behind first (cleared (t .counts)) 0 (heldField + i) (omega arith) ∙ zeros (length (t .counts)) (heldField + i)
 
   held-few : (i : ℕ) → heldOf left i ≤ 1
   held-few i = by-test (ltb i k) (λ b. omega (arith, words .held i (ltb-true i k b))) (λ b. omega (arith, none-held i (ltb-false i k b)))
