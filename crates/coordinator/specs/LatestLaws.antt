@@ -8,7 +8,7 @@ use lib.ListN.{getD, length, length-set}
 use lib.Seq.{getD-set-same, getD-set-other}
 use Rattle.ranges.specs.Tests.{by-equal}
 use Rattle.ranges.specs.Last.{last-here, last-before, last-below, last-same}
-use Rattle.ranges.specs.Picked.{not-reached, is-picked}
+use Rattle.ranges.specs.Picked.{is-picked}
 use Rattle.keys.specs.declared.Key.{Key}
 use Rattle.keys.specs.Keys.{keyWord}
 use Rattle.keys.specs.Masks.{hasServer}
@@ -41,7 +41,7 @@ module _ (log : List ℕ) (n : ℕ) (key : Key) (mask : ℕ) (i t : ℕ) (h : t 
   pub latest-key-kept : latestKey (putEntry log n key mask) i t ≡ latestKey log i t
   latest-key-kept = rw latest-tag-kept (entry-key-other log n key mask (latestTag log i t) (λ e. omega (arith, latest-within log i t)))
 
--- the keys put into a list: each of the k is at its place, and what stands behind is as before
+-- the keys put into a list: each of the k is at its place
 module _ (log : List ℕ) (t k : ℕ) (words : List ℕ) (room : k ≤ length words) where
   Wide : List ℕ → Type 0
   Wide xs = k ≤ length xs
@@ -54,12 +54,3 @@ module _ (log : List ℕ) (t k : ℕ) (words : List ℕ) (room : k ≤ length wo
       (λ j xs l r. getD-set-same xs j _ 0 (omega arith))
       (λ j m xs l d. getD-set-other xs j m _ 0 d)
       (λ j. true) words room k i (omega arith) h refl
-
-  pub keys-kept : (i : ℕ) → k ≤ i → getD (putKeys log t k words) i 0 ≡ getD words i 0
-  unfolding Wide
-  keys-kept i h =
-      not-reached (λ xs j. getD xs j 0) (putKey log t) (λ j. keyWord (latestKey log j t)) Wide k
-      (λ j xs r. rw length-set r)
-      (λ j xs l r. getD-set-same xs j _ 0 (omega arith))
-      (λ j m xs l d. getD-set-other xs j m _ 0 d)
-      (λ j. true) words room k i (omega arith) h
