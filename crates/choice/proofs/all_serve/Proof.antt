@@ -1,4 +1,4 @@
--- The servers passed all serve; one that does not ends the loop.
+-- `choice::all_serve` meets its contract: the servers that the loop has passed all serve; one that does not ends it.
 use Prim.Native.Nat.{ℕ, _≤_, _-_}
 use mathlib.Core.Path.{_≡_, sym, subst, _∙_}
 use mathlib.Core.Bool.{true}

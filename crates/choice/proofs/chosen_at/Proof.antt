@@ -1,4 +1,4 @@
--- The tag come to, where no server lacks its key; else the one before.
+-- `choice::chosen_at` meets its contract: the tag come to where no server lacks its key, else the one chosen before.
 use borrow.Author.Tests.{eq-eqb, ne-eqb}
 use Rattle.choice.proofs.chosen_at.Statement.{statement}
 use Rattle.choice.proofs.chosen_at.Tie as tie

@@ -1,4 +1,4 @@
--- One entry at most, or the newest tag, or the greatest one that the walk finds for the first servers of the mask.
+-- `choice::chosen_tag` meets its contract: one entry at most leaves tag 0, the newest tag is the greatest where it qualifies, and else the walk finds it among the first servers of the mask, which are all that count.
 use mathlib.Core.Path.{sym, _∙_}
 use native.Mathlib.Omega.{arith}
 use Rattle.rules.specs.Reply.{receivedIn}

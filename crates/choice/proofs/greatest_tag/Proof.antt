@@ -1,4 +1,4 @@
--- The table starts with no holders, and so the walk is over a marked one.
+-- `choice::greatest_tag` meets its contract: the table begins with no holders and is then marked for all servers, so the walk is over a marked one.
 use mathlib.Core.Path.{refl}
 use Rattle.rules.specs.Reply.{receivedIn}
 use Rattle.choice.specs.Holders.{empty-table, servers-marked}

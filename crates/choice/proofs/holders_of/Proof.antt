@@ -1,4 +1,4 @@
--- A key that has a slot is read there, any other searched for.
+-- `choice::holders_of` meets its contract: a key that has a slot is read there, any other searched for: the two cases of `holdersOf`.
 use mathlib.Core.Path.{_≡_, sym, _∙_}
 use mathlib.Core.Bool.{true, false}
 use native.Mathlib.Omega.{arith}

@@ -1,4 +1,4 @@
--- The two tests, one behind the other.
+-- `choice::is_tabled` meets its contract: the two tests of `tabled`, one behind the other.
 use mathlib.Core.Path.{refl}
 use Rattle.choice.specs.Holders.{tabled-key, tabled-none}
 use Rattle.choice.proofs.is_tabled.Statement.{statement}

@@ -1,4 +1,4 @@
--- Those that lacked their key or were written, but not those written that hold it: one call.
+-- `choice::lacking_after` meets its contract: those that lacked their key or were written, without those written that hold it: one call.
 use borrow.Author.Needs.{needs}
 use Rattle.choice.proofs.lacking_after.Statement.{statement}
 use Rattle.choice.proofs.lacking_after.Tie as tie

@@ -1,4 +1,4 @@
--- The calls put one after another.
+-- `choice::lacking_at` meets its contract: key and mask of the entry are read, and its holders found, for `lacking_after`.
 use mathlib.Core.Path.{_∙_}
 use borrow.Author.Needs.{needs}
 use Rattle.choice.proofs.lacking_at.Statement.{statement}

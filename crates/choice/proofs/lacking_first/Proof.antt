@@ -1,4 +1,4 @@
--- The calls put one after another.
+-- `choice::lacking_first` meets its contract: the entry's key is read and its holders are taken from the wanted servers.
 use mathlib.Core.Path.{_∙_}
 use borrow.Author.Needs.{needs}
 use Rattle.choice.proofs.lacking_first.Statement.{statement}

@@ -1,4 +1,4 @@
--- A word that has a slot goes there, any other nowhere.
+-- `choice::mark` meets its contract: a word that has a slot goes there, any other nowhere: the two cases of `marked`.
 use mathlib.Core.Path.{sym, _∙_}
 use native.Mathlib.Omega.{arith}
 use Rattle.choice.specs.Holders.{slot-below, mark-one, mark-none}

@@ -1,4 +1,4 @@
--- Marked or not, by the mask.
+-- `choice::mark_server` meets its contract: the versions received are marked or not, by the mask.
 use mathlib.Core.Path.{_∙_}
 use borrow.Author.Needs.{needs}
 use Rattle.choice.proofs.mark_server.Statement.{statement}

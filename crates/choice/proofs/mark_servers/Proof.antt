@@ -1,4 +1,4 @@
--- The servers passed are marked.
+-- `choice::mark_servers` meets its contract: the loop has marked the masked servers it has passed.
 use Prim.Native.Nat.{_≤_, _-_}
 use mathlib.Core.Path.{_≡_}
 use native.Mathlib.Omega.{arith}

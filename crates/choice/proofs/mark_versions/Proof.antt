@@ -1,4 +1,4 @@
--- The versions passed are marked.
+-- `choice::mark_versions` meets its contract: the loop has marked the versions it has passed.
 use Prim.Native.Nat.{_≤_, _<_, _-_, _^_}
 use mathlib.Core.Path.{_≡_, _∙_}
 use native.Mathlib.Omega.{arith}

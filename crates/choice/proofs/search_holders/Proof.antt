@@ -1,4 +1,4 @@
--- The servers passed that hold the key are found.
+-- `choice::search_holders` meets its contract: the loop has found the holders among the servers it has passed.
 use Prim.Native.Nat.{_≤_, _-_}
 use mathlib.Core.Path.{_≡_}
 use native.Mathlib.Omega.{arith}

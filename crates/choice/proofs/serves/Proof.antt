@@ -1,4 +1,4 @@
--- The mask spares it, or its version is asked for.
+-- `choice::serves` meets its contract: a server that the mask has is asked for its version, any other serves.
 use mathlib.Core.Path.{sym, refl}
 use Rattle.rules.specs.Reply.{receivedIn}
 use Rattle.choice.specs.Cases.{served, spared}

@@ -1,4 +1,4 @@
--- The servers that lack their key at the tag come to, and the last tag so far at which none does.
+-- `choice::walk` meets its contract: at each tag come to, the loop has the servers that lack their key there, and the last tag so far at which none does.
 use Prim.Native.Nat.{_+_, _-_, _<_}
 use mathlib.Core.Path.{_≡_}
 use native.Mathlib.Omega.{arith}

@@ -1,4 +1,4 @@
--- The search finds the key among the versions received, or not.
+-- `choice::with_holder` meets its contract: the search finds the key below the number received, and the server is added, or it does not.
 use Rattle.rules.specs.Reply.{receivedIn}
 use Rattle.choice.specs.Walk.{holds-found, holds-not}
 use borrow.Author.Needs.{needs}

@@ -1,4 +1,4 @@
--- The word found, as a key.
+-- `coordinator::latest_key` meets its contract: the word that the search answers is made a key, and a key made a word is the key again.
 use mathlib.Core.Path.{ap, _∙_}
 use Rattle.keys.specs.Keys.{keyAtWord, word-back, at-word-fits}
 use borrow.Author.Needs.{needs}

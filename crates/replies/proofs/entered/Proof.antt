@@ -1,4 +1,4 @@
--- `replies::entered` meets its contract, a case law of `onEntered`.
+-- `replies::entered` meets its contract: the words put and the record ended are those of `onEntered`.
 use Rattle.tables.specs.Tables.{tablesOf}
 use Rattle.replies.specs.Cases.{write-ends}
 use borrow.Author.Needs.{needs}

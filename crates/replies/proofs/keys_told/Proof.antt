@@ -1,4 +1,4 @@
--- `replies::keys_told` meets its contract, a case law of `onKeys`.
+-- `replies::keys_told` meets its contract: the words put and the requests sent are those of `onKeys`.
 use Rattle.tables.specs.Tables.{tablesOf}
 use Rattle.replies.specs.Cases.{keys-ask}
 use borrow.Author.Needs.{needs}

@@ -1,4 +1,4 @@
--- `requests::which_keys` meets its contract, a case law of `onWhichKeys`.
+-- `requests::which_keys` meets its contract: the number answered is that of the log's entries, as `onWhichKeys` says.
 use Rattle.tables.specs.Tables.{tablesOf}
 use Rattle.requests.specs.Cases.{keys-told}
 use borrow.Author.Needs.{needs}

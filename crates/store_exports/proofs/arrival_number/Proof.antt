@@ -1,4 +1,4 @@
--- Each answer keeps its tag or its number.
+-- `store_exports::arrival_number` meets its contract: each answer is its number, with its tag added where it has one.
 use borrow.Author.Needs.{needs}
 use Rattle.store_exports.proofs.arrival_number.Statement.{statement}
 use Rattle.store_exports.proofs.arrival_number.Tie as tie

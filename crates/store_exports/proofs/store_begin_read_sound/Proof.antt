@@ -1,4 +1,4 @@
--- The number is the answer's, and the step on sound tables leaves the tables.
+-- `store_exports::store_begin_read_sound` meets its contract: the number is the answer's, and `store::begin_read_sound` leaves the tables.
 use Rattle.store_exports.specs.NumberLaws.{answered}
 use borrow.Author.Needs.{needs}
 use Rattle.store_exports.proofs.store_begin_read_sound.Statement.{statement}

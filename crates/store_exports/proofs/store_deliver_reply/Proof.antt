@@ -1,4 +1,4 @@
--- The number is the answer's, and the public step leaves the tables.
+-- `store_exports::store_deliver_reply` meets its contract: what crosses is the answer's, and `store::deliver_reply` leaves the tables.
 use Rattle.store_exports.specs.NumberLaws.{arrived-so}
 use borrow.Author.Needs.{needs}
 use Rattle.store_exports.proofs.store_deliver_reply.Statement.{statement}

@@ -1,4 +1,4 @@
--- The number is the answer's, and the step on sound tables leaves the tables.
+-- `store_exports::store_deliver_reply_sound` meets its contract: what crosses is the answer's, and `store::deliver_reply_sound` leaves the tables.
 use Rattle.store_exports.specs.NumberLaws.{arrived-so}
 use borrow.Author.Needs.{needs}
 use Rattle.store_exports.proofs.store_deliver_reply_sound.Statement.{statement}
