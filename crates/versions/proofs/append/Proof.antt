@@ -46,7 +46,7 @@ use Rattle.versions.specs.declared.Version.{Version}
 use Rattle.versions.specs.Table.{appendNumber, appendTable}
 use Rattle.versions.specs.Cases.{done-place, done-table, refused-table}
 use Rattle.versions.proofs.Steps.{holds, fails, calls-plain, spent, spare}
-use Rattle.versions.proofs.Plain.{Number, number-answers, place-fits}
+use Rattle.versions.proofs.Plain.{vals, Number, number-answers, place-fits}
 use Rattle.versions.proofs.Version as T
 use Rattle.versions.proofs.Version.Laws as T′
 use Rattle.versions.proofs.append_number.Symbol as number-def
@@ -63,9 +63,6 @@ Arg = RefT (List Version) × (ℕ × (Version × Unit {0}))
 
 abbrev stayed : Stays (f.ended .signature .params) (f.ended .kept)
 stayed = (stay-slice (0 ∷ []) tt (plain (λ _. T.the-row)), (stay-none (λ _. usize) yes, (stay-none (λ _. T.the-row) yes, tt)))
-
-abbrev vals : Version → List Val
-vals = LL.vals T.the-type T′.the-laws
 
 module _ {M : Type 1} (𝓤 : URA M) (H : Heap 𝓤) (A : Atoms 𝓤) (W : Given 𝓤 H A) (mem : Memory → SProp 𝓤) (run : Routine → Fun 𝓤) (κ : Lft) (q : Share) (b o : ℕ) (γ : GName) (ys : List Version) (i : ℕ) (v : Version) where
   abbrev x : List Version → RefT (List Version)

@@ -56,7 +56,7 @@ use Rattle.versions.specs.Table.{appendNumber, appendTable, heldAfter, r
 use Rattle.versions.specs.Cases.{append-length, trial-is, trial-filled}
 use Rattle.versions.proofs.Lent.{array-lies, array-room, big-lit}
 use Rattle.versions.proofs.Steps.{calls-lent, calls-plain, spent}
-use Rattle.versions.proofs.Plain.{After, after-answers, Made, made-answers}
+use Rattle.versions.proofs.Plain.{vals, After, after-answers, Made, made-answers}
 use Rattle.versions.proofs.Shared.{Now, now-answers, Find, find-answers, Setpoint, setpoint-answers}
 use Rattle.versions.proofs.Version as T
 use Rattle.versions.proofs.Version.Laws as T′
@@ -94,9 +94,6 @@ Arg = Version × (ℕ × (Version × (Key × Unit {0})))
 
 abbrev stayed : Stays (f.ended .signature .params) (f.ended .kept)
 stayed = (stay-none (λ _. T.the-row) yes, (stay-none (λ _. usize) yes, (stay-none (λ _. T.the-row) yes, (stay-none (λ _. K.the-row) yes, tt))))
-
-abbrev vals : Version → List Val
-vals = LL.vals T.the-type T′.the-laws
 
 abbrev mach : Version → Val
 mach = LL.val T.the-type T′.the-laws
