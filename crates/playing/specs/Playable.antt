@@ -22,7 +22,7 @@ use Rattle.ranges.specs.Tests.{by-test}
 use Rattle.schedule.specs.declared.Step.{Step}
 use Rattle.schedule.specs.declared.Step.the-variants.{Unreadable, Open, BeginWrite, BeginRead, Request, Reply}
 use Rattle.printing.specs.declared.Word.the-variants.{No}
-use Rattle.playing.specs.Played.{showing, plainly, noted, maskOf, played}
+use Rattle.playing.specs.Played.{showing, plainly, noted, maskOrZero, played}
 
 -- "Before any opening, steps give 2": the method is 0 then, which no opening sets
 pub record Playable (t : Tables) : Type 0 where
@@ -71,7 +71,7 @@ module _ (t : Tables) (unopened : methodOf t ≡ 0) where
   request-early q i setpoints = rw (request-unopened q i)
 
   -- the mask counts for a READ alone
-  pub reply-early : (q i : ℕ) (setpoints : List ℕ) → showing (noted (No 2) (maskOf (t .clients) q)) t ≡ played (Reply q i) setpoints t
+  pub reply-early : (q i : ℕ) (setpoints : List ℕ) → showing (noted (No 2) (maskOrZero (t .clients) q)) t ≡ played (Reply q i) setpoints t
   unfolding played
   reply-early q i setpoints = rw (reply-unopened q i)
 

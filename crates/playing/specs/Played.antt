@@ -79,8 +79,8 @@ abbrev pub arrivedPlayed : ℕ → Arrived → Played
 arrivedPlayed mask a = showing (record { word = arrivalWord (a .delivered .arrival); mask = mask; setpoints = a .delivered .setpoints }) (a .tables)
 
 -- the mask of a client, 0 where it has no row
-abbrev pub maskOf : List ℕ → ℕ → ℕ
-maskOf clients client = cond (leb (length clients / clientWidth) client) 0 (clientWord clients client maskField)
+abbrev pub maskOrZero : List ℕ → ℕ → ℕ
+maskOrZero clients client = cond (leb (length clients / clientWidth) client) 0 (clientWord clients client maskField)
 
 -- "A line of any other shape, an empty or longer one too, is no step and gives 13."; each other line is its public step
 unfoldable pub played : Step → List ℕ → Tables → Played
@@ -89,7 +89,7 @@ played (Open method servers clients) setpoints t = leftPlayed (open′ method se
 played (BeginWrite client mask) setpoints t = leftPlayed (beginWrite client mask setpoints t)
 played (BeginRead client mask) setpoints t = leftPlayed (beginRead client mask t)
 played (Request client target) setpoints t = leftPlayed (deliverRequest client target t)
-played (Reply client target) setpoints t = arrivedPlayed (maskOf (t .clients) client) (deliverReply client target t)
+played (Reply client target) setpoints t = arrivedPlayed (maskOrZero (t .clients) client) (deliverReply client target t)
 
 -- what a line shows and leaves
 abbrev pub playedLine : List ℕ → Tables → Played

@@ -16,7 +16,7 @@ use Rattle.schedule.specs.Steps.{Named, Names, stepOf}
 use Rattle.printing.specs.declared.Word.{Word}
 use Rattle.printing.specs.Printed.{Printed}
 use Rattle.playing.specs.declared.Shown.{Shown}
-use Rattle.playing.specs.Played.{arrivalWord, Played, showing, leftPlayed, arrivedPlayed, maskOf, played, playedLine, shownText, LinePlayed}
+use Rattle.playing.specs.Played.{arrivalWord, Played, showing, leftPlayed, arrivedPlayed, maskOrZero, played, playedLine, shownText, LinePlayed}
 
 pub left-played : {p : Played} {a b : Left} → p ≡ leftPlayed a → a ≡ b → p ≡ leftPlayed b
 left-played e f = e ∙ ap leftPlayed f
@@ -29,10 +29,10 @@ pub arrived-played : {p : Played} {m n : ℕ} {a b : Arrived} → p ≡ arrivedP
 arrived-played {p} {m} {n} {a} {b} e f g = e ∙ (ap (λ (k : ℕ). arrivedPlayed k a) f ∙ ap (arrivedPlayed n) g)
 
 module _ (clients : List ℕ) (client : ℕ) where
-  pub mask-none : length clients / clientWidth ≤ client → 0 ≡ maskOf clients client
+  pub mask-none : length clients / clientWidth ≤ client → 0 ≡ maskOrZero clients client
   mask-none h = rw (le-leb _ _ h)
 
-  pub mask-held : {m : ℕ} → client < length clients / clientWidth → m ≡ clientWord clients client maskField → m ≡ maskOf clients client
+  pub mask-held : {m : ℕ} → client < length clients / clientWidth → m ≡ clientWord clients client maskField → m ≡ maskOrZero clients client
   mask-held h e = rw (lt-leb _ _ h) e
 
 -- the setpoints of a line stand within the lent place

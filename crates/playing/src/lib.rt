@@ -8,7 +8,7 @@ ghost use Rattle.rules.specs.Answers.{left, arrived};
 ghost use Rattle.soundness.specs.Facts.{Sound};
 ghost use Rattle.refusals.specs.Steps.{deliverReply};
 ghost use Rattle.printing.specs.Printed.{Printed};
-ghost use Rattle.playing.specs.Played.{answerWord, arrivalWord, showing, noted, plainly, leftPlayed, arrivedPlayed, maskOf, played, playedLine, shownText, LinePlayed};
+ghost use Rattle.playing.specs.Played.{answerWord, arrivalWord, showing, noted, plainly, leftPlayed, arrivedPlayed, maskOrZero, played, playedLine, shownText, LinePlayed};
 ghost use Rattle.playing.specs.Playable.{Playable};
 use printing::Word;
 use rules::Answer;
@@ -89,7 +89,7 @@ pub fn arrived(delivered: Delivered, mask: u32) -> Shown
 
 // The mask of a client; 0 where it has no row, so that any number may be asked.
 pub fn mask_of(clients: &[u32], client: u32) -> u32
-    ensures { λ r. ⌜ r ≡ maskOf (now (clients .entry)) client ⌝ }
+    ensures { λ r. ⌜ r ≡ maskOrZero (now (clients .entry)) client ⌝ }
 {
     let row = client as usize;
     if clients.len() / WIDTH <= row {
@@ -113,7 +113,7 @@ fn deliver_reply(
 ) -> Shown
     requires { ⌜ Sound (tablesOf (now counts) (now clients) (now links) (now keys) (now values) (now log) (now writes) (now reads)) ⌝ }
     ensures { λ r. ⌜ showing r (tablesOf (now (counts .exit)) (now (clients .exit)) (now (links .exit)) (now (keys .entry)) (now (values .entry)) (now (log .entry)) (now (writes .exit)) (now (reads .exit)))
-        ≡ arrivedPlayed (maskOf (now (clients .entry)) client) (deliverReply client target (tablesOf (now (counts .entry)) (now (clients .entry)) (now (links .entry)) (now (keys .entry)) (now (values .entry)) (now (log .entry)) (now (writes .entry)) (now (reads .entry)))) ⌝ }
+        ≡ arrivedPlayed (maskOrZero (now (clients .entry)) client) (deliverReply client target (tablesOf (now (counts .entry)) (now (clients .entry)) (now (links .entry)) (now (keys .entry)) (now (values .entry)) (now (log .entry)) (now (writes .entry)) (now (reads .entry)))) ⌝ }
 {
     let mask = mask_of(&*clients, client);
     let delivered = store::deliver_reply_sound(

@@ -3,7 +3,7 @@ ghost use mathlib.Core.Path.{_≡_};
 ghost use Prim.Native.Nat.{_<_};
 ghost use Rattle.tables.specs.Tables.{tablesOf};
 ghost use Rattle.refusals.specs.Steps.{deliverReply};
-ghost use Rattle.playing.specs.Played.{showing, arrivedPlayed, maskOf, played};
+ghost use Rattle.playing.specs.Played.{showing, arrivedPlayed, maskOrZero, played};
 ghost use Rattle.sample.specs.Answers.{stepOf, givenAt, wordNumber, isAnswer};
 use libc::STDOUT_FILENO;
 use playing::Shown;
@@ -97,7 +97,7 @@ fn deliver_reply(
     target: u32,
 ) -> Shown
     ensures { λ r. ⌜ showing r (tablesOf (now (counts .exit)) (now (clients .exit)) (now (links .exit)) (now (keys .entry)) (now (values .entry)) (now (log .entry)) (now (writes .exit)) (now (reads .exit)))
-        ≡ arrivedPlayed (maskOf (now (clients .entry)) client) (deliverReply client target (tablesOf (now (counts .entry)) (now (clients .entry)) (now (links .entry)) (now (keys .entry)) (now (values .entry)) (now (log .entry)) (now (writes .entry)) (now (reads .entry)))) ⌝ }
+        ≡ arrivedPlayed (maskOrZero (now (clients .entry)) client) (deliverReply client target (tablesOf (now (counts .entry)) (now (clients .entry)) (now (links .entry)) (now (keys .entry)) (now (values .entry)) (now (log .entry)) (now (writes .entry)) (now (reads .entry)))) ⌝ }
 {
     let mask = playing::mask_of(&*clients, client);
     let delivered = store::deliver_reply(
