@@ -14,14 +14,13 @@ use Rattle.keys.specs.Masks.{hasServer}
 use Rattle.coordinator.specs.Latest.{latestKey}
 use Rattle.tables.specs.Rows.{HasRow}
 use Rattle.tables.specs.Layout.{writesField, readsField, clientWidth, clientWord, recordPlaces, recordWidth, clientOfRecord, countField, maskField, numberOfRecord, receivedField, recordField, setpointsField, stateField, tagField, tagOfRecord}
-use Rattle.tables.specs.Links.{targets, linkWidth, link-length}
+use Rattle.tables.specs.Links.{targets, HasLinks, linkWidth, link-length}
 use Rattle.tables.specs.Tables.{Tables, methodOf, serversOf, clientsOf, stepOf, entriesOf, writesOf, readsOf, stateOf, countOf, maskOf, recordOf, receivedOf}
 use Rattle.tables.specs.declared.links.Content.{Content}
 use Rattle.rules.specs.Common.{askingKeys, askingSetpoints, askingAll, coordinator, request}
 use Rattle.rules.specs.Begin.{lastTag, sentGets, sendAsk, sentAsks, asking, begunReadWith, begunRead}
 use Rattle.soundness.specs.Sound.{isWriting, isReading, uses}
 use Rattle.soundness.specs.Facts.{ClientFacts, ReadFacts, RecordsFacts, Sound}
-use Rattle.soundness.specs.Asked.{LinksThere}
 use Rattle.soundness.specs.Room.{few-servers, client-row, client-links, link-row, next-read}
 use Rattle.refusals.specs.Refusals.{readRefusal}
 use Rattle.keeping.specs.Accepted.{neither, Beginnable, readable}
@@ -132,7 +131,7 @@ module _ (q mask : ℕ) (t : Tables) (s : Sound t) (b : Beginnable q mask t) (fe
   servers-few : k ≤ targets
   servers-few = omega (arith, few-servers t s)
 
-  links-room : LinksThere (t .links) q
+  links-room : HasLinks (t .links) q
   links-room = client-links t s q (b .client)
 
   c : ClientFacts t q

@@ -12,14 +12,13 @@ use Rattle.keys.specs.Keys.{keyOf}
 use Rattle.keys.specs.Masks.{hasServer, some-server}
 use Rattle.tables.specs.Rows.{HasRow}
 use Rattle.tables.specs.Layout.{writesField, readsField, clientWidth, clientWord, recordPlaces, recordWidth, clientOfRecord, countField, maskField, numberOfRecord, receivedField, recordField, setpointsField, stateField, tagField, tagOfRecord}
-use Rattle.tables.specs.Links.{targets, linkWidth, contentWords}
+use Rattle.tables.specs.Links.{targets, HasLinks, linkWidth, contentWords}
 use Rattle.tables.specs.declared.links.Content.{Content}
 use Rattle.tables.specs.Tables.{Tables, tablesOf, methodOf, serversOf, clientsOf, stepOf, writesOf, readsOf, stateOf, countOf, maskOf, recordOf, receivedOf}
 use Rattle.rules.specs.Common.{writing, request, begunCounts, begunRecords}
 use Rattle.rules.specs.Begin.{nextCount, storedSetpoints, sentSets, begunWrite}
 use Rattle.soundness.specs.Sound.{isWriting, isReading, uses}
 use Rattle.soundness.specs.Facts.{ClientFacts, WriteFacts, RecordsFacts, Sound}
-use Rattle.soundness.specs.Asked.{LinksThere}
 use Rattle.soundness.specs.Room.{few-servers, client-fits, client-row, client-links, next-write}
 use Rattle.refusals.specs.Refusals.{writeRefusal}
 use Rattle.keeping.specs.Accepted.{Beginnable, writable}
@@ -107,7 +106,7 @@ module _ (q mask : ℕ) (setpoints : List ℕ) (t : Tables) (s : Sound t) (b : B
   setpoints-room : setpointsField + serversOf t ≤ receivedField
   setpoints-room = omega (arith, few-servers t s)
 
-  links-room : LinksThere (t .links) q
+  links-room : HasLinks (t .links) q
   links-room = client-links t s q (b .client)
 
   spared : (p g : ℕ) → g < clientWidth → ((p ≡ q) × (setpointsField ≤ g) × (g < setpointsField + serversOf t) → ⊥) → clientWord (after .clients) p g ≡ clientWord (putAll puts q (t .clients)) p g

@@ -11,14 +11,13 @@ use Rattle.coordinator.specs.Latest.{latestKey, latestTag}
 use Rattle.coordinator.specs.LatestLaws.{latest-within}
 use Rattle.tables.specs.Rows.{wordAt}
 use Rattle.tables.specs.Layout.{entryWidth}
-use Rattle.tables.specs.Links.{targets, linkWidth}
+use Rattle.tables.specs.Links.{targets, HasLinks, linkWidth}
 use Rattle.tables.specs.Tables.{Tables, methodOf, serversOf, clientsOf, entriesOf, stateOf, countOf, maskOf, tagOf, receivedOf}
 use Rattle.tables.specs.declared.links.Content.{Content}
 use Rattle.rules.specs.Common.{askingSetpoints, request}
 use Rattle.rules.specs.Begin.{sentGets}
 use Rattle.soundness.specs.Sound.{keyInRange, uses, stateAllowed}
 use Rattle.soundness.specs.Facts.{Sound}
-use Rattle.soundness.specs.Asked.{LinksThere}
 use Rattle.soundness.specs.Room.{few-servers}
 use Rattle.keeping.specs.Links.{linkWord}
 use Rattle.keeping.specs.States.{masked-below, range-below, uses-setpoints, request-setpoints}
@@ -34,7 +33,7 @@ latest-in-range t i tag s h =
 
 -- the links of the client before held nothing; t′ has the links sent, the state and the mask
 module _ (q mask tag : ℕ) (links : List ℕ) (t t′ : Tables) (s : Sound t) (n : Numbers t t′) (client : q < clientsOf t) (within : tag < entriesOf t) (masked : Within mask (serversOf t))
-    (empty : (i : ℕ) → i < targets → linkWord links q i 0 ≡ 0) (long : LinksThere links q)
+    (empty : (i : ℕ) → i < targets → linkWord links q i 0 ≡ 0) (long : HasLinks links q)
     (sends : t′ .links ≡ sentGets q mask (t .log) tag (serversOf t) links)
     (state : stateOf t′ q ≡ askingSetpoints) (mask′ : maskOf t′ q ≡ mask) where
   abbrev get : ℕ → Content

@@ -6,7 +6,7 @@ use native.Mathlib.Omega.{arith}
 use Rattle.keys.specs.Masks.{hasServer}
 use Rattle.coordinator.specs.Latest.{latestKey}
 use Rattle.tables.specs.Layout.{clientWidth, clientWord, countField, maskField, receivedField, recordField, setpointsField, stateField, tagField}
-use Rattle.tables.specs.Links.{targets, contentsOf}
+use Rattle.tables.specs.Links.{targets, HasLinks, contentsOf}
 use Rattle.tables.specs.Tables.{Tables, methodOf, serversOf, entriesOf, stateOf, maskOf}
 use Rattle.tables.specs.declared.links.Contents.{Contents}
 use Rattle.tables.specs.declared.links.Content.{Content}
@@ -14,7 +14,6 @@ use Rattle.rules.specs.Common.{askingKeys, askingSetpoints, request}
 use Rattle.rules.specs.Begin.{sentGets}
 use Rattle.rules.specs.Reply.{emptied, onKeys}
 use Rattle.soundness.specs.Sound.{keyOn}
-use Rattle.soundness.specs.Asked.{LinksThere}
 use Rattle.soundness.specs.Room.{few-servers, client-links}
 use Rattle.keeping.specs.Links.{numberOn}
 use Rattle.keeping.specs.States.{uses-keys, keys-target, holding-log, keys-told, allowed-setpoints}
@@ -54,7 +53,7 @@ module _ (q i : ℕ) (t : Tables) (a : Came q i t) (state : stateOf t q ≡ aski
       let all = holding-log t i (keys-target (maskOf t q) i (rw state at (used a))) in
       omega (arith, f .least, f .most)
 
-  rest-room : LinksThere rest q
+  rest-room : HasLinks rest q
   rest-room = rw (rest-long a) (client-links t (a .sound) q (a .client))
 
   few : serversOf t ≤ targets

@@ -9,13 +9,12 @@ use Rattle.ranges.specs.Tests.{by-test, by-equal, not-both, either}
 use Rattle.ranges.specs.Turns.{turns, turns-keep-below}
 use Rattle.ranges.specs.Picked.{picked, is-picked, not-picked}
 use Rattle.keys.specs.Masks.{Within}
-use Rattle.tables.specs.Links.{targets, linkWidth, putLink, link-length, contentWords}
+use Rattle.tables.specs.Links.{targets, HasLinks, linkWidth, putLink, link-length, contentWords}
 use Rattle.tables.specs.Tables.{Tables, methodOf, serversOf, entriesOf, stateOf, countOf, maskOf, tagOf, receivedOf}
 use Rattle.tables.specs.declared.links.Content.{Content}
 use Rattle.rules.specs.Common.{idle}
 use Rattle.soundness.specs.Sound.{uses, requestSound, keyOn, isWriting, stateAllowed}
 use Rattle.soundness.specs.Facts.{Between, LinkFacts, ClientFacts}
-use Rattle.soundness.specs.Asked.{LinksThere}
 use Rattle.keeping.specs.Links.{linkWord, kindOn, numberOn, kind-full, pending-at, put-same, put-other, put-beside, link-asks, asks-link}
 use Rattle.keeping.specs.States.{uses-idle, arrived, none-received, not-all, not-used, not-empty, allowed-idle}
 
@@ -100,12 +99,12 @@ module _ (t : Tables) (q : ℕ) (c : Sent t q) where
       }
 
 -- The loop that sends: a content to each target below k that passes a test.
-module _ (q k : ℕ) (p : ℕ → Bool) (content : ℕ → Content) (links : List ℕ) (few : k ≤ targets) (long : LinksThere links q) where
+module _ (q k : ℕ) (p : ℕ → Bool) (content : ℕ → Content) (links : List ℕ) (few : k ≤ targets) (long : HasLinks links q) where
   abbrev send : ℕ → List ℕ → List ℕ
   send i xs = putLink xs q i (content i)
 
   abbrev Roomy : List ℕ → Type 0
-  Roomy xs = LinksThere xs q
+  Roomy xs = HasLinks xs q
 
   roomy : (i : ℕ) (xs : List ℕ) → Roomy xs → Roomy (send i xs)
   roomy i xs r = rw (link-length xs q i (content i)) r

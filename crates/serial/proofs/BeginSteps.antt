@@ -23,7 +23,6 @@ use Rattle.rules.specs.Common.{idle, askingKeys, askingSetpoints, askingAll, co
 use Rattle.rules.specs.Common as rules
 use Rattle.rules.specs.Begin.{storedSetpoints, nextCount, begunWrite, sentGets, sendAsk, sentAsks, asking, lastTag, askingByA, askingByB, askingByC, begunReadWith, begunRead}
 use Rattle.rules.specs.declared.Answer.the-variants.{Ok}
-use Rattle.soundness.specs.Asked.{LinksThere}
 use Rattle.keeping.specs.States.{masked-below}
 use Rattle.keeping.specs.Rows.{Put, put, putAll, put-read, put-elsewhere, put-length, loop-other}
 use Rattle.keeping.specs.Rounds.{sent-length}
@@ -79,7 +78,7 @@ module _ (floor : ℕ → ℕ) (t : Tables) (h : History) (tied : Tied floor (vi
   empty : (i : ℕ) → i < targets → linkAt (t .links) q i .content ≡ Nothing
   empty i l = sym (link-at t q i l) ∙ idling .links i l
 
-  long : LinksThere (t .links) q
+  long : HasLinks (t .links) q
   long = has-links t q ready
 
   bound : (i : ℕ) → hasServer mask i ≡ true → i < serversOf t

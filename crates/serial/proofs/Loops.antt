@@ -13,12 +13,11 @@ use Rattle.ranges.specs.Turns.{turns, turns-keep-below}
 use Rattle.ranges.specs.Picked.{picked, is-picked, not-picked}
 use Rattle.keys.specs.Masks.{hasServer}
 use Rattle.tables.specs.Layout.{clientWidth, clientWord, putClientWord}
-use Rattle.tables.specs.Links.{targets, putLink, isEmpty, ContentFits, link-same, link-other, link-length}
+use Rattle.tables.specs.Links.{targets, HasLinks, putLink, isEmpty, ContentFits, link-same, link-other, link-length}
 use Rattle.tables.specs.declared.links.Content.{Content}
 use Rattle.tables.specs.declared.links.Content.the-variants.{Nothing, Request, Reply}
 use Rattle.tables.specs.declared.links.Link.{Link}
 use Rattle.rules.specs.Common.{pending}
-use Rattle.soundness.specs.Asked.{LinksThere}
 use Rattle.keeping.specs.Rows.{loop-other}
 use Rattle.serial.proofs.Press.{within, rowOf, contentIn, linksOf, weight, toCome, sends}
 use Rattle.serial.proofs.View.{within-at, within-past, within-same, link-put-other}
@@ -26,17 +25,17 @@ use Rattle.serial.proofs.Links.{come-some, sends-masked, sends-other}
 
 -- A content sent to each server of a mask, from a client whose links are empty.
 module _ (q : ℕ) (w : ℕ → Content) (fits : (i : ℕ) → ContentFits (w i)) (mask k : ℕ) (small : k ≤ targets) (bound : (i : ℕ) → hasServer mask i ≡ true → i < k)
-    (links : List ℕ) (long : LinksThere links q) (empty : (i : ℕ) → i < targets → contentIn links q i ≡ Nothing) where
+    (links : List ℕ) (long : HasLinks links q) (empty : (i : ℕ) → i < targets → contentIn links q i ≡ Nothing) where
   abbrev send : ℕ → List ℕ → List ℕ
   send i xs = putLink xs q i (w i)
 
   abbrev sent : List ℕ
   sent = turns (picked (hasServer mask) send) k links
 
-  keeps : (i : ℕ) (xs : List ℕ) → LinksThere xs q → LinksThere (send i xs) q
+  keeps : (i : ℕ) (xs : List ℕ) → HasLinks xs q → HasLinks (send i xs) q
   keeps i xs l = rw (link-length xs q i (w i)) l
 
-  same : (i : ℕ) (xs : List ℕ) → i < k → LinksThere xs q → linksOf (send i xs) q i ≡ w i
+  same : (i : ℕ) (xs : List ℕ) → i < k → HasLinks xs q → linksOf (send i xs) q i ≡ w i
   same i xs h l = within-at targets Nothing (contentIn (send i xs) q) i (omega arith) ∙ link-same xs q i (w i) (omega arith) (fits i)
 
   other : (i j : ℕ) (xs : List ℕ) → i < k → (j ≡ i → ⊥) → linksOf (send i xs) q j ≡ linksOf xs q j
@@ -55,8 +54,8 @@ module _ (q : ℕ) (w : ℕ → Content) (fits : (i : ℕ) → ContentFits (w i)
   pub sent-links : linksOf sent q ≡ sends mask w
   sent-links = fun-ext (λ j.
       by-test (hasServer mask j)
-      (λ e. is-picked (λ xs i. linksOf xs q i) send w (λ xs. LinksThere xs q) k keeps same other (hasServer mask) links long k j (omega arith) (bound j e) e ∙ sym (sends-masked mask w j e))
-      (λ e. not-picked (λ xs i. linksOf xs q i) send w (λ xs. LinksThere xs q) k keeps same other (hasServer mask) links long k j (omega arith) e ∙ none j ∙ sym (sends-other mask w j e)))
+      (λ e. is-picked (λ xs i. linksOf xs q i) send w (λ xs. HasLinks xs q) k keeps same other (hasServer mask) links long k j (omega arith) (bound j e) e ∙ sym (sends-masked mask w j e))
+      (λ e. not-picked (λ xs i. linksOf xs q i) send w (λ xs. HasLinks xs q) k keeps same other (hasServer mask) links long k j (omega arith) e ∙ none j ∙ sym (sends-other mask w j e)))
 
   pub sent-others : (r : ℕ) → (r ≡ q → ⊥) → linksOf sent r ≡ linksOf links r
   sent-others r d =

@@ -5,13 +5,12 @@ use native.Mathlib.Omega.{arith}
 use Rattle.ranges.specs.Tests.{by-equal}
 use Rattle.tables.specs.Rows.{HasRow}
 use Rattle.tables.specs.Layout.{clientWidth, clientWord}
-use Rattle.tables.specs.Links.{targets, linkWidth, linkRow}
+use Rattle.tables.specs.Links.{targets, HasLinks, linkWidth, linkRow}
 use Rattle.tables.specs.Tables.{Tables, serversOf, clientsOf, contentAt}
 use Rattle.tables.specs.declared.links.Content.{Content}
 use Rattle.tables.specs.declared.links.Content.the-variants.{Nothing}
 use Rattle.rules.specs.Common.{coordinator}
 use Rattle.soundness.specs.Facts.{Sound}
-use Rattle.soundness.specs.Asked.{LinksThere}
 use Rattle.soundness.specs.Room.{few-servers, client-fits, client-row, client-links, link-row}
 use Rattle.serial.proofs.Press.{weight, view}
 use Rattle.serial.proofs.View.{within-at}
@@ -33,7 +32,7 @@ module _ (t : Tables) (q : ℕ) (r : Ready t q) where
   pub has-link : (i : ℕ) → i < targets → HasRow linkWidth (t .links) (linkRow q i)
   has-link = link-row t (r .sound) q (r .client)
 
-  pub has-links : LinksThere (t .links) q
+  pub has-links : HasLinks (t .links) q
   has-links = client-links t (r .sound) q (r .client)
 
 -- a word of the row and a link as the view has them

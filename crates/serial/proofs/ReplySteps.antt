@@ -27,7 +27,6 @@ use Rattle.rules.specs.Begin.{sentGets}
 use Rattle.rules.specs.Reply.{said, emptied, showSetpoint, shownSetpoints, readShown, onSetDone, onEntered, onKeys, gotSetpoint, onGot, gotNumber, receivedIn, setpointAt, keepSetpoint, forget, tagChosen, concluded, onAll, onReplyIn, onReply, replyDelivered}
 use Rattle.rules.specs.declared.Delivered.{Delivered}
 use Rattle.rules.specs.declared.Arrival.the-variants as arrival
-use Rattle.soundness.specs.Asked.{LinksThere}
 use Rattle.keeping.specs.Rows.{loop-other, loop-length, loop-there}
 use Rattle.serial.specs.Steps.{replied}
 use Rattle.serial.specs.History.{changed, History}
@@ -216,7 +215,7 @@ module _ (floor : ℕ → ℕ) (t : Tables) (h : History) (tied : Tied floor (vi
         bound : (j : ℕ) → hasServer (maskOf t q) j ≡ true → j < serversOf t
         bound j m = a .bound j (rw mask-at m)
 
-        long : LinksThere (emptied q i t) q
+        long : HasLinks (emptied q i t) q
         long = rw (link-length (t .links) q i Nothing) (has-links t q ready)
 
         empty : i ≡ coordinator → (j : ℕ) → j < targets → linkAt (emptied q i t) q j .content ≡ Nothing

@@ -4,7 +4,7 @@ use mathlib.Core.List.{List}
 use lib.ListN.{length}
 use Rattle.tables.specs.Layout.{countAt, countWords, serversField, clientsField, entriesField, writesField, readsField, clientWidth, serverPlaces, logPlaces, entryWidth, recordPlaces, recordWidth}
 use Rattle.tables.specs.Rows.{HasRow}
-use Rattle.tables.specs.Links.{linkWidth, linkRow, targets}
+use Rattle.tables.specs.Links.{linkWidth, linkRow, targets, HasLinks}
 
 -- the counts are there, and those that bound other tables are in their ranges
 pub record Counted (counts : List ℕ) : Type 0 where
@@ -30,14 +30,10 @@ pub record ClientsThere (counts clients links : List ℕ) : Type 0 where
   pub rows : RowsThere counts clients
   pub linked : linkWidth * (targets * countAt counts clientsField) ≤ length links
 
--- all links of one client
-abbrev pub LinksThere : List ℕ → ℕ → Type 0
-LinksThere links q = linkWidth * linkRow q targets ≤ length links
-
 -- one client's row, and all its links
 pub record ClientThere (clients links : List ℕ) (q : ℕ) : Type 0 where
   pub row : HasRow clientWidth clients q
-  pub linked : LinksThere links q
+  pub linked : HasLinks links q
 
 -- one client's row, and one of its links
 pub record LinkThere (clients links : List ℕ) (q i : ℕ) : Type 0 where

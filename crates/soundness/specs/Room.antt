@@ -7,11 +7,10 @@ use native.Mathlib.Omega.{arith}
 use lib.ListN.{length}
 use Rattle.tables.specs.Rows.{HasRow}
 use Rattle.tables.specs.Layout.{clientWidth, serverPlaces, logPlaces, entryWidth, recordPlaces, recordWidth}
-use Rattle.tables.specs.Links.{targets, linkWidth, linkRow}
+use Rattle.tables.specs.Links.{targets, HasLinks, linkWidth, linkRow}
 use Rattle.tables.specs.Tables.{Tables, serversOf, clientsOf, entriesOf, writesOf, readsOf, stateOf, recordOf}
 use Rattle.soundness.specs.Sound.{isWriting, isReading}
 use Rattle.soundness.specs.Facts.{Sound, Doing, doing-facts}
-use Rattle.soundness.specs.Asked.{LinksThere}
 
 module _ (t : Tables) (s : Sound t) where
   pub few-servers : serversOf t ≤ 16
@@ -39,7 +38,7 @@ module _ (t : Tables) (s : Sound t) where
     pub client-row : HasRow clientWidth (t .clients) q
     client-row = omega (arith, s .long .clients)
 
-    pub client-links : LinksThere (t .links) q
+    pub client-links : HasLinks (t .links) q
     client-links = omega (arith, s .long .links)
 
     pub link-row : (i : ℕ) → i < targets → HasRow linkWidth (t .links) (linkRow q i)
