@@ -1,6 +1,6 @@
 -- An accepted opening leaves sound tables, whatever stood in them before.
 use Prim.Native.Nat.{ℕ, _+_, _*_, _^_, _≤_, _<_}
-use mathlib.Core.Path.{_≡_, refl, _∙_}
+use mathlib.Core.Path.{_≡_, refl, sym, _∙_}
 use mathlib.Core.Bool.{true}
 use mathlib.Core.List.{List, [], _∷_}
 use native.Mathlib.Nat.{zero-add}
@@ -8,7 +8,7 @@ use native.Mathlib.Omega.{arith}
 use lib.ListN.{getD, length, length-set, length-replicate}
 use lib.Seq.{getD-set-same, getD-set-other, sets, length-sets}
 use lib.Pow.{pow-mono}
-use Rattle.ranges.specs.Sum.{sumBelow, sum-most, count-zero}
+use Rattle.ranges.specs.Sum.{sum-nothing, count-zero}
 use Rattle.ranges.specs.Turns.{turns, turns-keep}
 use Rattle.ranges.specs.Picked.{is-picked}
 use Rattle.ranges.specs.Words.{zeros}
@@ -177,7 +177,7 @@ module _ (m k p : ℕ) (setpoints : List ℕ) (t : Tables) (press : Press m k p)
         server = λ i h. opened-server i (rw (o .servers) at h);
         log = opened-log;
         client = λ q h. opened-client q;
-        counts = let z : sumBelow (countOf t) (clientsOf t) ≤ clientsOf t * 0 = sum-most (countOf t) 0 (clientsOf t) (λ q l. rw (o .word q countField) (omega arith)) in omega (arith, o .writes);
+        counts = sum-nothing (countOf t) (clientsOf t) (λ q l. o .word q countField) ∙ sym (o .writes);
         write = λ n h. let z : ⊥ = omega (arith, o .writes) in absurd z;
         read = λ n h. let z : ⊥ = omega (arith, o .reads) in absurd z;
         records = λ q h. record {

@@ -1,7 +1,7 @@
 -- How many lines the register has: the WRITEs that have a tag and the finished READs, each once.
 use Prim.Native.Nat.{ℕ, zero, suc, _+_, _-_, _≤_, _<_}
 use mathlib.Core.Path.{_≡_, refl, ap, _∙_}
-use mathlib.Core.Bool.{Bool, true, false, cond, not, _&&_}
+use mathlib.Core.Bool.{Bool, true, false, cond, not, _&&_, and-true}
 use mathlib.Core.List.{List, [], _∷_, _++_, map}
 use native.Mathlib.Omega.{arith}
 use lib.ListN.{length, length-append, length-map}
@@ -157,10 +157,6 @@ module _ (t : Tables) where
         let r : readsTo (entriesOf t - 1) ≡ countBelow (isFinished (t .reads)) (readsOf t) =
         sum-same _ _ (readsOf t) (λ i l. rw (le-leb (tagOfRead i) (entriesOf t - 1) (omega (arith, rtag i l))) (ap one (and-true (isFinished (t .reads) i)))) in
         length-listed (entriesOf t - 1) ∙ omega (arith, w, r)
-      where
-        and-true : (b : Bool) → (b && true) ≡ b
-        and-true true = refl
-        and-true false = refl
 
     -- "255 WRITEs", "255 READs": at most 510 lines
     pub few-lines : writesOf t ≤ recordPlaces → readsOf t ≤ recordPlaces → length (register t) ≤ 510

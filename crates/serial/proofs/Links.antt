@@ -4,7 +4,7 @@ use mathlib.Core.Path.{_≡_, refl, ap, _∙_}
 use mathlib.Core.Bool.{true, false}
 use native.Mathlib.Omega.{arith}
 use Rattle.ranges.specs.Tests.{by-test}
-use Rattle.ranges.specs.Sum.{sumBelow, countBelow, sum-more, sum-set, sum-part, sum-most, sum-zero}
+use Rattle.ranges.specs.Sum.{sumBelow, countBelow, sum-more, sum-set, sum-part, sum-nothing, sum-zero}
 use Rattle.keys.specs.Masks.{hasServer, serversIn}
 use Rattle.tables.specs.Links.{targets}
 use Rattle.tables.specs.declared.links.Content.{Content}
@@ -30,7 +30,7 @@ pub all-empty : (link : ℕ → Content) → toCome link ≡ 0 → (i : ℕ) →
 all-empty link e i h = weight-zero (link i) (sum-zero (λ j. weight (link j)) targets e i h)
 
 pub come-none : (link : ℕ → Content) → ((i : ℕ) → i < targets → link i ≡ Nothing) → toCome link ≡ 0
-come-none link e = let z = sum-most (λ i. weight (link i)) 0 targets (λ i l. rw (e i l) (omega arith)) in omega arith
+come-none link e = sum-nothing (λ i. weight (link i)) targets (λ i l. ap weight (e i l))
 
 pub come-some : (link : ℕ → Content) (i : ℕ) → i < targets → 0 < weight (link i) → 0 < toCome link
 come-some link i h l = omega (arith, sum-part (λ j. weight (link j)) targets i h)

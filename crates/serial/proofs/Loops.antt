@@ -8,7 +8,7 @@ use lib.Dec.{ltb}
 use borrow.Author.Tests.{ltb-true, ltb-false, not-true, not-false}
 use Rattle.ranges.specs.Tests.{by-test, not-both}
 use Rattle.ranges.specs.All.{any-at, any-of}
-use Rattle.ranges.specs.Sum.{sum-most}
+use Rattle.ranges.specs.Sum.{sum-nothing}
 use Rattle.ranges.specs.Turns.{turns, turns-keep-below}
 use Rattle.ranges.specs.Picked.{picked, is-picked, not-picked}
 use Rattle.keys.specs.Masks.{hasServer}
@@ -94,8 +94,7 @@ module _ (links : List ℕ) (q : ℕ) where
 
   pub none-come : pending links q ≡ false → toCome (linksOf links q) ≡ 0
   none-come e =
-      let z = sum-most (λ i. weight (linksOf links q i)) 0 targets (λ i l.
+      sum-nothing (λ i. weight (linksOf links q i)) targets (λ i l.
       by-test (full i)
       (λ b. absurd (not-both (any-at full targets i l b) e))
-      (λ b. rw (within-at targets Nothing (contentIn links q) i l, empty-weight (contentIn links q i) (not-false _ b)) (omega arith))) in
-      omega arith
+      (λ b. ap weight (within-at targets Nothing (contentIn links q) i l) ∙ empty-weight (contentIn links q i) (not-false _ b)))

@@ -9,7 +9,7 @@ use lib.Seq.{getD-set-other, sets}
 use lib.Dec.{ltb}
 use borrow.Author.Tests.{ltb-true, ltb-false, eq-eqb, eqb-true}
 use Rattle.ranges.specs.Tests.{by-test}
-use Rattle.ranges.specs.Sum.{sumBelow, sum-most}
+use Rattle.ranges.specs.Sum.{sumBelow, sum-nothing}
 use Rattle.ranges.specs.Turns.{turns-keep-below}
 use Rattle.ranges.specs.Words.{zeros}
 use Rattle.keys.specs.Keys.{keyOf, keyAtWord, opening}
@@ -103,7 +103,7 @@ module _ (m k p : ℕ) (setpoints : List ℕ) (t : Tables) (o : Openable m k p s
 
   -- nothing waits, nothing is due, nothing is ahead
   none-of : (f : Client → ℕ) → ((q : ℕ) → f (view left .client q) ≡ 0) → sumBelow (λ q. f (view left .client q)) 16 ≡ 0
-  none-of f e = let z = sum-most (λ q. f (view left .client q)) 0 16 (λ q l. rw (e q) (omega arith)) in omega arith
+  none-of f e = sum-nothing (λ q. f (view left .client q)) 16 (λ q l. e q)
 
   pub opened-budget : Budget (view left)
   opened-budget =

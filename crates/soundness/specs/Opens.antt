@@ -1,7 +1,7 @@
 -- The records without an end, counted for all sixteen clients in one pass: what the counts are when the first n records have been passed.
 use Prim.Native.Nat.{ℕ, zero, suc, _+_, _≤_, _<_}
 use mathlib.Core.Path.{_≡_, refl, sym, _∙_}
-use mathlib.Core.Bool.{Bool, true, false, not, _&&_}
+use mathlib.Core.Bool.{Bool, true, false, not, _&&_, and-false}
 use mathlib.Core.List.{List}
 use native.Mathlib.Omega.{arith}
 use lib.ListN.{length, getD, set, length-set, replicate}
@@ -38,10 +38,6 @@ module _ (records : List ℕ) where
 
     pub opens-ended : {e : ℕ} → e ≡ recordWord records n endOfRecord → (e ≡ 0 → ⊥) → OpenCounts records (n + 1) found
     opens-ended d f = same-counts (λ q h. rw (← d, ne-eqb _ _ f) (and-false (eqb (recordWord records n clientOfRecord) q)))
-      where
-        and-false : (b : Bool) → (b && false) ≡ false
-        and-false true = refl
-        and-false false = refl
 
     pub opens-beyond : {w : ℕ} → w ≡ recordWord records n clientOfRecord → 16 ≤ w → OpenCounts records (n + 1) found
     opens-beyond d h = same-counts (λ q l. other-client d q (λ e. omega arith))
