@@ -15,16 +15,16 @@ use Rattle.formats.specs.declared.state.Field.{Field}
 use Rattle.formats.specs.declared.state.State.{State}
 use Rattle.formats.specs.Grammar.{Grammar, end, field, good, size, lay, zeros, frame}
 use Rattle.formats.specs.RoundTrip.{length-frame}
-use Rattle.formats.specs.Table.{numberPlace, sorts, limitsOf, bitsOf, entriesSaid}
-use Rattle.formats.specs.TableLaws.{rowOf, limits-width, bits-most, columns-small, entries-fit}
+use Rattle.formats.specs.Table.{numberPlace, sorts, headerBits, mostEntries, limitsOf, bitsOf, entriesSaid}
+use Rattle.formats.specs.TableLaws.{rowOf, limits-width, bits-most, mostColumn, columns-small, entries-fit}
 use Rattle.formats.specs.Format.{sortOf, widthOf, nextOf, start, format}
 use Rattle.formats.specs.FormatLaws.{rowed-tells, rest, rest-start, rest-one}
 use Rattle.formats.specs.Writing.{wroteOf, bytesAfter}
 use Rattle.formats.specs.Walk.{stateAt, walk, walk-rowed, some-left, sized, frame-bits, kind-below, entries-few}
 
 -- the bit where value i begins
-abbrev pub bitOf : List ℕ → ℕ → ℕ
-bitOf vs i = sumBelow (λ j. widthOf (stateAt vs j)) i
+abbrev pub firstBit : List ℕ → ℕ → ℕ
+firstBit vs i = sumBelow (λ j. widthOf (stateAt vs j)) i
 
 lay-nothing : (g : Grammar) (bytes : List ℕ) (at : ℕ) → lay g [] bytes at ≡ bytes
 unfolding lay
@@ -35,7 +35,7 @@ lay-nothing (field w ok r) bytes at = refl
 pub record Laid (vs before bytes : List ℕ) (i at : ℕ) (st : State) : Type 0 where
   pub state : st ≡ stateAt vs i
   pub inside : i ≤ length vs
-  pub place : at ≡ bitOf vs i
+  pub place : at ≡ firstBit vs i
   pub same : length bytes ≡ length before
   pub found : lay (rest st) (drop i vs) bytes at ≡ lay format vs before 0
 
@@ -52,12 +52,12 @@ laid-start vs bytes =
 
 module _ (vs : List ℕ) (g : good format vs ≡ true) where
   -- a frame has few bits
-  pub size-small : size format vs ≤ 11321
+  pub size-small : size format vs ≤ headerBits + mostColumn + mostEntries * mostColumn
   size-small =
       let k = getD vs 0 0 in
       omega (arith, frame-bits vs g, columns-small k (kind-below vs g), entries-fit k (entriesSaid vs) (kind-below vs g) (entries-few vs g))
 
-  module _ (before bytes : List ℕ) (i at : ℕ) (st : State) (c : Laid vs before bytes i at st) where
+  module _ {before bytes : List ℕ} {i at : ℕ} {st : State} (c : Laid vs before bytes i at st) where
     -- the row of the kind tells what the next field holds
     pub laid-sort : {row : List ℕ} → row ≡ rowOf (getD vs 0 0) → (getD row (st .place) 0 ≡ sortOf st) × (getD row (st .place) 0 < sorts)
     laid-sort er = rowed-tells (getD vs 0 0) i st (rw (c .state) (walk-rowed vs g i)) er

@@ -132,7 +132,7 @@ come-start bytes values =
     nothing (got vs) = refl
     nothing (fault n) = refl
 
-module _ (bytes values : List ℕ) (i at : ℕ) (st : State) (c : Come bytes values i at st) where
+module _ {bytes values : List ℕ} {i at : ℕ} {st : State} (c : Come bytes values i at st) where
   -- no field is left
   pub come-end : st .left ≡ 0 → read format bytes 0 ≡ outcome (endFault bytes at) (take i values)
   unfolding read
@@ -175,7 +175,7 @@ pub took-is : (bytes : List ℕ) (at : ℕ) (f : Field) {n v : ℕ} → v ≡ fi
 took-is bytes at f d e i = record { fault = e i; value = d i }
 
 -- A turn of the reader: the field f of the state is taken as t.
-module _ (bytes values : List ℕ) (i at : ℕ) (st : State) (c : Come bytes values i at st) (some : 0 < st .left) {f : Field} {t : Took} (ef : f ≡ fieldOf st) (et : t ≡ tookAt bytes at f) where
+module _ {bytes values : List ℕ} {i at : ℕ} {st : State} (c : Come bytes values i at st) (some : 0 < st .left) {f : Field} {t : Took} (ef : f ≡ fieldOf st) (et : t ≡ tookAt bytes at f) where
   is-fault : t .fault ≡ faultAt bytes at (fieldOf st)
   is-fault = ap (λ (u : Took). u .fault) et ∙ ap (faultAt bytes at) ef
 
@@ -187,16 +187,16 @@ module _ (bytes values : List ℕ) (i at : ℕ) (st : State) (c : Come bytes val
   is-value = ap (λ (u : Took). u .value) et ∙ ap (fieldAt bytes at) is-width
 
   pub turn-fault : (vs : List ℕ) → (t .fault ≡ 0 → ⊥) → read format bytes 0 ≡ outcome (t .fault) vs
-  turn-fault vs d = come-fault bytes values i at st c some vs is-fault d
+  turn-fault vs d = come-fault c some vs is-fault d
 
   module _ (none : t .fault ≡ 0) where
     pub turn-allowed : allowed st (t .value) ≡ true
-    turn-allowed = ap (allowed st) is-value ∙ come-allowed bytes values i at st c some is-fault none
+    turn-allowed = ap (allowed st) is-value ∙ come-allowed c some is-fault none
 
     pub turn-on : {next : State} → i < length values → f .width ≤ 32 → next ≡ nextOf st (t .value) → Come bytes (set values i (t .value)) (i + 1) (at + f .width) next
     turn-on h w en =
         rw (en, is-value, is-width)
-        (come-on bytes values i at st c some is-fault none h (omega (arith, is-width)) (goes-next st (fieldAt bytes at (widthOf st)) (c .goes) some))
+        (come-on c some is-fault none h (omega (arith, is-width)) (goes-next st (fieldAt bytes at (widthOf st)) (c .goes) some))
 
     -- with the row of the kind that the first field has
     pub turn-rowed : {next : State} (kind m : ℕ) → Rowed kind at st → kind ≡ fieldAt bytes 0 kindBits → next ≡ nextOf st (t .value) → Rowed kind m next

@@ -125,7 +125,7 @@ unfolding allBelow bitsOf
 bits-most sort h = leb-true _ _ (all-at (λ s. leb (bitsOf s) 32) sorts refl sort h)
 
 -- the columns are small: nothing in them is above a count, a client and a setpoint
-abbrev mostColumn : ℕ
+abbrev pub mostColumn : ℕ
 mostColumn = 44
 
 pub columns-small : (kind : ℕ) → kind < kinds → (getD bodyBits kind 0 ≤ mostColumn) × (getD entryBits kind 0 ≤ mostColumn)

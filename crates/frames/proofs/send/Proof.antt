@@ -1,4 +1,4 @@
--- The answer by its case.
+-- The answer of the writer of values, as an enum: refused, or the length.
 use borrow.Author.Needs.{needs}
 use mathlib.Core.Path.{ap, _∙_}
 use Rattle.frames.specs.Answers.{writtenBy, written-fault, written-length}

@@ -1,4 +1,4 @@
--- One law a branch.
+-- Without entries the fixed values are sent; entries that are not there, or more than any frame has, are refused by 11; else all values are packed and sent.
 use borrow.Author.Needs.{needs}
 use mathlib.Core.Path.{sym, ap, _∙_}
 use mathlib.Core.List.{List}

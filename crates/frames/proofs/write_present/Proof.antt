@@ -1,4 +1,4 @@
--- What is packed is sent.
+-- The front of the row has the values of the message, and these are sent.
 use borrow.Author.Needs.{needs}
 use mathlib.Core.Path.{sym, ap, _∙_}
 use mathlib.Core.List.{List}

@@ -1,4 +1,4 @@
--- One law a branch.
+-- Each way out is a case of the definition: more than padding is left, the padding is zero, or it is not.
 use borrow.Author.Needs.{needs}
 use mathlib.Core.Path.{sym, _∙_}
 use Rattle.formats.specs.Reading.{end-long, end-zero, end-some}

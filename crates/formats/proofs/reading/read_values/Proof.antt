@@ -41,10 +41,9 @@ take-requires c κs = let l = c .before .before .before .loop in (omega (arith, 
 returns : tie.Need-returns Inv-loop μ-loop
 returns c =
     let l = c .before .before .before .before .before .loop in
-    let a = c .before .before .before .before .before .before .before .before .before .before .before .args in
     record {
       inside = omega arith;
-      found = turn-fault (a .bytes .now) (l .values) (l .i) (l .at) (l .state) (l .inv .0) (c .before .before .before .if1 .taken) (c .before .before .field-at .ensures .0) (c .before .take .ensures) (take 0 (l .values)) (c .if2 .taken);
+      found = turn-fault (l .inv .0) (c .before .before .before .if1 .taken) (c .before .before .field-at .ensures .0) (c .before .take .ensures) (take 0 (l .values)) (c .if2 .taken);
     }
 
 mul-values : tie.Need-mul-values Inv-loop μ-loop
@@ -67,24 +66,22 @@ next-requires c κs =
 loop-less : tie.Need-loop-less Inv-loop μ-loop
 loop-less c =
     let l = c .before .before .before .before .before .before .before .loop in
-    let a = c .before .before .before .before .before .before .before .before .before .before .before .before .before .args in
     let some = c .before .before .before .before .before .if1 .taken in
     let t = c .before .before .before .take in
     rw (c .next .ensures)
     (room-next (l .state) (t .result .value) (l .inv .0 .goes) some
-    (turn-allowed (a .bytes .now) (l .values) (l .i) (l .at) (l .state) (l .inv .0) some (c .before .before .before .before .field-at .ensures .0) (t .ensures) (c .before .before .if2 .left)))
+    (turn-allowed (l .inv .0) some (c .before .before .before .before .field-at .ensures .0) (t .ensures) (c .before .before .if2 .left)))
 
 loop-again : tie.Need-loop-again Inv-loop μ-loop
 loop-again c =
     let l = c .before .before .before .before .before .before .before .loop in
-    let a = c .before .before .before .before .before .before .before .before .before .before .before .before .before .args in
     let some = c .before .before .before .before .before .if1 .taken in
     let f = c .before .before .before .before .field-at in
     let k = c .before .before .before .before .before .before .before .before .before .before .read-field in (
-      turn-on (a .bytes .now) (l .values) (l .i) (l .at) (l .state) (l .inv .0) some (f .ensures .0) (c .before .before .before .take .ensures) (c .before .before .if2 .left) (omega (arith, l .inv, room-left (l .state), some)) (f .ensures .1) (c .next .ensures),
+      turn-on (l .inv .0) some (f .ensures .0) (c .before .before .before .take .ensures) (c .before .before .if2 .left) (omega (arith, l .inv, room-left (l .state), some)) (f .ensures .1) (c .next .ensures),
       omega (arith, loop-less c, l .inv .1),
       length-set (l .values) (l .i) _ ∙ l .inv .2,
-      turn-rowed (a .bytes .now) (l .values) (l .i) (l .at) (l .state) (l .inv .0) some (f .ensures .0) (c .before .before .before .take .ensures) (c .before .before .if2 .left) (k .result) _ (l .inv .3) (k .ensures) (c .next .ensures),
+      turn-rowed (l .inv .0) some (f .ensures .0) (c .before .before .before .take .ensures) (c .before .before .if2 .left) (k .result) _ (l .inv .3) (k .ensures) (c .next .ensures),
     )
 
 finish-requires : tie.Need-finish-requires Inv-loop μ-loop
@@ -93,11 +90,10 @@ finish-requires c κs = let l = c .before .before .loop in (omega (arith, l .inv
 returns-2 : tie.Need-returns-2 Inv-loop μ-loop
 returns-2 c =
     let l = c .before .before .before .loop in
-    let a = c .before .before .before .before .before .before .before .before .before .args in
     record {
       inside = omega (arith, l .inv .1);
       found =
-          come-end (a .bytes .now) (l .values) (l .i) (l .at) (l .state) (l .inv .0) (omega (arith, c .before .if1 .left))
+          come-end (l .inv .0) (omega (arith, c .before .if1 .left))
           ∙ ap (λ (n : ℕ). outcome n (take (l .i) (l .values))) (sym (c .finish .ensures));
     }
 

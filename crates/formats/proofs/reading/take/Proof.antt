@@ -1,4 +1,4 @@
--- One law a branch, with the value that was read.
+-- Each way out is a case of the definition: cut short, too small, too large, or right; the value is the one that was read.
 use borrow.Author.Needs.{needs}
 use native.Mathlib.Omega.{arith}
 use Rattle.formats.specs.Reading.{took-is, fault-cut, fault-low, fault-high, fault-none}

@@ -1,4 +1,4 @@
--- The test picks.
+-- Both ways of the test are the definition's.
 use borrow.Author.Needs.{needs}
 use borrow.Author.Tests.{eq-eqb, ne-eqb}
 use Rattle.formats.specs.Table.{less}

@@ -1,4 +1,4 @@
--- The sort is the table's.
+-- The sort of an entry's last field is the table's, and it is some or none.
 use borrow.Author.Needs.{needs}
 use mathlib.Core.Path.{ap}
 use mathlib.Core.Bool.{not}

@@ -1,4 +1,4 @@
--- One law a branch.
+-- A key's own client is held to the frame's client; every other field has the limit that stands in the table.
 use Rattle.formats.specs.TableLaws.{least-own, least-other}
 use Rattle.formats.proofs.table.least_of.Statement.{statement}
 use Rattle.formats.proofs.table.least_of.Tie as tie

@@ -1,4 +1,4 @@
--- One law a branch.
+-- A key's own client is held to the frame's client, and the client of a key of count 0 to 0; every other field has the limit that stands in the table.
 use Rattle.formats.specs.TableLaws.{most-own, most-other, most-opening, most-of-key}
 use Rattle.formats.proofs.table.most_of.Statement.{statement}
 use Rattle.formats.proofs.table.most_of.Tie as tie

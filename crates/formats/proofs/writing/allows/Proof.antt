@@ -1,4 +1,4 @@
--- One law a branch.
+-- The three tests of the definition in their order: the value fits the width, is not below the least, and not above the greatest.
 use borrow.Author.Needs.{needs}
 use Rattle.ranges.specs.Tests.{fails, holds}
 use Rattle.formats.specs.Writing.{allows-wide, allows-low, allows-rest}

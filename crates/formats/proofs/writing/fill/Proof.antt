@@ -1,4 +1,4 @@
--- Cleared, then laid.
+-- The fields are laid into bytes that were cleared first.
 use borrow.Author.Needs.{needs}
 use mathlib.Core.Path.{ap, _∙_}
 use Prim.Native.Nat.{ℕ}

@@ -20,22 +20,21 @@ element-copy-out-sort : tie.Need-element-copy-out-sort Inv-loop μ-loop
 element-copy-out-sort c =
     let l = c .before .before .loop in
     let s = c .before .before .before .before .before .before in
-    omega (arith, laid-goes (s .args .values .now) (s .pre .1) (s .args .bytes .now) (l .bytes) (l .i) (l .at) (l .state) (l .inv) (c .before .loop-test .taken))
+    omega (arith, laid-goes (s .args .values .now) (s .pre .1) (l .inv) (c .before .loop-test .taken))
 
 limits-of-requires : tie.Need-limits-of-requires Inv-loop μ-loop
 limits-of-requires c κs =
     let l = c .before .before .before .loop in
     let s = c .before .before .before .before .before .before .before in
-    laid-sort (s .args .values .now) (s .pre .1) (s .args .bytes .now) (l .bytes) (l .i) (l .at) (l .state) (l .inv) (s .pre .0) .1
+    laid-sort (s .args .values .now) (s .pre .1) (l .inv) (s .pre .0) .1
 
 write-field-requires : tie.Need-write-field-requires Inv-loop μ-loop
 write-field-requires c κs =
     let l = c .before .before .before .before .before .loop in
     let s = c .before .before .before .before .before .before .before .before .before in
     let vs = s .args .values .now in
-    let bs = s .args .bytes .now in
-    let w = laid-width vs (s .pre .1) bs (l .bytes) (l .i) (l .at) (l .state) (l .inv) (s .pre .0) (c .before .limits-of .ensures) in
-    let h = laid-fits vs (s .pre .1) bs (l .bytes) (l .i) (l .at) (l .state) (l .inv) (c .before .before .before .before .loop-test .taken) in
+    let w = laid-width vs (s .pre .1) (l .inv) (s .pre .0) (c .before .limits-of .ensures) in
+    let h = laid-fits vs (s .pre .1) (l .inv) (c .before .before .before .before .loop-test .taken) in
     record {
       narrow = w .1;
       near = omega (arith, h, size-small vs (s .pre .1));
@@ -49,9 +48,9 @@ add-at c =
     let vs = s .args .values .now in
     omega (
       arith,
-      laid-fits vs (s .pre .1) (s .args .bytes .now) (l .bytes) (l .i) (l .at) (l .state) (l .inv) (c .before .before .before .before .before .before .before .loop-test .taken),
+      laid-fits vs (s .pre .1) (l .inv) (c .before .before .before .before .before .before .before .loop-test .taken),
       size-small vs (s .pre .1),
-      laid-width vs (s .pre .1) (s .args .bytes .now) (l .bytes) (l .i) (l .at) (l .state) (l .inv) (s .pre .0) (c .before .before .before .before .limits-of .ensures),
+      laid-width vs (s .pre .1) (l .inv) (s .pre .0) (c .before .before .before .before .limits-of .ensures),
     )
 
 next-requires : tie.Need-next-requires Inv-loop μ-loop
@@ -59,17 +58,16 @@ next-requires c κs =
     let l = c .before .before .before .before .before .before .before .before .loop in
     let s = c .before .before .before .before .before .before .before .before .before .before .before .before in
     let vs = s .args .values .now in
-    let bs = s .args .bytes .now in
-    let g = laid-goes vs (s .pre .1) bs (l .bytes) (l .i) (l .at) (l .state) (l .inv) (c .before .before .before .before .before .before .before .loop-test .taken) in
-    (g .0, g .1, laid-sort vs (s .pre .1) bs (l .bytes) (l .i) (l .at) (l .state) (l .inv) (s .pre .0) .0)
+    let g = laid-goes vs (s .pre .1) (l .inv) (c .before .before .before .before .before .before .before .loop-test .taken) in
+    (g .0, g .1, laid-sort vs (s .pre .1) (l .inv) (s .pre .0) .0)
 
 loop-again : tie.Need-loop-again Inv-loop μ-loop
 loop-again c =
     let l = c .before .before .before .before .before .before .before .before .before .loop in
     let s = c .before .before .before .before .before .before .before .before .before .before .before .before .before in
     let vs = s .args .values .now in
-    laid-on vs (s .pre .1) (s .args .bytes .now) (l .bytes) (l .i) (l .at) (l .state) (l .inv) (c .before .before .before .before .before .before .before .before .loop-test .taken)
-    (laid-width vs (s .pre .1) (s .args .bytes .now) (l .bytes) (l .i) (l .at) (l .state) (l .inv) (s .pre .0) (c .before .before .before .before .before .limits-of .ensures) .0) (c .before .before .before .write-field .ensures) (c .next .ensures)
+    laid-on vs (s .pre .1) (l .inv) (c .before .before .before .before .before .before .before .before .loop-test .taken)
+    (laid-width vs (s .pre .1) (l .inv) (s .pre .0) (c .before .before .before .before .before .limits-of .ensures) .0) (c .before .before .before .write-field .ensures) (c .next .ensures)
 
 same-length : tie.Need-same-length Inv-loop μ-loop
 same-length c = c .before .loop .inv .same
@@ -78,7 +76,7 @@ returns : tie.Need-returns Inv-loop μ-loop
 returns c =
     let l = c .before .loop in
     let s = c .before .before .before .before .before in
-    laid-end (s .args .values .now) (s .pre .1) (s .args .bytes .now) (l .bytes) (l .i) (l .at) (l .state) (l .inv) (c .loop-test .left)
+    laid-end (s .args .values .now) (s .pre .1) (l .inv) (c .loop-test .left)
 
 pub lay-fields-spec : {M : Type 1} → statement M
 lay-fields-spec =

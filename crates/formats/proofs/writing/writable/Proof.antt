@@ -1,13 +1,12 @@
 -- What is left of the values is good for what is left of the format exactly where all are good, with the row of their kind; each value leaves less room.
 use borrow.Author.Needs.{needs}
-use borrow.Author.Tests.{not-true, not-false}
-use mathlib.Core.Path.{_≡_, sym, _∙_}
+use mathlib.Core.Path.{_≡_}
 use mathlib.Core.Bool.{true, _&&_}
 use Prim.Native.Nat.{_^_}
 use native.Mathlib.Omega.{arith}
 use lib.Dec.{ltb}
 use lib.ListN.{getD}
-use Rattle.ranges.specs.Tests.{both-right}
+use Rattle.ranges.specs.Tests.{both-right, fails, holds}
 use Rattle.formats.specs.Format.{widthOf, allowed}
 use Rattle.formats.specs.FormatLaws.{room, room-next, Rowed, rowed-start, rowed-tells}
 use Rattle.formats.specs.Writing.{Tested, tested-start, tested-end, tested-short, tested-bad, tested-on, rowed-on, allows-is}
@@ -49,7 +48,7 @@ returns-2 c =
     let l = c .before .before .before .before .before .before .before .before .loop in
     let vs = c .before .before .before .before .before .before .before .before .before .before .before .args .values .now in
     tested-bad vs (l .i) (l .state) (l .inv .0) (c .before .before .before .before .before .before .if1 .taken) (c .before .before .before .before .before .if2 .left)
-    (sym (allows-is (l .state) (getD vs (l .i) 0) (c .before .before .field-at .ensures .0) (c .before .allows .ensures)) ∙ not-true _ (c .if3 .taken))
+    (fails (allows-is (l .state) (getD vs (l .i) 0) (c .before .before .field-at .ensures .0) (c .before .allows .ensures)) (c .if3 .taken))
 
 next-requires : tie.Need-next-requires Inv-loop μ-loop
 next-requires c κs =
@@ -65,7 +64,7 @@ module _ (c : tie.After-next Inv-loop μ-loop) where
   right =
       let l = c .before .before .before .before .before .before .before .before .before .loop in
       let vs = c .before .before .before .before .before .before .before .before .before .before .before .before .args .values .now in
-      sym (allows-is (l .state) (getD vs (l .i) 0) (c .before .before .before .field-at .ensures .0) (c .before .before .allows .ensures)) ∙ not-false _ (c .before .if3 .left)
+      holds (allows-is (l .state) (getD vs (l .i) 0) (c .before .before .before .field-at .ensures .0) (c .before .before .allows .ensures)) (c .before .if3 .left)
 
 loop-less : tie.Need-loop-less Inv-loop μ-loop
 loop-less c =

@@ -1,4 +1,4 @@
--- One law a branch.
+-- Places for keys are always needed, those for numbers only where the kind's entries have them.
 use borrow.Author.Needs.{needs}
 use Rattle.ranges.specs.Tests.{fails, holds}
 use Rattle.frames.specs.Answers.{enough-keys, enough-plain, enough-numbers}

@@ -1,4 +1,4 @@
--- One law a part.
+-- The rest by three tells which of an entry's values it is: its key's count or client, or its number, which is 0 where the kind has none.
 use borrow.Author.Needs.{needs}
 use native.Mathlib.Omega.{arith}
 use Rattle.frames.specs.Answers.{part-count, part-client, part-number, part-none}

@@ -1,4 +1,4 @@
--- The front of the row is packed.
+-- The front of the row is packed, place by place, and is the values of the message.
 use borrow.Author.Needs.{needs}
 use mathlib.Core.Path.{sym}
 use native.Mathlib.Omega.{arith}

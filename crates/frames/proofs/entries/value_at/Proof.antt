@@ -1,4 +1,4 @@
--- One law a branch.
+-- The first eight values are the fixed ones; those behind them are the entries'.
 use borrow.Author.Needs.{needs}
 use Rattle.frames.specs.Answers.{value-fixed, value-entry}
 use Rattle.frames.proofs.entries.value_at.Statement.{statement}
