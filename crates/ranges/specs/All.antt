@@ -101,15 +101,3 @@ module _ (p q : ℕ → Bool) where
   unfolding anyBelow
   any-same zero h = refl
   any-same (suc n) h = rw (any-same n (λ i l. h i (omega arith)), h n (omega arith))
-
--- two tests asked together, or each of its own
-pub all-both : (p q : ℕ → Bool) (n : ℕ) → allBelow (λ i. p i && q i) n ≡ (allBelow p n && allBelow q n)
-unfolding allBelow
-all-both p q zero = refl
-all-both p q (suc n) = rw (all-both p q n) (swap (allBelow p n) (allBelow q n) (p n) (q n))
-  where
-    swap : (a b c d : Bool) → ((a && b) && (c && d)) ≡ ((a && c) && (b && d))
-    swap true true c d = refl
-    swap true false true d = refl
-    swap true false false d = refl
-    swap false b c d = refl

@@ -1,7 +1,7 @@
 -- The records without an end, counted for all sixteen clients in one pass: what the counts are when the first n records have been passed.
-use Prim.Native.Nat.{ℕ, zero, suc, _+_, _≤_, _<_}
+use Prim.Native.Nat.{ℕ, _+_, _≤_, _<_}
 use mathlib.Core.Path.{_≡_, refl, sym, _∙_}
-use mathlib.Core.Bool.{Bool, true, false, not, _&&_, and-false}
+use mathlib.Core.Bool.{Bool, true, false, not, and-false}
 use mathlib.Core.List.{List}
 use native.Mathlib.Omega.{arith}
 use lib.ListN.{length, getD, set, length-set, replicate}
@@ -10,6 +10,7 @@ use lib.Dec.{eqb}
 use borrow.Author.Tests.{eq-eqb, ne-eqb}
 use Rattle.ranges.specs.Tests.{by-equal, fails, holds, and-stops, and-goes-on}
 use Rattle.ranges.specs.Sum.{countBelow, count-zero, count-here, count-past}
+use Rattle.ranges.specs.Words.{zeros}
 use Rattle.tables.specs.Layout.{recordWord, clientOfRecord, endOfRecord}
 use Rattle.tables.specs.Tables.{Tables}
 use Rattle.soundness.specs.Sound.{isOpen, recordsSound}
@@ -18,11 +19,6 @@ use Rattle.soundness.specs.Parts.{writeOpenSound, readOpenSound}
 pub record OpenCounts (records : List ℕ) (n : ℕ) (found : List ℕ) : Type 0 where
   pub whole : length found ≡ 16
   pub each : (q : ℕ) → q < 16 → getD found q 0 ≡ countBelow (isOpen records q) n
-
-zeros : (m q : ℕ) → _≡_ {A = ℕ} (getD (replicate m 0) q 0) 0
-zeros zero q = refl
-zeros (suc m) zero = refl
-zeros (suc m) (suc q) = zeros m q
 
 module _ (records : List ℕ) where
   pub opens-none : OpenCounts records 0 (replicate 16 0)

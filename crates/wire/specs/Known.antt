@@ -8,7 +8,7 @@ use Rattle.keys.specs.Masks.{hasServer, maskWithin, Within, within-true}
 use Rattle.tables.specs.Links.{targets}
 use Rattle.tables.specs.Tables.{Tables, serversOf, clientsOf, entriesOf, heldOf, stateOf, maskOf}
 use Rattle.rules.specs.Common.{writing, entering, askingKeys, askingSetpoints, askingAll, coordinator}
-use Rattle.soundness.specs.Sound.{keyInRange, uses, holding, ownKey, requestSound, replySound, keyOn}
+use Rattle.soundness.specs.Sound.{keyInRange, uses, ownKey, requestSound, replySound, keyOn}
 use Rattle.soundness.specs.Facts.{Between, Sound}
 use Rattle.soundness.specs.Room.{server-fits}
 use Rattle.soundness.specs.Room as room
