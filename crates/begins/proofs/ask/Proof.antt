@@ -7,13 +7,33 @@ use Rattle.begins.proofs.ask.Tie as tie
 use Rattle.begins.proofs.ask.Reads as reads
 
 returns : tie.Need-returns
-returns c = let a = c .before .before .before .before .before .before .before .before .before .before .before .before .before .args in λ keys values writes reads. by-a (a .client) (a .mask) (tablesOf (a .counts .now) (a .clients .now) (a .links .now) keys values (a .log .now) writes reads) (c .before .before .before .before .before .before .before .before .count-at .ensures) (c .before .before .before .before .before .before .before .if1 .taken) (c .before .before .before .before .ask-by-a .ensures keys values writes reads)
+returns c =
+    let at-ask-by-a = c .before .before .before .before in
+    let at-if1 = at-ask-by-a .before .before .before in
+    let at-count-at = at-if1 .before in
+    let start = at-count-at .before .before .before .before .before in
+    let a = start .args in
+    λ keys values writes reads. by-a (a .client) (a .mask) (tablesOf (a .counts .now) (a .clients .now) (a .links .now) keys values (a .log .now) writes reads) (at-count-at .count-at .ensures) (at-if1 .if1 .taken) (at-ask-by-a .ask-by-a .ensures keys values writes reads)
 
 returns-2 : tie.Need-returns-2
-returns-2 c = let a = c .before .before .before .before .before .before .before .before .before .before .before .before .before .before .args in λ keys values writes reads. by-b (a .client) (a .mask) (tablesOf (a .counts .now) (a .clients .now) (a .links .now) keys values (a .log .now) writes reads) (c .before .before .before .before .before .before .before .before .before .count-at .ensures) (c .before .before .before .before .before .before .before .before .if1 .left) (c .before .before .before .before .before .before .before .if2 .taken) (c .before .before .before .before .ask-by-b .ensures keys values (a .log .now) writes reads)
+returns-2 c =
+    let at-ask-by-b = c .before .before .before .before in
+    let at-if2 = at-ask-by-b .before .before .before in
+    let at-if1 = at-if2 .before in
+    let at-count-at = at-if1 .before in
+    let start = at-count-at .before .before .before .before .before in
+    let a = start .args in
+    λ keys values writes reads. by-b (a .client) (a .mask) (tablesOf (a .counts .now) (a .clients .now) (a .links .now) keys values (a .log .now) writes reads) (at-count-at .count-at .ensures) (at-if1 .if1 .left) (at-if2 .if2 .taken) (at-ask-by-b .ask-by-b .ensures keys values (a .log .now) writes reads)
 
 returns-3 : tie.Need-returns-3
-returns-3 c = let a = c .before .before .before .before .before .before .before .before .before .before .before .before .before .before .args in λ keys values writes reads. by-c (a .client) (a .mask) (tablesOf (a .counts .now) (a .clients .now) (a .links .now) keys values (a .log .now) writes reads) (c .before .before .before .before .before .before .before .before .before .count-at .ensures) (c .before .before .before .before .before .before .before .before .if1 .left) (c .before .before .before .before .before .before .before .if2 .left) (c .before .before .before .before .ask-by-c .ensures keys values (a .log .now) writes reads)
+returns-3 c =
+    let at-ask-by-c = c .before .before .before .before in
+    let at-if2 = at-ask-by-c .before .before .before in
+    let at-if1 = at-if2 .before in
+    let at-count-at = at-if1 .before in
+    let start = at-count-at .before .before .before .before .before in
+    let a = start .args in
+    λ keys values writes reads. by-c (a .client) (a .mask) (tablesOf (a .counts .now) (a .clients .now) (a .links .now) keys values (a .log .now) writes reads) (at-count-at .count-at .ensures) (at-if1 .if1 .left) (at-if2 .if2 .left) (at-ask-by-c .ask-by-c .ensures keys values (a .log .now) writes reads)
 
 pub ask-spec : {M : Type 1} → statement M
 ask-spec =

@@ -8,13 +8,29 @@ use Rattle.choice.proofs.keep_setpoint.Statement.{statement}
 use Rattle.choice.proofs.keep_setpoint.Tie as tie
 
 version-setpoint-requires : tie.Need-version-setpoint-requires
-version-setpoint-requires c κs = let a = c .before .before .before .before .before .before .before .before .before .before .args in let p = c .before .before .before .before .before .before .before .before .before .before .pre in let n = c .before .before .client-word .ensures in
-    let l = kept-place (a .keys .now) (a .log .now) (a .clients .now) (a .client) (a .tag) (a .server) n (c .before .latest-key .ensures) (c .find .ensures) (p .1 .1 (sym (c .before .before .before .before .before .has-server .ensures) ∙ c .before .before .before .before .if1 .taken)) in
-    let h : c .before .before .client-word .result ≤ 256 = rw n (p .0 .count) in
+version-setpoint-requires c κs =
+    let at-latest-key = c .before in
+    let at-client-word = at-latest-key .before in
+    let at-if1 = at-client-word .before .before in
+    let at-has-server = at-if1 .before in
+    let start = at-has-server .before .before .before .before .before in
+    let a = start .args in
+    let p = start .pre in
+    let n = at-client-word .client-word .ensures in
+    let l = kept-place (a .keys .now) (a .log .now) (a .clients .now) (a .client) (a .tag) (a .server) n (at-latest-key .latest-key .ensures) (c .find .ensures) (p .1 .1 (sym (at-has-server .has-server .ensures) ∙ at-if1 .if1 .taken)) in
+    let h : at-client-word .client-word .result ≤ 256 = rw n (p .0 .count) in
     omega arith
 
 returns : tie.Need-returns
-returns c = rw (sym (c .before .before .before .before .before .before .before .before .before .before .has-server .ensures) ∙ c .before .before .before .before .before .before .before .before .before .if1 .taken) (c .before .before .put-client-word .ensures ∙ rw (c .before .before .before .before .version-setpoint .ensures, c .before .before .before .before .before .find .ensures, c .before .before .before .before .before .before .latest-key .ensures, c .before .before .before .before .before .before .before .client-word .ensures))
+returns c =
+    let at-put-client-word = c .before .before in
+    let at-version-setpoint = at-put-client-word .before .before in
+    let at-find = at-version-setpoint .before in
+    let at-latest-key = at-find .before in
+    let at-client-word = at-latest-key .before in
+    let at-if1 = at-client-word .before .before in
+    let at-has-server = at-if1 .before in
+    rw (sym (at-has-server .has-server .ensures) ∙ at-if1 .if1 .taken) (at-put-client-word .put-client-word .ensures ∙ rw (at-version-setpoint .version-setpoint .ensures, at-find .find .ensures, at-latest-key .latest-key .ensures, at-client-word .client-word .ensures))
 
 returns-2 : tie.Need-returns-2
 returns-2 c = rw (sym (c .before .has-server .ensures) ∙ c .if1 .left)

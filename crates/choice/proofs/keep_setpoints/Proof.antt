@@ -32,9 +32,16 @@ keep-setpoint-requires c κs = let a = c .before .before .before .before .before
 )
 
 loop-again : tie.Need-loop-again Inv-loop μ-loop
-loop-again c = let a = c .before .before .before .before .before .before .before .before .before .before .args in let v = c .before .before .before .before .before .loop .inv in let i = c .before .before .before .before .before .loop .server in
-    let s = still-received (a .keys .now) (a .values .now) (a .log .now) (a .tag) (a .client) (a .mask) (a .servers) (a .clients .now) (c .before .before .before .before .before .before .before .before .before .before .pre .0 .servers) (c .before .before .before .before .loop-test .taken) (v .1 .0) (v .1 .1) in
-    (search needs, (search needs, turns-more (picked (hasServer (a .mask)) (keepSetpoint (chosenSetpoint (a .keys .now) (a .values .now) (a .log .now) (receivedIn (a .clients .now) (a .client)) (a .tag)) (a .client))) i _ (v .1 .1) (rw s at (c .before .before .keep-setpoint .ensures))))
+loop-again c =
+    let at-keep-setpoint = c .before .before in
+    let at-loop-test = at-keep-setpoint .before .before in
+    let at-loop = at-loop-test .before in
+    let start = at-loop .before .before .before .before .before in
+    let a = start .args in
+    let v = at-loop .loop .inv in
+    let i = at-loop .loop .server in
+    let s = still-received (a .keys .now) (a .values .now) (a .log .now) (a .tag) (a .client) (a .mask) (a .servers) (a .clients .now) (start .pre .0 .servers) (at-loop-test .loop-test .taken) (v .1 .0) (v .1 .1) in
+    (search needs, (search needs, turns-more (picked (hasServer (a .mask)) (keepSetpoint (chosenSetpoint (a .keys .now) (a .values .now) (a .log .now) (receivedIn (a .clients .now) (a .client)) (a .tag)) (a .client))) i _ (v .1 .1) (rw s at (at-keep-setpoint .keep-setpoint .ensures))))
 
 returns : tie.Need-returns Inv-loop μ-loop
 returns c = let e : c .before .loop .server ≡ c .before .before .before .before .before .before .args .servers = omega arith in rw (← e) (c .before .loop .inv .1 .1)

@@ -24,7 +24,14 @@ loop-holds : tie.Need-loop-holds Inv-loop μ-loop
 loop-holds c = let a = c .before .before .before .args in (search needs, (search needs, turns-none (λ place. marked (2 ^ a .server) (versionWord (a .keys .now) (a .server) place)) (a .holders .now)))
 
 loop-again : tie.Need-loop-again Inv-loop μ-loop
-loop-again c = let a = c .before .before .before .before .before .before .before .before .before .before .args in (search needs, (search needs, turns-more (λ place. marked (2 ^ a .server) (versionWord (a .keys .now) (a .server) place)) (c .before .before .before .before .before .before .loop .place) (a .holders .now) (c .before .before .before .before .before .before .loop .inv .1 .1) (c .before .before .mark .ensures ∙ rw (c .before .before .before .before .before .before .before .one-server .ensures, c .before .before .before .key-word .ensures))))
+loop-again c =
+    let at-mark = c .before .before in
+    let at-key-word = at-mark .before in
+    let at-loop = at-key-word .before .before .before in
+    let at-one-server = at-loop .before in
+    let start = at-one-server .before .before .before in
+    let a = start .args in
+    (search needs, (search needs, turns-more (λ place. marked (2 ^ a .server) (versionWord (a .keys .now) (a .server) place)) (at-loop .loop .place) (a .holders .now) (at-loop .loop .inv .1 .1) (at-mark .mark .ensures ∙ rw (at-one-server .one-server .ensures, at-key-word .key-word .ensures))))
 
 returns : tie.Need-returns Inv-loop μ-loop
 returns c = let e : c .before .loop .place ≡ c .before .before .before .before .before .args .received = omega arith in rw (← e) (c .before .loop .inv .1 .1)

@@ -8,7 +8,14 @@ returns : tie.Need-returns
 returns c = let a = c .before .before .before .before .before .args in enter-full (a .counts .now) (a .log .now) (a .key) (a .mask) (c .before .count-at .ensures) (c .if1 .taken)
 
 returns-2 : tie.Need-returns-2
-returns-2 c = let a = c .before .before .before .before .before .before .before .before .before .before .before .before .before .args in enter-done (a .counts .now) (a .log .now) (a .key) (a .mask) (c .before .before .before .before .before .before .before .before .before .count-at .ensures) (c .before .before .before .before .before .before .before .before .if1 .left) (c .before .before .before .before .before .before .put-entry .ensures) (c .before .before .put-count .ensures)
+returns-2 c =
+    let at-put-count = c .before .before in
+    let at-put-entry = at-put-count .before .before .before .before in
+    let at-if1 = at-put-entry .before .before in
+    let at-count-at = at-if1 .before in
+    let start = at-count-at .before .before .before .before in
+    let a = start .args in
+    enter-done (a .counts .now) (a .log .now) (a .key) (a .mask) (at-count-at .count-at .ensures) (at-if1 .if1 .left) (at-put-entry .put-entry .ensures) (at-put-count .put-count .ensures)
 
 pub enter-spec : {M : Type 1} → statement M
 enter-spec =

@@ -15,10 +15,16 @@ returns c = rw (fails (c .before .before .is-kind .ensures) (c .before .if1 .tak
 
 returns-2 : tie.Need-returns-2
 returns-2 c =
-    let a = c .before .before .before .before .before .before .before .before .before .before .before .before .args in
-    let w = c .before .before .before .write-frame .ensures in
-    let e = c .before .before .before .before .before .message-at .ensures ∙ ap (λ (f : Fixed). messageAt (a .kind) f) (c .before .before .before .before .before .before .fixed-from .ensures) in
-    rw (holds (c .before .before .before .before .before .before .before .before .is-kind .ensures) (c .before .before .before .before .before .before .before .if1 .left)) (
+    let at-write-frame = c .before .before .before in
+    let at-message-at = at-write-frame .before .before in
+    let at-fixed-from = at-message-at .before in
+    let at-if1 = at-fixed-from .before in
+    let at-is-kind = at-if1 .before in
+    let start = at-is-kind .before .before .before .before in
+    let a = start .args in
+    let w = at-write-frame .write-frame .ensures in
+    let e = at-message-at .message-at .ensures ∙ ap (λ (f : Fixed). messageAt (a .kind) f) (at-fixed-from .fixed-from .ensures) in
+    rw (holds (at-is-kind .is-kind .ensures) (at-if1 .if1 .left)) (
       c .written-number .ensures ∙ ap writtenNumber (w .0 ∙ ap (λ (m : Message). writtenOf m (a .keys .now) (a .numbers .now) (a .bytes .now)) e),
       w .1 ∙ ap (λ (m : Message). bytesWritten m (a .keys .now) (a .numbers .now) (a .bytes .now)) e,
     )

@@ -28,10 +28,14 @@ deliver-requires c κs =
 
 returns-2 : tie.Need-returns-2
 returns-2 c =
-    let a = c .before .before .before .before .before .before .before .before .before .before .before .before .before .before .before .args in
-    let r = c .before .before .before .before .before .before .before .before .before .before .read-values in
-    let d = c .before .before .before .before .deliver .ensures in
-    let e = sym (got-all (found (a .bytes .now)) (take (r .result .fields) (r .last .1 .0)) (r .ensures .found) (c .before .before .before .before .before .before .before .before .if1 .left)) in (
+    let at-deliver = c .before .before .before .before in
+    let at-if1 = at-deliver .before .before .before .before in
+    let at-read-values = at-if1 .before .before in
+    let start = at-read-values .before .before .before .before .before in
+    let a = start .args in
+    let r = at-read-values .read-values in
+    let d = at-deliver .deliver .ensures in
+    let e = sym (got-all (found (a .bytes .now)) (take (r .result .fields) (r .last .1 .0)) (r .ensures .found) (at-if1 .if1 .left)) in (
       d .0 ∙ ap (λ (o : Outcome). readingOf o (a .keys .now) (a .numbers .now)) e,
       d .1 ∙ ap (λ (o : Outcome). keysRead o (a .keys .now) (a .numbers .now)) e,
       d .2 ∙ ap (λ (o : Outcome). numbersRead o (a .keys .now) (a .numbers .now)) e,

@@ -12,11 +12,16 @@ use Rattle.frames.proofs.write_frame.Tie as tie
 
 returns : tie.Need-returns
 returns c =
-    let a = c .before .before .before .before .before .before .before .before .before .before .before .args in
-    let f = c .before .before .before .before .before .before .fixed-of .ensures in
-    let n = c .before .before .before .before .before .before .before .entries-of .ensures in
-    let z = c .before .before .before .before .before .if1 .taken in
-    let d = c .before .before .send .ensures in
+    let at-send = c .before .before in
+    let at-if1 = at-send .before .before .before in
+    let at-fixed-of = at-if1 .before in
+    let at-entries-of = at-fixed-of .before in
+    let start = at-entries-of .before .before .before .before in
+    let a = start .args in
+    let f = at-fixed-of .fixed-of .ensures in
+    let n = at-entries-of .entries-of .ensures in
+    let z = at-if1 .if1 .taken in
+    let d = at-send .send .ensures in
     let v = bare-values (a .message) (a .keys .now) (a .numbers .now) f n z in
     let w = written-values (a .message) (a .keys .now) (a .numbers .now) (a .bytes .now) (bare-places (a .message) (a .keys .now) (a .numbers .now) f n z) in (
       d .0 ∙ ap (λ (vs : List ℕ). writtenBy (wroteOf vs (a .bytes .now))) v ∙ w .0,
@@ -36,17 +41,29 @@ returns-3 c =
 
 write-present-requires : tie.Need-write-present-requires
 write-present-requires c κs =
-    let a = c .before .before .before .before .before .before .before .before .before .before .before .args in
-    is-packable (a .message) (a .keys .now) (a .numbers .now) (c .before .before .before .before .before .before .fixed-of .ensures) (c .before .before .before .before .before .before .before .entries-of .ensures) (holds (c .before .before .before .before .enough-places .ensures) (c .before .before .before .if2 .left)) (c .before .before .if3 .left)
+    let at-if3 = c .before .before in
+    let at-if2 = at-if3 .before in
+    let at-enough-places = at-if2 .before in
+    let at-fixed-of = at-enough-places .before .before in
+    let at-entries-of = at-fixed-of .before in
+    let start = at-entries-of .before .before .before .before in
+    let a = start .args in
+    is-packable (a .message) (a .keys .now) (a .numbers .now) (at-fixed-of .fixed-of .ensures) (at-entries-of .entries-of .ensures) (holds (at-enough-places .enough-places .ensures) (at-if2 .if2 .left)) (at-if3 .if3 .left)
 
 returns-4 : tie.Need-returns-4
 returns-4 c =
-    let a = c .before .before .before .before .before .before .before .before .before .before .before .before .before .before .args in
-    let f = c .before .before .before .before .before .before .before .before .before .fixed-of .ensures in
-    let n = c .before .before .before .before .before .before .before .before .before .before .entries-of .ensures in
-    let d = c .before .before .write-present .ensures in
+    let at-write-present = c .before .before in
+    let at-if2 = at-write-present .before .before .before .before in
+    let at-enough-places = at-if2 .before in
+    let at-fixed-of = at-enough-places .before .before in
+    let at-entries-of = at-fixed-of .before in
+    let start = at-entries-of .before .before .before .before in
+    let a = start .args in
+    let f = at-fixed-of .fixed-of .ensures in
+    let n = at-entries-of .entries-of .ensures in
+    let d = at-write-present .write-present .ensures in
     let v = values-is (a .message) (a .keys .now) (a .numbers .now) f n in
-    let w = written-values (a .message) (a .keys .now) (a .numbers .now) (a .bytes .now) (sym (enough-is (a .message) (a .keys .now) (a .numbers .now) f n) ∙ holds (c .before .before .before .before .before .before .before .enough-places .ensures) (c .before .before .before .before .before .before .if2 .left)) in (
+    let w = written-values (a .message) (a .keys .now) (a .numbers .now) (a .bytes .now) (sym (enough-is (a .message) (a .keys .now) (a .numbers .now) f n) ∙ holds (at-enough-places .enough-places .ensures) (at-if2 .if2 .left)) in (
       d .0 ∙ ap (λ (vs : List ℕ). writtenBy (wroteOf vs (a .bytes .now))) v ∙ w .0,
       d .1 ∙ ap (λ (vs : List ℕ). bytesAfter vs (a .bytes .now)) v ∙ w .1,
     )

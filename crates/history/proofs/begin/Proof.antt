@@ -4,7 +4,15 @@ use Rattle.history.proofs.begin.Statement.{statement}
 use Rattle.history.proofs.begin.Tie as tie
 
 returns : tie.Need-returns
-returns c = let n = c .before .before .before .before .before .before .before .before .before .before .before .before .before .before .count-at .ensures in let s = c .before .before .before .before .before .before .before .before .before .before .before .before .count-at2 .ensures in (rw (c .before .before .put-count2 .ensures, c .before .before .before .before .before .before .put-count .ensures, n, s), rw (c .before .before .before .before .before .before .before .before .before .before .put-begun .ensures, n, s))
+returns c =
+    let at-put-count2 = c .before .before in
+    let at-put-count = at-put-count2 .before .before .before .before in
+    let at-put-begun = at-put-count .before .before .before .before in
+    let at-count-at2 = at-put-begun .before .before in
+    let at-count-at = at-count-at2 .before .before in
+    let n = at-count-at .count-at .ensures in
+    let s = at-count-at2 .count-at2 .ensures in
+    (rw (at-put-count2 .put-count2 .ensures, at-put-count .put-count .ensures, n, s), rw (at-put-begun .put-begun .ensures, n, s))
 
 pub begin-spec : {M : Type 1} → statement M
 begin-spec =

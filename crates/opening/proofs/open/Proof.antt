@@ -7,9 +7,18 @@ use Rattle.opening.proofs.open.Tie as tie
 use Rattle.opening.proofs.open.Reads as reads
 
 returns : tie.Need-returns
-returns c = let a = c .before .before .before .before .before .before .before .before .before .before .before .before .before .before .before .before .before .before .before .before .before .before .before .before .before .before .before .before .before .before .before .args in λ writes reads.
+returns c =
+    let at-put-entry = c .before .before in
+    let at-all-servers = at-put-entry .before in
+    let at-open-versions = at-all-servers .before .before .before .before .before .before in
+    let at-clear2 = at-open-versions .before .before .before .before .before in
+    let at-clear = at-clear2 .before .before .before .before in
+    let at-open-counts = at-clear .before .before .before .before in
+    let start = at-open-counts .before .before .before .before .before .before .before .before .before in
+    let a = start .args in
+    λ writes reads.
     store-opened (a .method) (a .servers) (a .panels) (a .setpoints .now) (tablesOf (a .counts .now) (a .clients .now) (a .links .now) (a .keys .now) (a .values .now) (a .log .now) writes reads)
-    (c .before .before .before .before .before .before .before .before .before .before .before .before .before .before .before .before .before .before .before .before .before .before .before .before .before .before .before .before .before .before .before .pre .given) (c .before .before .before .before .before .before .before .before .before .before .before .before .before .before .before .before .before .before .before .before .before .before .open-counts .ensures) (c .before .before .before .before .before .before .before .before .before .before .before .before .before .before .before .before .before .before .clear .ensures) (c .before .before .before .before .before .before .before .before .before .before .before .before .before .before .clear2 .ensures) (c .before .before .before .before .before .before .before .before .before .open-versions .ensures .0) (c .before .before .before .before .before .before .before .before .before .open-versions .ensures .1) (c .before .before .before .all-servers .ensures) (c .before .before .put-entry .ensures)
+    (start .pre .given) (at-open-counts .open-counts .ensures) (at-clear .clear .ensures) (at-clear2 .clear2 .ensures) (at-open-versions .open-versions .ensures .0) (at-open-versions .open-versions .ensures .1) (at-all-servers .all-servers .ensures) (at-put-entry .put-entry .ensures)
 
 pub open-spec : {M : Type 1} → statement M
 open-spec =

@@ -23,8 +23,14 @@ put-version-requires : tie.Need-put-version-requires Inv-loop μ-loop
 put-version-requires c κs = let p = c .before .before .before .before .before .before .before .before .pre in let v = c .before .before .before .before .loop .inv in (omega (arith, p .0, v .1 .0), omega (arith, p .1, v .1 .1 .0))
 
 loop-again : tie.Need-loop-again Inv-loop μ-loop
-loop-again c = let a = c .before .before .before .before .before .before .before .before .before .before .before .before .before .args in let v = c .before .before .before .before .before .before .before .before .before .loop .inv in let i = c .before .before .before .before .before .before .before .before .before .loop .server in
-    (search needs, (search needs, (search needs, (turns-more openKey i _ (v .1 .1 .1 .0) (c .before .before .before .before .put-version .ensures .0), turns-more (openValue (a .setpoints .now)) i _ (v .1 .1 .1 .1) (c .before .before .before .before .put-version .ensures .1)))))
+loop-again c =
+    let at-put-version = c .before .before .before .before in
+    let at-loop = at-put-version .before .before .before .before .before in
+    let start = at-loop .before .before .before .before in
+    let a = start .args in
+    let v = at-loop .loop .inv in
+    let i = at-loop .loop .server in
+    (search needs, (search needs, (search needs, (turns-more openKey i _ (v .1 .1 .1 .0) (at-put-version .put-version .ensures .0), turns-more (openValue (a .setpoints .now)) i _ (v .1 .1 .1 .1) (at-put-version .put-version .ensures .1)))))
 
 returns : tie.Need-returns Inv-loop μ-loop
 returns c = let e : c .before .loop .server ≡ length (c .before .before .before .before .before .args .setpoints .now) = omega arith in let v = c .before .loop .inv in (rw (← e) (v .1 .1 .1 .0), rw (← e) (v .1 .1 .1 .1))

@@ -19,18 +19,25 @@ print-word-requires c κs =
 
 put-byte-requires : tie.Need-put-byte-requires
 put-byte-requires c κs =
-    let short = decimal-short (c .before .before .before .before .before .before .before .before .before .before .before .args .number) (c .before .before .before .before .before .before .before .before .before .before .before .fits .number .fits) in
-    omega (arith, c .before .before .before .before .before .before .before .before .before .before .before .pre, c .before .before .before .before .before .before .before .print-decimal .ensures .end, c .before .before .before .before .before .before .before .print-decimal .kept .1 .0, c .before .before .before .print-word .ensures .1)
+    let at-print-word = c .before .before .before in
+    let at-print-decimal = at-print-word .before .before .before .before in
+    let start = at-print-decimal .before .before .before .before in
+    let short = decimal-short (start .args .number) (start .fits .number .fits) in
+    omega (arith, start .pre, at-print-decimal .print-decimal .ensures .end, at-print-decimal .print-decimal .kept .1 .0, at-print-word .print-word .ensures .1)
 
 returns : tie.Need-returns
 returns c =
-    let a = c .before .before .before .before .before .before .before .before .before .before .before .before .before .before .args in
+    let at-put-byte = c .before .before in
+    let at-print-word = at-put-byte .before .before .before .before in
+    let at-print-decimal = at-print-word .before .before .before .before in
+    let start = at-print-decimal .before .before .before .before in
+    let a = start .args in
     let out = a .out .now in
     let text = wordText (a .word) (a .mask) (a .setpoints .now) in
-    let short = decimal-short (a .number) (c .before .before .before .before .before .before .before .before .before .before .before .before .before .before .fits .number .fits) in
-    let both = printed-then out (decimal (a .number)) text (a .at) (omega arith) (c .before .before .before .before .before .before .before .before .before .before .print-decimal .ensures) (c .before .before .before .before .before .before .print-word .ensures .0) in (
-      printed-then out (decimal (a .number) ++ text) (10 ∷ []) (a .at) (omega arith) both (c .before .before .put-byte .ensures),
-      omega (arith, c .before .before .before .before .before .before .before .before .before .before .print-decimal .ensures .end, c .before .before .before .before .before .before .print-word .ensures .1, c .before .before .put-byte .ensures .end),
+    let short = decimal-short (a .number) (start .fits .number .fits) in
+    let both = printed-then out (decimal (a .number)) text (a .at) (omega arith) (at-print-decimal .print-decimal .ensures) (at-print-word .print-word .ensures .0) in (
+      printed-then out (decimal (a .number) ++ text) (10 ∷ []) (a .at) (omega arith) both (at-put-byte .put-byte .ensures),
+      omega (arith, at-print-decimal .print-decimal .ensures .end, at-print-word .print-word .ensures .1, at-put-byte .put-byte .ensures .end),
     )
 
 pub print-answer-spec : {M : Type 1} → statement M

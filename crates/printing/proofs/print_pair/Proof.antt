@@ -11,19 +11,26 @@ use Rattle.printing.proofs.print_pair.Tie as tie
 
 print-decimal-requires : tie.Need-print-decimal-requires
 print-decimal-requires c κs =
-    let ten = word-short (c .before .before .before .before .before .before .before .before .before .before .args .setpoint) (c .before .before .before .before .before .before .before .before .before .before .fits .setpoint .fits) in
-    let two = two-short (c .before .before .before .before .before .before .before .before .before .before .args .server) (omega arith) in
-    omega (arith, c .before .before .before .before .before .before .before .print-spaced .ensures .0 .end, c .before .before .before .before .before .before .before .print-spaced .kept .1 .0, c .before .before .before .put-byte .ensures .end, c .before .before .before .put-byte .kept .1 .0)
+    let at-put-byte = c .before .before .before in
+    let at-print-spaced = at-put-byte .before .before .before .before in
+    let start = at-print-spaced .before .before .before in
+    let ten = word-short (start .args .setpoint) (start .fits .setpoint .fits) in
+    let two = two-short (start .args .server) (omega arith) in
+    omega (arith, at-print-spaced .print-spaced .ensures .0 .end, at-print-spaced .print-spaced .kept .1 .0, at-put-byte .put-byte .ensures .end, at-put-byte .put-byte .kept .1 .0)
 
 returns : tie.Need-returns
 returns c =
-    let a = c .before .before .before .before .before .before .before .before .before .before .before .before .before .args in
+    let at-print-decimal = c .before .before in
+    let at-put-byte = at-print-decimal .before .before .before .before in
+    let at-print-spaced = at-put-byte .before .before .before .before in
+    let start = at-print-spaced .before .before .before in
+    let a = start .args in
     let out = a .out .now in
-    let ten = word-short (a .setpoint) (c .before .before .before .before .before .before .before .before .before .before .before .before .before .fits .setpoint .fits) in
+    let ten = word-short (a .setpoint) (start .fits .setpoint .fits) in
     let two = two-short (a .server) (omega arith) in
-    let both = printed-then out (spaced (a .server)) (61 ∷ []) (a .at) (omega arith) (c .before .before .before .before .before .before .before .before .before .before .print-spaced .ensures .0) (c .before .before .before .before .before .before .put-byte .ensures) in (
-      printed-then out (spaced (a .server) ++ (61 ∷ [])) (decimal (a .setpoint)) (a .at) (omega arith) both (c .before .before .print-decimal .ensures),
-      omega (arith, c .before .before .before .before .before .before .before .before .before .before .print-spaced .ensures .0 .end, c .before .before .before .before .before .before .put-byte .ensures .end, c .before .before .print-decimal .ensures .end),
+    let both = printed-then out (spaced (a .server)) (61 ∷ []) (a .at) (omega arith) (at-print-spaced .print-spaced .ensures .0) (at-put-byte .put-byte .ensures) in (
+      printed-then out (spaced (a .server) ++ (61 ∷ [])) (decimal (a .setpoint)) (a .at) (omega arith) both (at-print-decimal .print-decimal .ensures),
+      omega (arith, at-print-spaced .print-spaced .ensures .0 .end, at-put-byte .put-byte .ensures .end, at-print-decimal .print-decimal .ensures .end),
     )
 
 pub print-pair-spec : {M : Type 1} → statement M

@@ -7,11 +7,15 @@ use Rattle.printing.proofs.print_server.Statement.{statement}
 use Rattle.printing.proofs.print_server.Tie as tie
 
 returns : tie.Need-returns
-returns c = (
-  rw (server-shown (c .before .before .before .before .before .before .before .before .before .args .mask) (c .before .before .before .before .before .before .before .before .before .args .setpoints .now) (c .before .before .before .before .before .before .before .before .before .args .server) (c .before .before .before .before .before .before .has-server .ensures) (c .before .before .before .before .before .if1 .taken))
-      (c .before .before .print-pair .ensures .0),
-  c .before .before .print-pair .ensures .1,
-)
+returns c =
+    let at-print-pair = c .before .before in
+    let at-if1 = at-print-pair .before .before .before in
+    let at-has-server = at-if1 .before in
+    let start = at-has-server .before .before .before in (
+      rw (server-shown (start .args .mask) (start .args .setpoints .now) (start .args .server) (at-has-server .has-server .ensures) (at-if1 .if1 .taken))
+          (at-print-pair .print-pair .ensures .0),
+      at-print-pair .print-pair .ensures .1,
+    )
 
 returns-2 : tie.Need-returns-2
 returns-2 c = (

@@ -16,12 +16,15 @@ print-decimal-requires c κs =
 
 returns : tie.Need-returns
 returns c =
-    let a = c .before .before .before .before .before .before .before .before .before .args in
-    let s = word-short (a .number) (c .before .before .before .before .before .before .before .before .before .fits .number .fits) in (
+    let at-print-decimal = c .before .before in
+    let at-put-byte = at-print-decimal .before .before .before .before in
+    let start = at-put-byte .before .before .before in
+    let a = start .args in
+    let s = word-short (a .number) (start .fits .number .fits) in (
       printed-then (a .out .now) (32 ∷ []) (decimal (a .number)) (a .at) (omega arith)
-          (c .before .before .before .before .before .before .put-byte .ensures) (c .before .before .print-decimal .ensures),
+          (at-put-byte .put-byte .ensures) (at-print-decimal .print-decimal .ensures),
       omega
-          (arith, c .before .before .before .before .before .before .put-byte .ensures .end, c .before .before .print-decimal .ensures .end),
+          (arith, at-put-byte .put-byte .ensures .end, at-print-decimal .print-decimal .ensures .end),
     )
 
 pub print-spaced-spec : {M : Type 1} → statement M

@@ -10,12 +10,16 @@ use Rattle.printing.proofs.print_write_record.Tie as tie
 
 returns : tie.Need-returns
 returns c =
-    let a = c .before .before .before .before .before .before .before .before .before .before .before .before .before .before .args in
+    let at-put-byte = c .before .before in
+    let at-print-end-step = at-put-byte .before .before .before .before in
+    let at-print-lettered = at-print-end-step .before .before .before .before in
+    let start = at-print-lettered .before .before .before .before in
+    let a = start .args in
     let out = a .out .now in
     let row = (87 ∷ []) ++ spacedAll (a .tag ∷ a .client ∷ a .count ∷ a .begin ∷ []) in
-    let both = printed-then out row (endText (a .end)) (a .at) (omega arith) (c .before .before .before .before .before .before .before .before .before .before .print-lettered .ensures .0) (c .before .before .before .before .before .before .print-end-step .ensures .0) in (
-      printed-then out (row ++ endText (a .end)) (10 ∷ []) (a .at) (omega arith) both (c .before .before .put-byte .ensures),
-      omega (arith, c .before .before .before .before .before .before .before .before .before .before .print-lettered .ensures .1, c .before .before .before .before .before .before .print-end-step .ensures .1, c .before .before .put-byte .ensures .end),
+    let both = printed-then out row (endText (a .end)) (a .at) (omega arith) (at-print-lettered .print-lettered .ensures .0) (at-print-end-step .print-end-step .ensures .0) in (
+      printed-then out (row ++ endText (a .end)) (10 ∷ []) (a .at) (omega arith) both (at-put-byte .put-byte .ensures),
+      omega (arith, at-print-lettered .print-lettered .ensures .1, at-print-end-step .print-end-step .ensures .1, at-put-byte .put-byte .ensures .end),
     )
 
 pub print-write-record-spec : {M : Type 1} → statement M

@@ -22,13 +22,49 @@ returns-3 : tie.Need-returns-3
 returns-3 c = λ links keys values log writes reads. rw (above (c .before .before .before .before .before .before .count-at .ensures) (c .before .before .before .before .before .if1 .left), ← c .before .before .before .before .count-at2 .ensures, sym (c .before .before .before .may-not-read .ensures) ∙ c .before .before .if2 .left, is-not (c .before .client-word .ensures) (c .if3 .taken))
 
 returns-4 : tie.Need-returns-4
-returns-4 c = λ links keys values log writes reads. rw (above (c .before .before .before .before .before .before .before .before .before .count-at .ensures) (c .before .before .before .before .before .before .before .before .if1 .left), ← c .before .before .before .before .before .before .before .count-at2 .ensures, sym (c .before .before .before .before .before .before .may-not-read .ensures) ∙ c .before .before .before .before .before .if2 .left, is (c .before .before .before .before .client-word .ensures) (c .before .before .before .if3 .left), ← c .before .before .count-at3 .ensures, sym (c .before .mask-within .ensures) ∙ not-true _ (c .if4 .taken))
+returns-4 c =
+    let at-mask-within = c .before in
+    let at-count-at3 = at-mask-within .before in
+    let at-if3 = at-count-at3 .before in
+    let at-client-word = at-if3 .before in
+    let at-if2 = at-client-word .before in
+    let at-may-not-read = at-if2 .before in
+    let at-count-at2 = at-may-not-read .before in
+    let at-if1 = at-count-at2 .before in
+    let at-count-at = at-if1 .before in
+    λ links keys values log writes reads. rw (above (at-count-at .count-at .ensures) (at-if1 .if1 .left), ← at-count-at2 .count-at2 .ensures, sym (at-may-not-read .may-not-read .ensures) ∙ at-if2 .if2 .left, is (at-client-word .client-word .ensures) (at-if3 .if3 .left), ← at-count-at3 .count-at3 .ensures, sym (at-mask-within .mask-within .ensures) ∙ not-true _ (c .if4 .taken))
 
 returns-5 : tie.Need-returns-5
-returns-5 c = λ links keys values log writes reads. let a = c .before .before .before .before .before .before .before .before .before .before .before .before .before .before .args in refused-7 (above (c .before .before .before .before .before .before .before .before .before .before .before .count-at .ensures) (c .before .before .before .before .before .before .before .before .before .before .if1 .left)) (sym (c .before .before .before .before .before .before .before .before .may-not-read .ensures ∙ ap (λ (m : ℕ). eqb m 1 && not (eqb (a .client) 0)) (c .before .before .before .before .before .before .before .before .before .count-at2 .ensures)) ∙ c .before .before .before .before .before .before .before .if2 .left) (is (c .before .before .before .before .before .before .client-word .ensures) (c .before .before .before .before .before .if3 .left)) (holds (c .before .before .before .mask-within .ensures ∙ ap (λ (k : ℕ). maskWithin (a .mask) k) (c .before .before .before .before .count-at3 .ensures)) (c .before .before .if4 .left)) (sym (c .before .is-spent .ensures) ∙ c .if5 .taken)
+returns-5 c =
+    let at-is-spent = c .before in
+    let at-if4 = at-is-spent .before in
+    let at-mask-within = at-if4 .before in
+    let at-count-at3 = at-mask-within .before in
+    let at-if3 = at-count-at3 .before in
+    let at-client-word = at-if3 .before in
+    let at-if2 = at-client-word .before in
+    let at-may-not-read = at-if2 .before in
+    let at-count-at2 = at-may-not-read .before in
+    let at-if1 = at-count-at2 .before in
+    let at-count-at = at-if1 .before in
+    let start = at-count-at .before .before .before in
+    λ links keys values log writes reads. let a = start .args in refused-7 (above (at-count-at .count-at .ensures) (at-if1 .if1 .left)) (sym (at-may-not-read .may-not-read .ensures ∙ ap (λ (m : ℕ). eqb m 1 && not (eqb (a .client) 0)) (at-count-at2 .count-at2 .ensures)) ∙ at-if2 .if2 .left) (is (at-client-word .client-word .ensures) (at-if3 .if3 .left)) (holds (at-mask-within .mask-within .ensures ∙ ap (λ (k : ℕ). maskWithin (a .mask) k) (at-count-at3 .count-at3 .ensures)) (at-if4 .if4 .left)) (sym (at-is-spent .is-spent .ensures) ∙ c .if5 .taken)
 
 returns-6 : tie.Need-returns-6
-returns-6 c = λ links keys values log writes reads. let a = c .before .before .before .before .before .before .before .before .before .before .before .before .before .before .args in begins (above (c .before .before .before .before .before .before .before .before .before .before .before .count-at .ensures) (c .before .before .before .before .before .before .before .before .before .before .if1 .left)) (sym (c .before .before .before .before .before .before .before .before .may-not-read .ensures ∙ ap (λ (m : ℕ). eqb m 1 && not (eqb (a .client) 0)) (c .before .before .before .before .before .before .before .before .before .count-at2 .ensures)) ∙ c .before .before .before .before .before .before .before .if2 .left) (is (c .before .before .before .before .before .before .client-word .ensures) (c .before .before .before .before .before .if3 .left)) (holds (c .before .before .before .mask-within .ensures ∙ ap (λ (k : ℕ). maskWithin (a .mask) k) (c .before .before .before .before .count-at3 .ensures)) (c .before .before .if4 .left)) (sym (c .before .is-spent .ensures) ∙ c .if5 .left)
+returns-6 c =
+    let at-is-spent = c .before in
+    let at-if4 = at-is-spent .before in
+    let at-mask-within = at-if4 .before in
+    let at-count-at3 = at-mask-within .before in
+    let at-if3 = at-count-at3 .before in
+    let at-client-word = at-if3 .before in
+    let at-if2 = at-client-word .before in
+    let at-may-not-read = at-if2 .before in
+    let at-count-at2 = at-may-not-read .before in
+    let at-if1 = at-count-at2 .before in
+    let at-count-at = at-if1 .before in
+    let start = at-count-at .before .before .before in
+    λ links keys values log writes reads. let a = start .args in begins (above (at-count-at .count-at .ensures) (at-if1 .if1 .left)) (sym (at-may-not-read .may-not-read .ensures ∙ ap (λ (m : ℕ). eqb m 1 && not (eqb (a .client) 0)) (at-count-at2 .count-at2 .ensures)) ∙ at-if2 .if2 .left) (is (at-client-word .client-word .ensures) (at-if3 .if3 .left)) (holds (at-mask-within .mask-within .ensures ∙ ap (λ (k : ℕ). maskWithin (a .mask) k) (at-count-at3 .count-at3 .ensures)) (at-if4 .if4 .left)) (sym (at-is-spent .is-spent .ensures) ∙ c .if5 .left)
 
 pub read-fault-spec : {M : Type 1} → statement M
 read-fault-spec =

@@ -21,7 +21,15 @@ loop-holds : tie.Need-loop-holds Inv-loop μ-loop
 loop-holds c = let a = c .before .before .args in (printed-no-row (a .out .now) (a .list .now) (a .at) (omega (arith, c .before .before .pre .0 .1)), search needs)
 
 loop-again : tie.Need-loop-again Inv-loop μ-loop
-loop-again c = let l = c .before .before .before .before .before .before .loop in let a = c .before .before .before .before .before .before .before .before .before .args in let p = c .before .before .print-row in (printed-row (a .out .now) (a .list .now) (a .at) (l .i) (omega (arith, c .before .before .before .before .before .before .before .before .before .pre .0 .1)) (l .inv .0) (p .ensures .0), (omega (arith, p .ensures .1, l .inv .1 .0), (omega (arith, c .before .before .before .before .before .loop-test .taken), p .kept .1 .0 ∙ l .inv .1 .1 .1)))
+loop-again c =
+    let at-print-row = c .before .before in
+    let at-loop-test = at-print-row .before .before .before in
+    let at-loop = at-loop-test .before in
+    let start = at-loop .before .before .before in
+    let l = at-loop .loop in
+    let a = start .args in
+    let p = at-print-row .print-row in
+    (printed-row (a .out .now) (a .list .now) (a .at) (l .i) (omega (arith, start .pre .0 .1)) (l .inv .0) (p .ensures .0), (omega (arith, p .ensures .1, l .inv .1 .0), (omega (arith, at-loop-test .loop-test .taken), p .kept .1 .0 ∙ l .inv .1 .1 .1)))
 
 returns : tie.Need-returns Inv-loop μ-loop
 returns c = let l = c .before .loop in let a = c .before .before .before .before .args in let e : l .i ≡ a .rows = omega (arith, l .inv .1 .1 .0, c .loop-test .left) in (subst (λ (n : ℕ). Printed (a .out .now) (a .at) (rowsText (a .list .now) n) (l .next) (l .out)) e (l .inv .0), omega (arith, l .inv .1 .0, e))

@@ -7,14 +7,41 @@ use Rattle.replies.proofs.all_told.Statement.{statement}
 use Rattle.replies.proofs.all_told.Tie as tie
 
 returns : tie.Need-returns
-returns c = let a = c .before .before .before .before .before .before .before .before .before .before .before .before .before .before .before .before .before .before .before .before .before .before .before .before .before .before .before .before .args in λ writes. all-waits (a .client) (a .target) (tablesOf (a .counts .now) (a .clients .now) (a .links .now) (a .keys .now) (a .values .now) (a .log .now) writes (a .reads .now)) (c .before .before .before .before .before .before .before .before .before .before .before .before .settle .ensures) (c .before .before .is-pending .ensures) (a .contents) (c .before .before .before .before .before .before .put-client-word .ensures) (c .before .if1 .taken) (c .showing-nothing .ensures)
+returns c =
+    let at-if1 = c .before in
+    let at-is-pending = at-if1 .before in
+    let at-put-client-word = at-is-pending .before .before .before .before in
+    let at-settle = at-put-client-word .before .before .before .before .before .before in
+    let start = at-settle .before .before .before .before .before .before .before .before .before .before .before .before .before .before .before .before in
+    let a = start .args in
+    λ writes. all-waits (a .client) (a .target) (tablesOf (a .counts .now) (a .clients .now) (a .links .now) (a .keys .now) (a .values .now) (a .log .now) writes (a .reads .now)) (at-settle .settle .ensures) (at-is-pending .is-pending .ensures) (a .contents) (at-put-client-word .put-client-word .ensures) (at-if1 .if1 .taken) (c .showing-nothing .ensures)
 
 finish-by-c-requires : tie.Need-finish-by-c-requires
-finish-by-c-requires c κs = let a = c .before .before .before .before .before .before .before .before .before .before .before .before .before .before .before .before .before .before .before .before .before .before .before .before .before .before .before .before .before .args in
-    last-ready (a .counts .now) (a .clients .now) (a .links .now) (a .keys .now) (a .values .now) (a .log .now) (a .reads .now) (a .client) (a .target) (a .contents .number) (c .before .before .before .before .before .before .before .before .before .before .before .before .before .before .before .before .before .before .before .before .before .before .before .before .before .before .before .before .before .pre .1) (c .before .before .before .before .before .before .before .before .before .before .before .before .before .settle .ensures .emptied) (c .before .before .before .is-pending .ensures) (c .before .before .if1 .left) (c .before .before .before .before .before .before .before .put-client-word .ensures) (c .before .before .before .before .before .before .before .before .before .before .before .before .before .before .before .before .before .before .before .before .count-at .ensures) (c .before .before .before .before .before .before .before .before .before .before .before .before .before .before .before .before .before .before .client-word .ensures) (c .before .before .before .before .before .before .before .before .before .before .before .before .before .before .before .before .client-word2 .ensures)
+finish-by-c-requires c κs =
+    let at-if1 = c .before .before in
+    let at-is-pending = at-if1 .before in
+    let at-put-client-word = at-is-pending .before .before .before .before in
+    let at-settle = at-put-client-word .before .before .before .before .before .before in
+    let at-client-word2 = at-settle .before .before .before in
+    let at-client-word = at-client-word2 .before .before in
+    let at-count-at = at-client-word .before .before in
+    let start = at-count-at .before .before .before .before .before .before .before .before .before in
+    let a = start .args in
+    last-ready (a .counts .now) (a .clients .now) (a .links .now) (a .keys .now) (a .values .now) (a .log .now) (a .reads .now) (a .client) (a .target) (a .contents .number) (start .pre .1) (at-settle .settle .ensures .emptied) (at-is-pending .is-pending .ensures) (at-if1 .if1 .left) (at-put-client-word .put-client-word .ensures) (at-count-at .count-at .ensures) (at-client-word .client-word .ensures) (at-client-word2 .client-word2 .ensures)
 
 returns-2 : tie.Need-returns-2
-returns-2 c = let a = c .before .before .before .before .before .before .before .before .before .before .before .before .before .before .before .before .before .before .before .before .before .before .before .before .before .before .before .before .before .before .before .before .before .before .args in λ writes. all-ends (a .client) (a .target) (tablesOf (a .counts .now) (a .clients .now) (a .links .now) (a .keys .now) (a .values .now) (a .log .now) writes (a .reads .now)) (c .before .before .before .before .before .before .before .before .before .before .before .before .before .before .before .before .before .before .settle .ensures) (c .before .before .before .before .before .before .before .before .is-pending .ensures) (a .contents) (c .before .before .before .before .before .before .before .before .before .before .before .before .put-client-word .ensures) (c .before .before .before .before .before .before .before .if1 .left) (c .before .before .before .before .before .before .before .before .before .before .before .before .before .before .before .before .before .before .before .before .before .before .before .client-word .ensures) (c .before .before .before .before .before .before .before .before .before .before .before .before .before .before .before .before .before .before .before .before .before .client-word2 .ensures) (c .before .before .before .before .before .before .before .before .before .before .before .before .before .before .before .before .before .before .before .before .before .before .before .before .before .count-at .ensures) (c .before .before .before .before .finish-by-c .ensures)
+returns-2 c =
+    let at-finish-by-c = c .before .before .before .before in
+    let at-if1 = at-finish-by-c .before .before .before in
+    let at-is-pending = at-if1 .before in
+    let at-put-client-word = at-is-pending .before .before .before .before in
+    let at-settle = at-put-client-word .before .before .before .before .before .before in
+    let at-client-word2 = at-settle .before .before .before in
+    let at-client-word = at-client-word2 .before .before in
+    let at-count-at = at-client-word .before .before in
+    let start = at-count-at .before .before .before .before .before .before .before .before .before in
+    let a = start .args in
+    λ writes. all-ends (a .client) (a .target) (tablesOf (a .counts .now) (a .clients .now) (a .links .now) (a .keys .now) (a .values .now) (a .log .now) writes (a .reads .now)) (at-settle .settle .ensures) (at-is-pending .is-pending .ensures) (a .contents) (at-put-client-word .put-client-word .ensures) (at-if1 .if1 .left) (at-client-word .client-word .ensures) (at-client-word2 .client-word2 .ensures) (at-count-at .count-at .ensures) (at-finish-by-c .finish-by-c .ensures)
 
 pub all-told-spec : {M : Type 1} → statement M
 all-told-spec =

@@ -13,16 +13,28 @@ cast-tag c = let a = c .before .before .before .before .before .before .before .
     omega (arith, p .entries)
 
 conclude-requires : tie.Need-conclude-requires
-conclude-requires c κs = let a = c .before .before .before .before .before .before .before .before .before .before .args in let p = c .before .before .before .before .before .before .before .before .before .before .pre .1 in
-    let e = tag-is (a .clients .now) (a .keys .now) (a .log .now) (a .client) (a .mask) (a .servers) (p .some) (c .before .before .before .client-word .ensures) (c .before .chosen-tag .ensures) in
+conclude-requires c κs =
+    let at-chosen-tag = c .before in
+    let at-client-word = at-chosen-tag .before .before in
+    let start = at-client-word .before .before .before .before .before .before .before in
+    let a = start .args in
+    let p = start .pre .1 in
+    let e = tag-is (a .clients .now) (a .keys .now) (a .log .now) (a .client) (a .mask) (a .servers) (p .some) (at-client-word .client-word .ensures) (at-chosen-tag .chosen-tag .ensures) in
     let l = tag-below (a .clients .now) (a .keys .now) (a .log .now) (a .client) (a .mask) (a .servers) (p .some) in
-    (c .before .before .before .before .before .before .before .before .before .before .pre .0, ((p .row, omega (arith, p .logged)), rw e (tag-qualifies (a .clients .now) (a .keys .now) (a .log .now) (a .client) (a .mask) (a .servers) (p .some) (p .opening))))
+    (start .pre .0, ((p .row, omega (arith, p .logged)), rw e (tag-qualifies (a .clients .now) (a .keys .now) (a .log .now) (a .client) (a .mask) (a .servers) (p .some) (p .opening))))
 
 returns : tie.Need-returns
-returns c = let a = c .before .before .before .before .before .before .before .before .before .before .before .before .before .before .before .before .before .before .before .before .args in let p = c .before .before .before .before .before .before .before .before .before .before .before .before .before .before .before .before .before .before .before .before .pre .1 in
-    let e = tag-is (a .clients .now) (a .keys .now) (a .log .now) (a .client) (a .mask) (a .servers) (p .some) (c .before .before .before .before .before .before .before .before .before .before .before .before .before .client-word .ensures) (c .before .before .before .before .before .before .before .before .before .before .before .chosen-tag .ensures) in
-    let f = c .before .before .before .before .finish .ensures in
-    let k = c .before .before .before .before .before .before .before .before .before .conclude .ensures in
+returns c =
+    let at-finish = c .before .before .before .before in
+    let at-conclude = at-finish .before .before .before .before .before in
+    let at-chosen-tag = at-conclude .before .before in
+    let at-client-word = at-chosen-tag .before .before in
+    let start = at-client-word .before .before .before .before .before .before .before in
+    let a = start .args in
+    let p = start .pre .1 in
+    let e = tag-is (a .clients .now) (a .keys .now) (a .log .now) (a .client) (a .mask) (a .servers) (p .some) (at-client-word .client-word .ensures) (at-chosen-tag .chosen-tag .ensures) in
+    let f = at-finish .finish .ensures in
+    let k = at-conclude .conclude .ensures in
     record { shown = f .shown ∙ rw (k, e); idled = f .idled ∙ rw (k, e); recorded = f .recorded ∙ rw e }
 
 pub finish-by-c-spec : {M : Type 1} → statement M

@@ -6,10 +6,28 @@ use Rattle.replies.proofs.got.Statement.{statement}
 use Rattle.replies.proofs.got.Tie as tie
 
 returns : tie.Need-returns
-returns c = let a = c .before .before .before .before .before .before .before .before .before .before .before .before .before .before .before .before .before .before .before .before .before .before .before .before .before .args in λ keys values log writes. got-waits (a .client) (a .target) (tablesOf (a .counts .now) (a .clients .now) (a .links .now) keys values log writes (a .reads .now)) (c .before .before .before .before .before .before .before .before .before .before .before .before .settle .ensures) (c .before .before .is-pending .ensures) (a .contents) (c .before .before .before .before .before .before .put-client-word .ensures) (c .before .if1 .taken) (c .showing-nothing .ensures)
+returns c =
+    let at-if1 = c .before in
+    let at-is-pending = at-if1 .before in
+    let at-put-client-word = at-is-pending .before .before .before .before in
+    let at-settle = at-put-client-word .before .before .before .before .before .before in
+    let start = at-settle .before .before .before .before .before .before .before .before .before .before .before .before .before in
+    let a = start .args in
+    λ keys values log writes. got-waits (a .client) (a .target) (tablesOf (a .counts .now) (a .clients .now) (a .links .now) keys values log writes (a .reads .now)) (at-settle .settle .ensures) (at-is-pending .is-pending .ensures) (a .contents) (at-put-client-word .put-client-word .ensures) (at-if1 .if1 .taken) (c .showing-nothing .ensures)
 
 returns-2 : tie.Need-returns-2
-returns-2 c = let a = c .before .before .before .before .before .before .before .before .before .before .before .before .before .before .before .before .before .before .before .before .before .before .before .before .before .before .before .before .before .before .before .args in λ keys values log writes. got-ends (a .client) (a .target) (tablesOf (a .counts .now) (a .clients .now) (a .links .now) keys values log writes (a .reads .now)) (c .before .before .before .before .before .before .before .before .before .before .before .before .before .before .before .before .before .before .settle .ensures) (c .before .before .before .before .before .before .before .before .is-pending .ensures) (a .contents) (c .before .before .before .before .before .before .before .before .before .before .before .before .put-client-word .ensures) (c .before .before .before .before .before .before .before .if1 .left) (c .before .before .before .before .before .before .before .before .before .before .before .before .before .before .before .before .before .before .before .before .before .before .before .before .before .client-word .ensures) (c .before .before .before .before .before .before .before .before .before .before .before .before .before .before .before .before .before .before .before .before .before .before .before .client-word2 .ensures) (c .before .before .before .before .before .before .before .before .before .before .before .before .before .before .before .before .before .before .before .before .before .client-word3 .ensures) (c .before .before .before .before .finish .ensures .shown) (c .before .before .before .before .finish .ensures .idled) (c .before .before .before .before .finish .ensures .recorded)
+returns-2 c =
+    let at-finish = c .before .before .before .before in
+    let at-if1 = at-finish .before .before .before in
+    let at-is-pending = at-if1 .before in
+    let at-put-client-word = at-is-pending .before .before .before .before in
+    let at-settle = at-put-client-word .before .before .before .before .before .before in
+    let at-client-word3 = at-settle .before .before .before in
+    let at-client-word2 = at-client-word3 .before .before in
+    let at-client-word = at-client-word2 .before .before in
+    let start = at-client-word .before .before .before .before .before .before in
+    let a = start .args in
+    λ keys values log writes. got-ends (a .client) (a .target) (tablesOf (a .counts .now) (a .clients .now) (a .links .now) keys values log writes (a .reads .now)) (at-settle .settle .ensures) (at-is-pending .is-pending .ensures) (a .contents) (at-put-client-word .put-client-word .ensures) (at-if1 .if1 .left) (at-client-word .client-word .ensures) (at-client-word2 .client-word2 .ensures) (at-client-word3 .client-word3 .ensures) (at-finish .finish .ensures .shown) (at-finish .finish .ensures .idled) (at-finish .finish .ensures .recorded)
 
 pub got-spec : {M : Type 1} → statement M
 got-spec =

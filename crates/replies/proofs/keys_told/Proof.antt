@@ -7,7 +7,16 @@ use Rattle.replies.proofs.keys_told.Tie as tie
 use Rattle.replies.proofs.keys_told.Reads as reads
 
 returns : tie.Need-returns
-returns c = let a = c .before .before .before .before .before .before .before .before .before .before .before .before .before .before .before .before .before .before .before .before .before .before .before .before .before .before .before .before .before .args in λ keys values writes reads. keys-ask (a .client) (a .target) (tablesOf (a .counts .now) (a .clients .now) (a .links .now) keys values (a .log .now) writes reads) (c .before .before .before .before .before .before .before .before .before .before .before .before .before .before .before .before .before .settle .ensures) (a .contents) (c .before .before .before .before .before .before .before .before .before .before .before .before .before .before .before .before .before .before .before .before .before .client-word .ensures) (c .before .before .before .before .before .before .before .before .before .before .before .before .before .before .before .before .before .before .before .before .before .before .before .count-at .ensures) (c .showing-nothing .ensures) (rw (c .before .before .before .before .before .before .before .put-client-word2 .ensures, c .before .before .before .before .before .before .before .before .before .before .before .put-client-word .ensures)) (c .before .before .before .send-gets .ensures)
+returns c =
+    let at-send-gets = c .before .before .before in
+    let at-put-client-word2 = at-send-gets .before .before .before .before in
+    let at-put-client-word = at-put-client-word2 .before .before .before .before in
+    let at-settle = at-put-client-word .before .before .before .before .before .before in
+    let at-client-word = at-settle .before .before .before .before in
+    let at-count-at = at-client-word .before .before in
+    let start = at-count-at .before .before .before .before .before .before in
+    let a = start .args in
+    λ keys values writes reads. keys-ask (a .client) (a .target) (tablesOf (a .counts .now) (a .clients .now) (a .links .now) keys values (a .log .now) writes reads) (at-settle .settle .ensures) (a .contents) (at-client-word .client-word .ensures) (at-count-at .count-at .ensures) (c .showing-nothing .ensures) (rw (at-put-client-word2 .put-client-word2 .ensures, at-put-client-word .put-client-word .ensures)) (at-send-gets .send-gets .ensures)
 
 pub keys-told-spec : {M : Type 1} → statement M
 keys-told-spec =

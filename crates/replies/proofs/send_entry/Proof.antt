@@ -4,7 +4,13 @@ use Rattle.replies.proofs.send_entry.Statement.{statement}
 use Rattle.replies.proofs.send_entry.Tie as tie
 
 returns : tie.Need-returns
-returns c = (c .before .before .before .before .before .before .before .put-client-word .ensures, rw (c .before .before .send .ensures, c .before .before .before .new .ensures, c .before .before .before .before .before .before .before .before .before .client-word2 .ensures, c .before .before .before .before .before .before .before .before .before .before .before .client-word .ensures))
+returns c =
+    let at-send = c .before .before in
+    let at-new = at-send .before in
+    let at-put-client-word = at-new .before .before .before .before in
+    let at-client-word2 = at-put-client-word .before .before in
+    let at-client-word = at-client-word2 .before .before in
+    (at-put-client-word .put-client-word .ensures, rw (at-send .send .ensures, at-new .new .ensures, at-client-word2 .client-word2 .ensures, at-client-word .client-word .ensures))
 
 pub send-entry-spec : {M : Type 1} → statement M
 send-entry-spec =

@@ -10,7 +10,14 @@ returns : tie.Need-returns
 returns c = let a = c .before .before .before .before .before .before .before .before .before .before .before .before .before .before .args in λ keys values log writes reads. set-waits (a .client) (a .target) (tablesOf (a .counts .now) (a .clients .now) (a .links .now) keys values log writes reads) (c .before .before .before .before .before .before .before .before .settle .ensures) (c .before .before .is-pending .ensures) (c .before .if1 .taken) (c .showing-nothing .ensures)
 
 returns-2 : tie.Need-returns-2
-returns-2 c = let a = c .before .before .before .before .before .before .before .before .before .before .before .before .before .before .before .before .before .before .before .before .before .args in λ keys values log writes reads. set-enters (a .client) (a .target) (tablesOf (a .counts .now) (a .clients .now) (a .links .now) keys values log writes reads) (c .before .before .before .before .before .before .before .before .before .before .before .before .before .before .before .settle .ensures) (c .before .before .before .before .before .before .before .before .before .is-pending .ensures) (c .before .before .before .before .before .before .before .before .if1 .left) (c .showing-nothing2 .ensures) (c .before .before .before .before .before .send-entry .ensures .0) (c .before .before .before .before .before .send-entry .ensures .1)
+returns-2 c =
+    let at-send-entry = c .before .before .before .before .before in
+    let at-if1 = at-send-entry .before .before .before in
+    let at-is-pending = at-if1 .before in
+    let at-settle = at-is-pending .before .before .before .before .before .before in
+    let start = at-settle .before .before .before .before .before .before in
+    let a = start .args in
+    λ keys values log writes reads. set-enters (a .client) (a .target) (tablesOf (a .counts .now) (a .clients .now) (a .links .now) keys values log writes reads) (at-settle .settle .ensures) (at-is-pending .is-pending .ensures) (at-if1 .if1 .left) (c .showing-nothing2 .ensures) (at-send-entry .send-entry .ensures .0) (at-send-entry .send-entry .ensures .1)
 
 pub set-done-spec : {M : Type 1} → statement M
 set-done-spec =

@@ -9,7 +9,12 @@ use Rattle.requests.proofs.deliver_request.Tie as tie
 use Rattle.requests.proofs.deliver_request.Reads as reads
 
 answer-in-state-requires : tie.Need-answer-in-state-requires
-answer-in-state-requires c κs = let p = c .before .before .before .before .before .before .before .before .before .before .before .before .before .before .before .before .before .before .pre in (p .answerable, ((p .row, p .target), p .asks _ (ap (λ (k : Link). k .content) (sym (c .before .before .before .before .before .before .before .before .before .link-at .ensures)) ∙ c .before .before .before .before .before .before .before .content .given .1)))
+answer-in-state-requires c κs =
+    let at-content = c .before .before .before .before .before .before .before in
+    let at-link-at = at-content .before .before in
+    let start = at-link-at .before .before .before .before .before .before .before .before .before in
+    let p = start .pre in
+    (p .answerable, ((p .row, p .target), p .asks _ (ap (λ (k : Link). k .content) (sym (at-link-at .link-at .ensures)) ∙ at-content .content .given .1)))
 
 returns : tie.Need-returns
 returns c = let a = c .before .before .before .before .before .before .before .before .before .before .before .args in λ reads. by-nothing (a .client) (a .target) (tablesOf (a .counts .now) (a .clients .now) (a .links .now) (a .keys .now) (a .values .now) (a .log .now) (a .writes .now) reads) (c .before .before .link-at .ensures) (c .enum-told .given .1)
@@ -18,7 +23,13 @@ returns-2 : tie.Need-returns-2
 returns-2 c = let a = c .before .before .before .before .before .before .before .before .before .before .before .args in λ reads. by-reply (a .client) (a .target) (tablesOf (a .counts .now) (a .clients .now) (a .links .now) (a .keys .now) (a .values .now) (a .log .now) (a .writes .now) reads) (c .before .before .link-at .ensures) (c .enum-told2 .given .1)
 
 returns-3 : tie.Need-returns-3
-returns-3 c = let a = c .before .before .before .before .before .before .before .before .before .before .before .before .before .before .before .before .before .before .before .before .before .before .before .before .before .before .before .before .before .before .before .args in λ reads. by-request (a .client) (a .target) (tablesOf (a .counts .now) (a .clients .now) (a .links .now) (a .keys .now) (a .values .now) (a .log .now) (a .writes .now) reads) (c .before .before .before .before .before .before .before .before .before .before .before .before .before .before .before .before .before .before .before .before .before .before .link-at .ensures) (c .before .before .before .before .before .before .before .before .before .before .before .before .before .before .before .before .before .before .before .before .content .given .1) (c .before .before .before .before .before .before .before .before .before .before .before .before .answer-in-state .ensures reads)
+returns-3 c =
+    let at-answer-in-state = c .before .before .before .before .before .before .before .before .before .before .before .before in
+    let at-content = at-answer-in-state .before .before .before .before .before .before .before .before in
+    let at-link-at = at-content .before .before in
+    let start = at-link-at .before .before .before .before .before .before .before .before .before in
+    let a = start .args in
+    λ reads. by-request (a .client) (a .target) (tablesOf (a .counts .now) (a .clients .now) (a .links .now) (a .keys .now) (a .values .now) (a .log .now) (a .writes .now) reads) (at-link-at .link-at .ensures) (at-content .content .given .1) (at-answer-in-state .answer-in-state .ensures reads)
 
 pub deliver-request-spec : {M : Type 1} → statement M
 deliver-request-spec =

@@ -7,8 +7,16 @@ use Rattle.requests.proofs.get.Tie as tie
 use Rattle.requests.proofs.get.Reads as reads
 
 returns : tie.Need-returns
-returns c = let a = c .before .before .before .before .before .before .before .before .before .before .before .before .before .before .before .before .before .args in λ clients log writes reads.
-    get-found (a .contents) (a .client) (a .target) (tablesOf (a .counts .now) clients (a .links .now) (a .keys .now) (a .values .now) log writes reads) (c .before .before .before .before .before .before .before .before .before .before .before .count-at .ensures) (c .before .before .before .before .before .before .before .before .before .find .ensures) (c .before .before .before .before .before .before .before .before .if1 .taken) (c .before .before .before .before .before .before .before .version-setpoint .ensures) (c .before .before .before .before .answer .ensures)
+returns c =
+    let at-answer = c .before .before .before .before in
+    let at-version-setpoint = at-answer .before .before .before in
+    let at-if1 = at-version-setpoint .before in
+    let at-find = at-if1 .before in
+    let at-count-at = at-find .before .before in
+    let start = at-count-at .before .before .before .before .before .before in
+    let a = start .args in
+    λ clients log writes reads.
+    get-found (a .contents) (a .client) (a .target) (tablesOf (a .counts .now) clients (a .links .now) (a .keys .now) (a .values .now) log writes reads) (at-count-at .count-at .ensures) (at-find .find .ensures) (at-if1 .if1 .taken) (at-version-setpoint .version-setpoint .ensures) (at-answer .answer .ensures)
 
 returns-2 : tie.Need-returns-2
 returns-2 c = let a = c .before .before .before .before .before .before .before .before .before .args in λ clients log writes reads.

@@ -7,13 +7,23 @@ use Rattle.requests.proofs.set.Tie as tie
 use Rattle.requests.proofs.set.Reads as reads
 
 answer-requires : tie.Need-answer-requires
-answer-requires c κs = let a = c .before .before .before .before .before .before .before .before .before .before .before .before .before .before .before .before .before .before .args in let p = c .before .before .before .before .before .before .before .before .before .before .before .before .before .before .before .before .before .before .pre .0 in
-    let n = set-step (a .contents) (a .client) (a .target) (tablesOf (a .counts .now) (a .counts .now) (a .links .now) (a .keys .now) (a .values .now) (a .counts .now) (a .counts .now) (a .counts .now)) (c .before .before .before .before .before .before .before .before .before .append .ensures) in
+answer-requires c κs =
+    let at-append = c .before .before .before .before .before .before .before .before .before in
+    let start = at-append .before .before .before .before .before .before .before .before .before in
+    let a = start .args in
+    let p = start .pre .0 in
+    let n = set-step (a .contents) (a .client) (a .target) (tablesOf (a .counts .now) (a .counts .now) (a .links .now) (a .keys .now) (a .values .now) (a .counts .now) (a .counts .now) (a .counts .now)) (at-append .append .ensures) in
     record { counted = search needs; stepped = rw n (p .stepped); linked = p .linked }
 
 returns : tie.Need-returns
-returns c = let a = c .before .before .before .before .before .before .before .before .before .before .before .before .before .before .before .before .before .before .before .before .before .before .before .args in λ clients log writes reads.
-    set-stored (a .contents) (a .client) (a .target) (tablesOf (a .counts .now) clients (a .links .now) (a .keys .now) (a .values .now) log writes reads) (c .before .before .before .before .before .before .before .before .before .before .before .before .before .before .append .ensures) (c .before .before .before .before .before .before .before .if1 .taken) (c .before .before .before .before .answer .ensures)
+returns c =
+    let at-answer = c .before .before .before .before in
+    let at-if1 = at-answer .before .before .before in
+    let at-append = at-if1 .before .before .before .before .before .before .before in
+    let start = at-append .before .before .before .before .before .before .before .before .before in
+    let a = start .args in
+    λ clients log writes reads.
+    set-stored (a .contents) (a .client) (a .target) (tablesOf (a .counts .now) clients (a .links .now) (a .keys .now) (a .values .now) log writes reads) (at-append .append .ensures) (at-if1 .if1 .taken) (at-answer .answer .ensures)
 
 returns-2 : tie.Need-returns-2
 returns-2 c = let a = c .before .before .before .before .before .before .before .before .before .before .before .before .before .before .before .before .args in λ clients log writes reads.

@@ -6,10 +6,20 @@ use Rattle.serial.proofs.play_all.Statement.{statement}
 use Rattle.serial.proofs.play_all.Tie as tie
 
 returns : tie.Need-returns
-returns c = let a = c .before .before .before .before .before .before .before .before .before .before .before .before .before .before .before .before .before .before .before .before .before .before .before .before .before .before .before .before .before .before .before .before .before .before .args in judged-all (a .method) (a .servers) (a .panels) (a .setpoints .now) (a .words .now) (a .pool .now) (tablesOf (a .counts .now) (a .clients .now) (a .links .now) (a .keys .now) (a .values .now) (a .log .now) (a .writes .now) (a .reads .now)) (c .before .before .before .before .before .before .before .before .before .before .before .before .before .before .«open» .ensures) (c .enum-told .given .1)
+returns c =
+    let at-open = c .before .before .before .before .before .before .before .before .before .before .before .before .before .before in
+    let start = at-open .before .before .before .before .before .before .before .before .before .before .before .before .before .before .before .before .before .before .before .before in
+    let a = start .args in
+    judged-all (a .method) (a .servers) (a .panels) (a .setpoints .now) (a .words .now) (a .pool .now) (tablesOf (a .counts .now) (a .clients .now) (a .links .now) (a .keys .now) (a .values .now) (a .log .now) (a .writes .now) (a .reads .now)) (at-open .«open» .ensures) (c .enum-told .given .1)
 
 returns-2 : tie.Need-returns-2
-returns-2 c = let a = c .before .before .before .before .before .before .before .before .before .before .before .before .before .before .before .before .before .before .before .before .before .before .before .before .before .before .before .before .before .before .before .before .before .before .before .before .before .before .before .before .before .before .before .before .before .before .before .before .before .before .before .before .before .before .before .before .before .before .before .args in played-all (a .method) (a .servers) (a .panels) (a .setpoints .now) (a .words .now) (a .pool .now) (tablesOf (a .counts .now) (a .clients .now) (a .links .now) (a .keys .now) (a .values .now) (a .log .now) (a .writes .now) (a .reads .now)) (c .before .before .before .before .before .before .before .before .before .before .before .before .before .before .before .before .before .before .before .before .before .before .before .before .before .before .before .before .before .before .before .before .before .before .before .before .before .before .before .«open» .ensures) (c .before .before .before .before .before .before .before .before .before .before .before .before .before .before .before .before .before .before .before .before .before .before .before .before .before .enum-told2 .given .1) (c .before .before .before .before .before .before .before .before .before .before .before .before .before .before .before .before .play-words .ensures)
+returns-2 c =
+    let at-play-words = c .before .before .before .before .before .before .before .before .before .before .before .before .before .before .before .before in
+    let at-enum-told2 = at-play-words .before .before .before .before .before .before .before .before .before in
+    let at-open = at-enum-told2 .before .before .before .before .before .before .before .before .before .before .before .before .before .before in
+    let start = at-open .before .before .before .before .before .before .before .before .before .before .before .before .before .before .before .before .before .before .before .before in
+    let a = start .args in
+    played-all (a .method) (a .servers) (a .panels) (a .setpoints .now) (a .words .now) (a .pool .now) (tablesOf (a .counts .now) (a .clients .now) (a .links .now) (a .keys .now) (a .values .now) (a .log .now) (a .writes .now) (a .reads .now)) (at-open .«open» .ensures) (at-enum-told2 .enum-told2 .given .1) (at-play-words .play-words .ensures)
 
 pub play-all-spec : {M : Type 1} → statement M
 play-all-spec =

@@ -5,7 +5,10 @@ use Rattle.serial.proofs.play_word.Statement.{statement}
 use Rattle.serial.proofs.play_word.Tie as tie
 
 returns : tie.Need-returns
-returns c = c .before .before .before .before .before .before .before .before .before .before .before .before .before .before .before .before .play-one .ensures ∙ rw (c .before .before .before .before .before .before .before .before .before .before .before .before .before .before .before .before .before .before .before .before .before .before .before .before .before .before .before .before .before .part .ensures)
+returns c =
+    let at-play-one = c .before .before .before .before .before .before .before .before .before .before .before .before .before .before .before .before in
+    let at-part = at-play-one .before .before .before .before .before .before .before .before .before .before .before .before .before in
+    at-play-one .play-one .ensures ∙ rw (at-part .part .ensures)
 
 pub play-word-spec : {M : Type 1} → statement M
 play-word-spec =

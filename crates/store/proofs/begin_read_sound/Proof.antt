@@ -12,14 +12,23 @@ returns c = let a = c .before .before .before .before .before .before .before .b
 
 begin-read-requires : tie.Need-begin-read-requires
 begin-read-requires c κs =
-    let a = c .before .before .before .before .before .before .before .before .before .before .before .before .before .before .before .before .args in
+    let at-if1 = c .before .before .before .before in
+    let at-read-fault = at-if1 .before in
+    let start = at-read-fault .before .before .before .before .before .before .before .before .before .before .before in
+    let a = start .args in
     let t = tablesOf (a .counts .now) (a .clients .now) (a .links .now) (a .keys .now) (a .values .now) (a .log .now) (a .writes .now) (a .reads .now) in
-    let s = c .before .before .before .before .before .before .before .before .before .before .before .before .before .before .before .before .pre in
-    let r = read-able t s (a .client) (a .mask) (c .before .before .before .before .before .read-fault .ensures (a .links .now) (a .keys .now) (a .values .now) (a .log .now) (a .writes .now) (a .reads .now)) (c .before .before .before .before .if1 .left) in
+    let s = start .pre in
+    let r = read-able t s (a .client) (a .mask) (at-read-fault .read-fault .ensures (a .links .now) (a .keys .now) (a .values .now) (a .log .now) (a .writes .now) (a .reads .now)) (at-if1 .if1 .left) in
     (read-ready t s (a .client) (a .mask) r, (read-begins t s (a .client) (a .mask) r, client-fits t s (a .client) (r .begin .client)))
 
 returns-2 : tie.Need-returns-2
-returns-2 c = let a = c .before .before .before .before .before .before .before .before .before .before .before .before .before .before .before .before .before .before .before .before .before .before .before .before .before .args in read-accepted (tablesOf (a .counts .now) (a .clients .now) (a .links .now) (a .keys .now) (a .values .now) (a .log .now) (a .writes .now) (a .reads .now)) (c .before .before .before .before .before .before .before .before .before .before .before .before .before .before .before .before .before .before .before .before .before .before .before .before .before .pre) (a .client) (a .mask) (c .before .before .before .before .before .before .before .before .before .before .before .before .before .before .read-fault .ensures (a .links .now) (a .keys .now) (a .values .now) (a .log .now) (a .writes .now) (a .reads .now)) (c .before .before .before .before .before .before .before .before .before .before .before .before .before .if1 .left) (c .before .before .before .before .before .before .before .before .begin-read .ensures (a .keys .now) (a .values .now) (a .writes .now))
+returns-2 c =
+    let at-begin-read = c .before .before .before .before .before .before .before .before in
+    let at-if1 = at-begin-read .before .before .before .before .before in
+    let at-read-fault = at-if1 .before in
+    let start = at-read-fault .before .before .before .before .before .before .before .before .before .before .before in
+    let a = start .args in
+    read-accepted (tablesOf (a .counts .now) (a .clients .now) (a .links .now) (a .keys .now) (a .values .now) (a .log .now) (a .writes .now) (a .reads .now)) (start .pre) (a .client) (a .mask) (at-read-fault .read-fault .ensures (a .links .now) (a .keys .now) (a .values .now) (a .log .now) (a .writes .now) (a .reads .now)) (at-if1 .if1 .left) (at-begin-read .begin-read .ensures (a .keys .now) (a .values .now) (a .writes .now))
 
 pub begin-read-sound-spec : {M : Type 1} → statement M
 begin-read-sound-spec =

@@ -12,7 +12,12 @@ returns : tie.Need-returns
 returns c = let a = c .before .before .before .before .before .before .before .before .before .before .before .before .before .before .before .before .args in unsound-reply (tablesOf (a .counts .now) (a .clients .now) (a .links .now) (a .keys .now) (a .values .now) (a .log .now) (a .writes .now) (a .reads .now)) (c .before .before .sound .ensures) (c .before .if1 .taken) (a .client) (a .target) (c .showing-nothing .ensures)
 
 deliver-reply-sound-requires : tie.Need-deliver-reply-sound-requires
-deliver-reply-sound-requires c κs = let a = c .before .before .before .before .before .before .before .before .before .before .before .before .before .before .before .before .before .before .before .before .args in sound-facts (tablesOf (a .counts .now) (a .clients .now) (a .links .now) (a .keys .now) (a .values .now) (a .log .now) (a .writes .now) (a .reads .now)) (sym (c .before .before .before .before .before .before .sound .ensures) ∙ not-false _ (c .before .before .before .before .before .if1 .left))
+deliver-reply-sound-requires c κs =
+    let at-if1 = c .before .before .before .before .before in
+    let at-sound = at-if1 .before in
+    let start = at-sound .before .before .before .before .before .before .before .before .before .before .before .before .before .before in
+    let a = start .args in
+    sound-facts (tablesOf (a .counts .now) (a .clients .now) (a .links .now) (a .keys .now) (a .values .now) (a .log .now) (a .writes .now) (a .reads .now)) (sym (at-sound .sound .ensures) ∙ not-false _ (at-if1 .if1 .left))
 
 returns-2 : tie.Need-returns-2
 returns-2 c = c .before .before .before .before .before .before .before .before .before .before .deliver-reply-sound .ensures

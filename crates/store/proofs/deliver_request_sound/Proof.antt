@@ -10,10 +10,21 @@ returns : tie.Need-returns
 returns c = let a = c .before .before .before .before .before .before .before .before .before .before .before .args in request-refused (tablesOf (a .counts .now) (a .clients .now) (a .links .now) (a .keys .now) (a .values .now) (a .log .now) (a .writes .now) (a .reads .now)) (c .before .before .before .before .before .before .before .before .before .before .before .pre) (a .client) (a .target) (c .before .delivery-fault .ensures (a .clients .now) (a .links .now) (a .keys .now) (a .values .now) (a .log .now) (a .writes .now) (a .reads .now)) (c .if1 .taken)
 
 deliver-request-requires : tie.Need-deliver-request-requires
-deliver-request-requires c κs = let a = c .before .before .before .before .before .before .before .before .before .before .before .before .before .before .before .before .before .args in request-ready (tablesOf (a .counts .now) (a .clients .now) (a .links .now) (a .keys .now) (a .values .now) (a .log .now) (a .writes .now) (a .reads .now)) (c .before .before .before .before .before .before .before .before .before .before .before .before .before .before .before .before .before .pre) (a .client) (a .target) (delivery-able (tablesOf (a .counts .now) (a .clients .now) (a .links .now) (a .keys .now) (a .values .now) (a .log .now) (a .writes .now) (a .reads .now)) (c .before .before .before .before .before .before .before .before .before .before .before .before .before .before .before .before .before .pre) (a .client) (a .target) (c .before .before .before .before .before .before .before .delivery-fault .ensures (a .clients .now) (a .links .now) (a .keys .now) (a .values .now) (a .log .now) (a .writes .now) (a .reads .now)) (c .before .before .before .before .before .before .if1 .left))
+deliver-request-requires c κs =
+    let at-if1 = c .before .before .before .before .before .before in
+    let at-delivery-fault = at-if1 .before in
+    let start = at-delivery-fault .before .before .before .before .before .before .before .before .before .before in
+    let a = start .args in
+    request-ready (tablesOf (a .counts .now) (a .clients .now) (a .links .now) (a .keys .now) (a .values .now) (a .log .now) (a .writes .now) (a .reads .now)) (start .pre) (a .client) (a .target) (delivery-able (tablesOf (a .counts .now) (a .clients .now) (a .links .now) (a .keys .now) (a .values .now) (a .log .now) (a .writes .now) (a .reads .now)) (start .pre) (a .client) (a .target) (at-delivery-fault .delivery-fault .ensures (a .clients .now) (a .links .now) (a .keys .now) (a .values .now) (a .log .now) (a .writes .now) (a .reads .now)) (at-if1 .if1 .left))
 
 returns-2 : tie.Need-returns-2
-returns-2 c = let a = c .before .before .before .before .before .before .before .before .before .before .before .before .before .before .before .before .before .before .before .before .before .before .before .before .before .before .before .before .before .before .args in request-accepted (tablesOf (a .counts .now) (a .clients .now) (a .links .now) (a .keys .now) (a .values .now) (a .log .now) (a .writes .now) (a .reads .now)) (c .before .before .before .before .before .before .before .before .before .before .before .before .before .before .before .before .before .before .before .before .before .before .before .before .before .before .before .before .before .before .pre) (a .client) (a .target) (c .before .before .before .before .before .before .before .before .before .before .before .before .before .before .before .before .before .before .before .before .delivery-fault .ensures (a .clients .now) (a .links .now) (a .keys .now) (a .values .now) (a .log .now) (a .writes .now) (a .reads .now)) (c .before .before .before .before .before .before .before .before .before .before .before .before .before .before .before .before .before .before .before .if1 .left) (c .before .before .before .before .before .before .before .before .before .before .before .before .deliver-request .ensures (a .reads .now))
+returns-2 c =
+    let at-deliver-request = c .before .before .before .before .before .before .before .before .before .before .before .before in
+    let at-if1 = at-deliver-request .before .before .before .before .before .before .before in
+    let at-delivery-fault = at-if1 .before in
+    let start = at-delivery-fault .before .before .before .before .before .before .before .before .before .before in
+    let a = start .args in
+    request-accepted (tablesOf (a .counts .now) (a .clients .now) (a .links .now) (a .keys .now) (a .values .now) (a .log .now) (a .writes .now) (a .reads .now)) (start .pre) (a .client) (a .target) (at-delivery-fault .delivery-fault .ensures (a .clients .now) (a .links .now) (a .keys .now) (a .values .now) (a .log .now) (a .writes .now) (a .reads .now)) (at-if1 .if1 .left) (at-deliver-request .deliver-request .ensures (a .reads .now))
 
 pub deliver-request-sound-spec : {M : Type 1} → statement M
 deliver-request-sound-spec =

@@ -16,13 +16,40 @@ read-on-requires : tie.Need-read-on-requires
 read-on-requires c κs = let p = c .before .before .before .before .before .before .before .before .before .before .before .before .before .before .before .pre in let g = p .1 .0 in let e = lacking _ _ (sym (c .before .before .lacks-end .ensures) ∙ c .before .if1 .taken) in ((g .from, (omega (arith, g .held, g .windowSize), omega (arith, e .0, e .1, g .windowSize))), p .1 .1)
 
 returns : tie.Need-returns
-returns c = let a = c .before .before .before .before .before .before .before .before .before .before .before .before .before .before .before .before .before .before .args in let p = c .before .before .before .before .before .before .before .before .before .before .before .before .before .before .before .before .before .before .pre in turned-read (a .run) (a .window .now) (a .out .now) (tablesOf (a .counts .now) (a .clients .now) (a .links .now) (a .keys .now) (a .values .now) (a .log .now) (a .writes .now) (a .reads .now)) (p .1 .0) (p .0) (p .1 .1) _ (c .before .before .before .before .before .before .line-at .ensures) (sym (c .before .before .before .before .before .lacks-end .ensures) ∙ c .before .before .before .before .if1 .taken) _ _ (c .before .before .read-on .ensures) (c .before .before .read-on .kept .1 .0)
+returns c =
+    let at-read-on = c .before .before in
+    let at-if1 = at-read-on .before .before in
+    let at-lacks-end = at-if1 .before in
+    let at-line-at = at-lacks-end .before in
+    let start = at-line-at .before .before .before .before .before .before .before .before .before .before .before .before in
+    let a = start .args in
+    let p = start .pre in
+    turned-read (a .run) (a .window .now) (a .out .now) (tablesOf (a .counts .now) (a .clients .now) (a .links .now) (a .keys .now) (a .values .now) (a .log .now) (a .writes .now) (a .reads .now)) (p .1 .0) (p .0) (p .1 .1) _ (at-line-at .line-at .ensures) (sym (at-lacks-end .lacks-end .ensures) ∙ at-if1 .if1 .taken) _ _ (at-read-on .read-on .ensures) (at-read-on .read-on .kept .1 .0)
 
 answer-line-requires : tie.Need-answer-line-requires
-answer-line-requires c κs = let a = c .before .before .before .before .before .before .before .before .before .before .before .before .before .before .before .before .before .before .before .before .before .before .before .before .before .args in let p = c .before .before .before .before .before .before .before .before .before .before .before .before .before .before .before .before .before .before .before .before .before .before .before .before .before .pre in let m = c .before .before .before .before .before .before .before .before .before .make-room in let t = tablesOf (a .counts .now) (a .clients .now) (a .links .now) (a .keys .now) (a .values .now) (a .log .now) (a .writes .now) (a .reads .now) in (p .0, (ready-fits (a .run) (a .window .now) (a .out .now) t (p .1 .0) (p .0) (p .1 .1) _ (c .before .before .before .before .before .before .before .before .before .before .before .before .before .line-at .ensures) (m .result) (m .ensures), ready-room (a .run) (a .window .now) (a .out .now) t (p .1 .0) (p .0) (p .1 .1) _ (c .before .before .before .before .before .before .before .before .before .before .before .before .before .line-at .ensures) (m .result) (m .ensures)))
+answer-line-requires c κs =
+    let at-make-room = c .before .before .before .before .before .before .before .before .before in
+    let at-line-at = at-make-room .before .before .before .before in
+    let start = at-line-at .before .before .before .before .before .before .before .before .before .before .before .before in
+    let a = start .args in
+    let p = start .pre in
+    let m = at-make-room .make-room in
+    let t = tablesOf (a .counts .now) (a .clients .now) (a .links .now) (a .keys .now) (a .values .now) (a .log .now) (a .writes .now) (a .reads .now) in
+    (p .0, (ready-fits (a .run) (a .window .now) (a .out .now) t (p .1 .0) (p .0) (p .1 .1) _ (at-line-at .line-at .ensures) (m .result) (m .ensures), ready-room (a .run) (a .window .now) (a .out .now) t (p .1 .0) (p .0) (p .1 .1) _ (at-line-at .line-at .ensures) (m .result) (m .ensures)))
 
 returns-2 : tie.Need-returns-2
-returns-2 c = let a = c .before .before .before .before .before .before .before .before .before .before .before .before .before .before .before .before .before .before .before .before .before .before .before .before .before .before .before .before .before .before .before .before .before .before .before .before .before .before .before .before .before .before .before .before .args in let p = c .before .before .before .before .before .before .before .before .before .before .before .before .before .before .before .before .before .before .before .before .before .before .before .before .before .before .before .before .before .before .before .before .before .before .before .before .before .before .before .before .before .before .before .before .pre in let m = c .before .before .before .before .before .before .before .before .before .before .before .before .before .before .before .before .before .before .before .before .before .before .before .before .before .before .before .before .make-room in let t = tablesOf (a .counts .now) (a .clients .now) (a .links .now) (a .keys .now) (a .values .now) (a .log .now) (a .writes .now) (a .reads .now) in turned-made (a .run) (a .window .now) (a .out .now) t (p .1 .0) (p .0) (p .1 .1) _ (c .before .before .before .before .before .before .before .before .before .before .before .before .before .before .before .before .before .before .before .before .before .before .before .before .before .before .before .before .before .before .before .before .line-at .ensures) (m .result) (m .ensures) (sym (c .before .before .before .before .before .before .before .before .before .before .before .before .before .before .before .before .before .before .before .before .before .before .before .before .before .before .before .before .before .before .before .lacks-end .ensures) ∙ c .before .before .before .before .before .before .before .before .before .before .before .before .before .before .before .before .before .before .before .before .before .before .before .before .before .before .before .before .before .before .if1 .left) _ _ _ (c .before .before .before .before .before .before .before .before .before .before .before .before .before .before .before .before .before .before .answer-line .ensures) (c .before .before .before .before .before .before .before .before .before .before .before .before .before .before .before .before .before .before .answer-line .kept .1 .1 .1 .1 .1 .1 .1 .1 .1 .1 .0)
+returns-2 c =
+    let at-answer-line = c .before .before .before .before .before .before .before .before .before .before .before .before .before .before .before .before .before .before in
+    let at-make-room = at-answer-line .before .before .before .before .before .before .before .before .before .before in
+    let at-if1 = at-make-room .before .before in
+    let at-lacks-end = at-if1 .before in
+    let at-line-at = at-lacks-end .before in
+    let start = at-line-at .before .before .before .before .before .before .before .before .before .before .before .before in
+    let a = start .args in
+    let p = start .pre in
+    let m = at-make-room .make-room in
+    let t = tablesOf (a .counts .now) (a .clients .now) (a .links .now) (a .keys .now) (a .values .now) (a .log .now) (a .writes .now) (a .reads .now) in
+    turned-made (a .run) (a .window .now) (a .out .now) t (p .1 .0) (p .0) (p .1 .1) _ (at-line-at .line-at .ensures) (m .result) (m .ensures) (sym (at-lacks-end .lacks-end .ensures) ∙ at-if1 .if1 .left) _ _ _ (at-answer-line .answer-line .ensures) (at-answer-line .answer-line .kept .1 .1 .1 .1 .1 .1 .1 .1 .1 .1 .0)
 
 pub turn-spec : {M : Type 1} → statement M
 turn-spec =

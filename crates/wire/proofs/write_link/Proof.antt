@@ -21,7 +21,13 @@ cast-to : tie.Need-cast-to
 cast-to c = record { fits = omega (arith, c .before .before .before .before .before .before .before .before .before .pre [] [] .target) }
 
 write-reply-requires : tie.Need-write-reply-requires
-write-reply-requires c κs = let a = c .before .before .before .before .before .before .before .before .before .before .before .before .before .args in reply-ready (a .client) (a .target) (tablesOf (a .counts .now) (a .clients .now) (a .links .now) (a .keys .now) (a .values .now) (a .log .now) [] []) (c .before .before .before .before .before .before .before .before .before .before .before .before .before .pre [] []) _ (c .before .before .before .before .before .client-word .ensures) (c .before .before .before .before .link-at .ensures) (c .before .before .content2 .given .1)
+write-reply-requires c κs =
+    let at-content2 = c .before .before in
+    let at-link-at = at-content2 .before .before in
+    let at-client-word = at-link-at .before in
+    let start = at-client-word .before .before .before .before .before .before .before .before in
+    let a = start .args in
+    reply-ready (a .client) (a .target) (tablesOf (a .counts .now) (a .clients .now) (a .links .now) (a .keys .now) (a .values .now) (a .log .now) [] []) (start .pre [] []) _ (at-client-word .client-word .ensures) (at-link-at .link-at .ensures) (at-content2 .content2 .given .1)
 
 returns : tie.Need-returns
 returns c writes reads = let a = c .before .before .before .before .before .before .before .before .before .before .before .args in link-empty (a .client) (a .target) (tablesOf (a .counts .now) (a .clients .now) (a .links .now) (a .keys .now) (a .values .now) (a .log .now) writes reads) (a .bytes .now) (c .before .before .link-at .ensures) (c .enum-told .given .1)

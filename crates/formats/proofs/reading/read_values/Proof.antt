@@ -74,14 +74,20 @@ loop-less c =
 
 loop-again : tie.Need-loop-again Inv-loop μ-loop
 loop-again c =
-    let l = c .before .before .before .before .before .before .before .loop in
-    let some = c .before .before .before .before .before .if1 .taken in
-    let f = c .before .before .before .before .field-at in
-    let k = c .before .before .before .before .before .before .before .before .before .before .read-field in (
-      turn-on (l .inv .0) some (f .ensures .0) (c .before .before .before .take .ensures) (c .before .before .if2 .left) (omega (arith, l .inv, room-left (l .state), some)) (f .ensures .1) (c .next .ensures),
+    let at-if2 = c .before .before in
+    let at-take = at-if2 .before in
+    let at-field-at = at-take .before in
+    let at-if1 = at-field-at .before in
+    let at-loop = at-if1 .before .before in
+    let at-read-field = at-loop .before .before .before in
+    let l = at-loop .loop in
+    let some = at-if1 .if1 .taken in
+    let f = at-field-at .field-at in
+    let k = at-read-field .read-field in (
+      turn-on (l .inv .0) some (f .ensures .0) (at-take .take .ensures) (at-if2 .if2 .left) (omega (arith, l .inv, room-left (l .state), some)) (f .ensures .1) (c .next .ensures),
       omega (arith, loop-less c, l .inv .1),
       length-set (l .values) (l .i) _ ∙ l .inv .2,
-      turn-rowed (l .inv .0) some (f .ensures .0) (c .before .before .before .take .ensures) (c .before .before .if2 .left) (k .result) _ (l .inv .3) (k .ensures) (c .next .ensures),
+      turn-rowed (l .inv .0) some (f .ensures .0) (at-take .take .ensures) (at-if2 .if2 .left) (k .result) _ (l .inv .3) (k .ensures) (c .next .ensures),
     )
 
 finish-requires : tie.Need-finish-requires Inv-loop μ-loop

@@ -45,10 +45,16 @@ allows-requires c κs = c .field-at .ensures .1
 
 returns-2 : tie.Need-returns-2 Inv-loop μ-loop
 returns-2 c =
-    let l = c .before .before .before .before .before .before .before .before .loop in
-    let vs = c .before .before .before .before .before .before .before .before .before .before .before .args .values .now in
-    tested-bad vs (l .i) (l .state) (l .inv .0) (c .before .before .before .before .before .before .if1 .taken) (c .before .before .before .before .before .if2 .left)
-    (fails (allows-is (l .state) (getD vs (l .i) 0) (c .before .before .field-at .ensures .0) (c .before .allows .ensures)) (c .if3 .taken))
+    let at-allows = c .before in
+    let at-field-at = at-allows .before in
+    let at-if2 = at-field-at .before .before .before in
+    let at-if1 = at-if2 .before in
+    let at-loop = at-if1 .before .before in
+    let start = at-loop .before .before .before in
+    let l = at-loop .loop in
+    let vs = start .args .values .now in
+    tested-bad vs (l .i) (l .state) (l .inv .0) (at-if1 .if1 .taken) (at-if2 .if2 .left)
+    (fails (allows-is (l .state) (getD vs (l .i) 0) (at-field-at .field-at .ensures .0) (at-allows .allows .ensures)) (c .if3 .taken))
 
 next-requires : tie.Need-next-requires Inv-loop μ-loop
 next-requires c κs =
@@ -75,10 +81,14 @@ loop-less c =
 
 loop-again : tie.Need-loop-again Inv-loop μ-loop
 loop-again c =
-    let l = c .before .before .before .before .before .before .before .before .before .loop in
-    let vs = c .before .before .before .before .before .before .before .before .before .before .before .before .args .values .now in
+    let at-if2 = c .before .before .before .before .before .before in
+    let at-if1 = at-if2 .before in
+    let at-loop = at-if1 .before .before in
+    let start = at-loop .before .before .before in
+    let l = at-loop .loop in
+    let vs = start .args .values .now in
     let e = c .next .ensures in (
-      rw e (tested-on vs (l .i) (l .state) (l .inv .0) (c .before .before .before .before .before .before .before .if1 .taken) (c .before .before .before .before .before .before .if2 .left) (right c)),
+      rw e (tested-on vs (l .i) (l .state) (l .inv .0) (at-if1 .if1 .taken) (at-if2 .if2 .left) (right c)),
       rowed-on vs (l .i) (l .state) (l .inv .1) (both-right (ltb (getD vs (l .i) 0) (2 ^ widthOf (l .state))) _ (right c)) e,
     )
 

@@ -22,7 +22,13 @@ add-found : tie.Need-add-found Inv-loop μ-loop
 add-found c = omega (arith, c .before .before .before .loop .inv .1, c .before .before .before .before .before .pre .0, count-most (overlaps (c .before .before .before .before .before .args .writes .now) (c .before .before .before .before .before .args .begin) (c .before .before .before .before .before .args .end)) (c .before .before .before .loop .place))
 
 loop-again : tie.Need-loop-again Inv-loop μ-loop
-loop-again c = let e = c .before .before .before .loop .inv .1 in let i = c .before .before .before .loop .place in (search needs, ⊎-elim (λ w. w .1 ∙ rw (e, count-here (overlaps (c .before .before .before .before .before .args .writes .now) (c .before .before .before .before .before .args .begin) (c .before .before .before .before .before .args .end)) i (sym (c .before .overlaps .ensures) ∙ w .0 .taken))) (λ w. w .1 ∙ e ∙ sym (count-past (overlaps (c .before .before .before .before .before .args .writes .now) (c .before .before .before .before .before .args .begin) (c .before .before .before .before .before .args .end)) i (sym (c .before .overlaps .ensures) ∙ w .0 .left))) (c .if1 .came))
+loop-again c =
+    let at-overlaps = c .before in
+    let at-loop = at-overlaps .before .before in
+    let start = at-loop .before .before in
+    let e = at-loop .loop .inv .1 in
+    let i = at-loop .loop .place in
+    (search needs, ⊎-elim (λ w. w .1 ∙ rw (e, count-here (overlaps (start .args .writes .now) (start .args .begin) (start .args .end)) i (sym (at-overlaps .overlaps .ensures) ∙ w .0 .taken))) (λ w. w .1 ∙ e ∙ sym (count-past (overlaps (start .args .writes .now) (start .args .begin) (start .args .end)) i (sym (at-overlaps .overlaps .ensures) ∙ w .0 .left))) (c .if1 .came))
 
 returns : tie.Need-returns Inv-loop μ-loop
 returns c = let e : c .before .loop .place ≡ c .before .before .before .args .begun = omega arith in c .before .loop .inv .1 ∙ rw e

@@ -29,9 +29,18 @@ returns-4 c = λ t. sym (and-goes-on _
 
 returns-5 : tie.Need-returns-5
 unfolding clientSound
-returns-5 c = λ t. sym (and-goes-on _
-    (and-goes-on _ (and-goes-on _ (holds (c .before .before .before .before .before .before .before .before .row-sound .ensures t) (c .before .before .before .before .before .before .before .if1 .left)) (holds (c .before .before .before .before .before .before .links-sound .ensures t) (c .before .before .before .before .before .if2 .left))) (holds (c .before .before .before .before .all-received-sound .ensures t) (c .before .before .before .if3 .left)))
-    (or-goes-on _ (is-not {v = idle} (c .before .before .client-word .ensures) (c .before .if4 .left)) (sym (c .is-pending .ensures))))
+returns-5 c =
+    let at-if4 = c .before in
+    let at-client-word = at-if4 .before in
+    let at-if3 = at-client-word .before in
+    let at-all-received-sound = at-if3 .before in
+    let at-if2 = at-all-received-sound .before in
+    let at-links-sound = at-if2 .before in
+    let at-if1 = at-links-sound .before in
+    let at-row-sound = at-if1 .before in
+    λ t. sym (and-goes-on _
+    (and-goes-on _ (and-goes-on _ (holds (at-row-sound .row-sound .ensures t) (at-if1 .if1 .left)) (holds (at-links-sound .links-sound .ensures t) (at-if2 .if2 .left))) (holds (at-all-received-sound .all-received-sound .ensures t) (at-if3 .if3 .left)))
+    (or-goes-on _ (is-not {v = idle} (at-client-word .client-word .ensures) (at-if4 .if4 .left)) (sym (c .is-pending .ensures))))
 
 pub client-sound-spec : {M : Type 1} → statement M
 client-sound-spec =

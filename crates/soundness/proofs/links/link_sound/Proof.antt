@@ -18,20 +18,36 @@ returns-2 c = λ t. let a = c .before .before .before .before .before .before .b
     ) at (c .before .uses .ensures)) (c .if2 .taken))
 
 returns-3 : tie.Need-returns-3
-returns-3 c = λ t. let a = c .before .before .before .before .before .before .before .before .before .before .before .args in
-    request-sound (withLinks (a .links .now) (withClients (a .clients .now) (withCounts (a .counts .now) t))) (a .client) (a .target) (c .before .before .before .before .before .before .before .link-word .ensures) (c .before .if3 .taken) (holds (rw (
-      (c .before .before .before .before .before .client-word .ensures),
-      (c .before .before .before .before .client-word2 .ensures),
-    ) at (c .before .before .before .uses .ensures))
-    (c .before .before .if2 .left)) (rw (c .before .before .before .before .before .client-word .ensures) at (c .request-on .ensures (withClients (a .clients .now) t)))
+returns-3 c =
+    let at-if3 = c .before in
+    let at-if2 = at-if3 .before in
+    let at-uses = at-if2 .before in
+    let at-client-word2 = at-uses .before in
+    let at-client-word = at-client-word2 .before in
+    let at-link-word = at-client-word .before .before in
+    let start = at-link-word .before .before .before .before in
+    λ t. let a = start .args in
+    request-sound (withLinks (a .links .now) (withClients (a .clients .now) (withCounts (a .counts .now) t))) (a .client) (a .target) (at-link-word .link-word .ensures) (at-if3 .if3 .taken) (holds (rw (
+      (at-client-word .client-word .ensures),
+      (at-client-word2 .client-word2 .ensures),
+    ) at (at-uses .uses .ensures))
+    (at-if2 .if2 .left)) (rw (at-client-word .client-word .ensures) at (c .request-on .ensures (withClients (a .clients .now) t)))
 
 returns-4 : tie.Need-returns-4
-returns-4 c = λ t. let a = c .before .before .before .before .before .before .before .before .before .before .before .before .args in
-    reply-sound (withLinks (a .links .now) (withClients (a .clients .now) (withCounts (a .counts .now) t))) (a .client) (a .target) (c .before .before .before .before .before .before .before .before .link-word .ensures) (c .before .if4 .taken) (holds (rw (
-      (c .before .before .before .before .before .before .client-word .ensures),
-      (c .before .before .before .before .before .client-word2 .ensures),
-    ) at (c .before .before .before .before .uses .ensures))
-    (c .before .before .before .if2 .left)) (rw (c .before .before .before .before .before .before .client-word .ensures) at (c .reply-on .ensures (withClients (a .clients .now) t)))
+returns-4 c =
+    let at-if4 = c .before in
+    let at-if2 = at-if4 .before .before in
+    let at-uses = at-if2 .before in
+    let at-client-word2 = at-uses .before in
+    let at-client-word = at-client-word2 .before in
+    let at-link-word = at-client-word .before .before in
+    let start = at-link-word .before .before .before .before in
+    λ t. let a = start .args in
+    reply-sound (withLinks (a .links .now) (withClients (a .clients .now) (withCounts (a .counts .now) t))) (a .client) (a .target) (at-link-word .link-word .ensures) (at-if4 .if4 .taken) (holds (rw (
+      (at-client-word .client-word .ensures),
+      (at-client-word2 .client-word2 .ensures),
+    ) at (at-uses .uses .ensures))
+    (at-if2 .if2 .left)) (rw (at-client-word .client-word .ensures) at (c .reply-on .ensures (withClients (a .clients .now) t)))
 
 returns-5 : tie.Need-returns-5
 returns-5 c = λ t. let a = c .before .before .before .before .before .before .before .before .before .before .before .args in

@@ -27,15 +27,24 @@ returns-3 c = λ t. rw (
 )
 
 returns-4 : tie.Need-returns-4
-returns-4 c = λ t. rw (
-  ← (c .before .before .before .before .before .before .before .before .count-at .ensures),
-  ← (c .before .before .before .before .before .count-at2 .ensures),
-  ← (c .before .before .count-at3 .ensures),
-  ← (c .count-at4 .ensures),
-  holds (c .before .before .before .before .before .before .before .between .ensures) (c .before .before .before .before .before .before .if1 .left),
-  holds (c .before .before .before .before .between2 .ensures) (c .before .before .before .if2 .left),
-  le-leb _ _ (c .before .if3 .left),
-)
+returns-4 c =
+    let at-if3 = c .before in
+    let at-count-at3 = at-if3 .before in
+    let at-if2 = at-count-at3 .before in
+    let at-between2 = at-if2 .before in
+    let at-count-at2 = at-between2 .before in
+    let at-if1 = at-count-at2 .before in
+    let at-between = at-if1 .before in
+    let at-count-at = at-between .before in
+    λ t. rw (
+      ← (at-count-at .count-at .ensures),
+      ← (at-count-at2 .count-at2 .ensures),
+      ← (at-count-at3 .count-at3 .ensures),
+      ← (c .count-at4 .ensures),
+      holds (at-between .between .ensures) (at-if1 .if1 .left),
+      holds (at-between2 .between2 .ensures) (at-if2 .if2 .left),
+      le-leb _ _ (at-if3 .if3 .left),
+    )
 
 pub progress-sound-spec : {M : Type 1} → statement M
 progress-sound-spec =
