@@ -11,17 +11,21 @@ const GOAL: f64 = 1.5;
 
 const HEADS: [&str; 6] = ["servers", "clients", "versions of each server", "proved ns", "Rust ns", "ratio"];
 
-pub fn report(library: StoreLibrary) {
+/// Servers, clients and versions of each server, with tables that hold so many.
+pub fn cases(library: StoreLibrary) -> Vec<([u32; 3], Tables)> {
     let presses = [(1, 2), (4, 4), (16, 2), (16, 16)];
-    let sizes: Vec<[u32; 3]> =
-        presses.iter().flat_map(|&(servers, clients)| [1, 64, 256].map(|versions| [servers, clients, versions])).collect();
-    let all_tables: Vec<Tables> = sizes.iter().map(|&size| filled(library, size)).collect();
-    let times = least_of_passes(&all_tables, |tables| beside(|| library.sound(tables), || words::sound(tables)).into());
-    let row = |(size, [proved, rust]): (&[u32; 3], [f64; 2])| {
+    let sizes = presses.iter().flat_map(|&(servers, clients)| [1, 64, 256].map(|versions| [servers, clients, versions]));
+    sizes.map(|size| (size, filled(library, size))).collect()
+}
+
+pub fn report(library: StoreLibrary) {
+    let cases = cases(library);
+    let times = least_of_passes(&cases, |(_, tables)| beside(|| library.sound(tables), || words::sound(tables)).into());
+    let row = |((size, _), [proved, rust]): (&([u32; 3], Tables), [f64; 2])| {
         let numbers = size.map(|number| number.to_string());
         [&numbers[..], &[time(proved), time(rust), ratio(proved, rust, GOAL)]].concat()
     };
-    let rows: Vec<Vec<String>> = sizes.iter().zip(times).map(row).collect();
+    let rows: Vec<Vec<String>> = cases.iter().zip(times).map(row).collect();
     print("The check of sound tables", &HEADS, &rows);
 }
 

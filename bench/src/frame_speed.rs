@@ -8,7 +8,7 @@ use frames::message::to_server;
 
 const GOAL: f64 = 3.0;
 /// More than any frame has.
-const MOST_BYTES: usize = 1500;
+pub const MOST_BYTES: usize = 1500;
 const HEADS: [&str; 9] = [
     "kind",
     "entries",
@@ -21,7 +21,7 @@ const HEADS: [&str; 9] = [
     "times as long",
 ];
 /// Each kind, those with a list of entries with few and with the most.
-const FRAMES: [(u32, u32); 16] = [
+pub const FRAMES: [(u32, u32); 16] = [
     (1, 0),
     (2, 0),
     (3, 0),
@@ -64,15 +64,15 @@ fn row(library: FrameLibrary, (kind, entries): (u32, u32), times: [f64; 4]) -> V
 }
 
 /// A message, its entries in slices, and its frame.
-struct Lent {
-    fixed: Fixed,
-    keys: Vec<u32>,
-    numbers: Vec<u32>,
-    frame: Vec<u8>,
+pub struct Lent {
+    pub fixed: Fixed,
+    pub keys: Vec<u32>,
+    pub numbers: Vec<u32>,
+    pub frame: Vec<u8>,
 }
 
 impl Lent {
-    fn of(library: FrameLibrary, kind: u32, entries: u32) -> Lent {
+    pub fn of(library: FrameLibrary, kind: u32, entries: u32) -> Lent {
         let fixed = message(kind, entries);
         let keys: Vec<u32> = (0..entries).map(|entry| 256 * (1 + entry % 255) + entry % 16).collect();
         let numbers: Vec<u32> = (0..entries).map(|entry| 1 + entry * 251 % 65535).collect();

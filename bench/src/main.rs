@@ -4,6 +4,7 @@ mod check;
 mod clock;
 mod frame_speed;
 mod growth;
+mod instructions;
 mod plans;
 mod program;
 mod sides;
@@ -12,6 +13,7 @@ mod table;
 
 use clock::Clock;
 use ffi::{FrameLibrary, StoreLibrary};
+use std::path::Path;
 
 fn main() {
     let given: Vec<String> = std::env::args().skip(1).collect();
@@ -20,6 +22,11 @@ fn main() {
     };
     let store = StoreLibrary::linked().expect("libstore_exports.a is linked: run bench/run");
     let frame = FrameLibrary::linked().expect("libframe_exports.a is linked: run bench/run");
+    match parts {
+        [part] if part == "count" => return instructions::count(store, frame),
+        [part, folder] if part == "instructions" => return instructions::report(Path::new(folder)),
+        _ => {}
+    }
     let clock = Clock::calibrated();
     const PARTS: [&str; 5] = ["steps", "growth", "check", "frames", "program"];
     assert!(parts.iter().all(|part| PARTS.contains(&part.as_str())), "the parts are {PARTS:?}");

@@ -1,4 +1,4 @@
-//! The sides that are measured on a plan: the least ticks of each of its steps over several rounds, each from a new opening.
+//! The sides that are measured on a plan, each from a new opening: by the least ticks of each step over several rounds, or by another meter.
 
 use crate::clock::{elapsed_ticks, Clock};
 use crate::plans::Plan;
@@ -16,12 +16,25 @@ pub struct Measured {
 
 /// All four sides, each for several rounds.
 pub fn measured(clock: &Clock, library: StoreLibrary, plan: &Plan, rounds: usize) -> Measured {
+    let meter = Least { clock, rounds };
     Measured {
-        inner: inner(clock, library, plan, rounds),
-        rust: rust(clock, plan, rounds),
-        checked: checked(clock, library, plan, rounds),
-        rust_checked: rust_checked(clock, library, plan, rounds),
+        inner: inner(&meter, library, plan),
+        rust: rust(&meter, plan),
+        checked: checked(&meter, library, plan),
+        rust_checked: rust_checked(&meter, library, plan),
     }
+}
+
+/// How the steps of a plan are measured on a side, which says how a plan starts, how a step is taken, and what follows it unmeasured.
+pub trait Meter {
+    type Told;
+    fn play<S, R>(
+        &self,
+        plan: &Plan,
+        fresh: impl Fn() -> S,
+        take: impl Fn(&mut S, &Step) -> R,
+        follow: impl Fn(&mut S, &Step),
+    ) -> Self::Told;
 }
 
 impl Measured {
@@ -43,29 +56,30 @@ fn lesser(one: Vec<f64>, other: Vec<f64>) -> Vec<f64> {
 /// The proved and the Rust step alone, the sum of a plan's last steps.
 pub fn last_steps(clock: &Clock, library: StoreLibrary, plan: &Plan, steps: usize, rounds: usize) -> [f64; 2] {
     let sum = |times: Vec<f64>| times[times.len() - steps..].iter().sum();
-    [sum(inner(clock, library, plan, rounds)), sum(rust(clock, plan, rounds))]
+    let meter = Least { clock, rounds };
+    [sum(inner(&meter, library, plan)), sum(rust(&meter, plan))]
 }
 
 /// The proved step on tables known to be sound.
-fn inner(clock: &Clock, library: StoreLibrary, plan: &Plan, rounds: usize) -> Vec<f64> {
+pub fn inner<M: Meter>(meter: &M, library: StoreLibrary, plan: &Plan) -> M::Told {
     // The plan's steps start at an opening, and steps keep tables sound.
     let take = |tables: &mut Tables, step: &Step| unsafe { library.number_sound(tables, step) };
-    least(clock, plan, rounds, || opened_tables(library, plan), take, |_, _| ())
+    meter.play(plan, || opened_tables(library, plan), take, |_, _| ())
 }
 
 /// The model's step on its own structs, which checks no tables.
-fn rust(clock: &Clock, plan: &Plan, rounds: usize) -> Vec<f64> {
-    least(clock, plan, rounds, || opened_store(plan), |store, step| store.take(step), |_, _| ())
+pub fn rust<M: Meter>(meter: &M, plan: &Plan) -> M::Told {
+    meter.play(plan, || opened_store(plan), |store, step| store.take(step), |_, _| ())
 }
 
 /// The proved public step.
-fn checked(clock: &Clock, library: StoreLibrary, plan: &Plan, rounds: usize) -> Vec<f64> {
+pub fn checked<M: Meter>(meter: &M, library: StoreLibrary, plan: &Plan) -> M::Told {
     let take = |tables: &mut Tables, step: &Step| library.number(tables, step);
-    least(clock, plan, rounds, || opened_tables(library, plan), take, |_, _| ())
+    meter.play(plan, || opened_tables(library, plan), take, |_, _| ())
 }
 
 /// The Rust check of the same tables, then the model's step on its structs. What keeps the tables in step is not measured.
-fn rust_checked(clock: &Clock, library: StoreLibrary, plan: &Plan, rounds: usize) -> Vec<f64> {
+pub fn rust_checked<M: Meter>(meter: &M, library: StoreLibrary, plan: &Plan) -> M::Told {
     let fresh = || (opened_tables(library, plan), opened_store(plan));
     let take = |(tables, store): &mut (Tables, Store), step: &Step| {
         assert!(words::sound(tables));
@@ -74,28 +88,37 @@ fn rust_checked(clock: &Clock, library: StoreLibrary, plan: &Plan, rounds: usize
     let follow = |(tables, _): &mut (Tables, Store), step: &Step| {
         library.number(tables, step);
     };
-    least(clock, plan, rounds, fresh, take, follow)
+    meter.play(plan, fresh, take, follow)
 }
 
-fn least<S, R>(
-    clock: &Clock,
-    plan: &Plan,
+/// The least nanoseconds of each step over several rounds.
+struct Least<'a> {
+    clock: &'a Clock,
     rounds: usize,
-    fresh: impl Fn() -> S,
-    take: impl Fn(&mut S, &Step) -> R,
-    follow: impl Fn(&mut S, &Step),
-) -> Vec<f64> {
-    let mut least = vec![u64::MAX; plan.steps.len()];
-    for _ in 0..rounds {
-        let mut state = fresh();
-        for (step, best) in plan.steps.iter().zip(&mut least) {
-            let (ticks, answer) = elapsed_ticks(|| take(&mut state, step));
-            *best = ticks.min(*best);
-            drop(answer);
-            follow(&mut state, step);
+}
+
+impl Meter for Least<'_> {
+    type Told = Vec<f64>;
+
+    fn play<S, R>(
+        &self,
+        plan: &Plan,
+        fresh: impl Fn() -> S,
+        take: impl Fn(&mut S, &Step) -> R,
+        follow: impl Fn(&mut S, &Step),
+    ) -> Vec<f64> {
+        let mut least = vec![u64::MAX; plan.steps.len()];
+        for _ in 0..self.rounds {
+            let mut state = fresh();
+            for (step, best) in plan.steps.iter().zip(&mut least) {
+                let (ticks, answer) = elapsed_ticks(|| take(&mut state, step));
+                *best = ticks.min(*best);
+                drop(answer);
+                follow(&mut state, step);
+            }
         }
+        least.into_iter().map(|ticks| self.clock.nanoseconds(ticks)).collect()
     }
-    least.into_iter().map(|ticks| clock.nanoseconds(ticks)).collect()
 }
 
 pub fn opened_tables(library: StoreLibrary, plan: &Plan) -> Tables {

@@ -12,7 +12,7 @@ const HEADS: [&str; 7] = ["step", "inner ns", "Rust ns", "ratio", "checked ns", 
 const GOAL: f64 = 1.5;
 
 /// Servers, clients, how many WRITEs and READs, and the rounds of a pass.
-const PRESSES: [(u32, u32, usize, usize); 2] = [(4, 4, 60, 50), (16, 16, 255, 4)];
+pub const PRESSES: [(u32, u32, usize, usize); 2] = [(4, 4, 60, 50), (16, 16, 255, 4)];
 
 pub fn report(clock: &Clock, library: StoreLibrary) {
     let presses = PRESSES.map(|(servers, clients, times, rounds)| {
@@ -66,7 +66,7 @@ fn opening_row(library: StoreLibrary, plan: &Plan) -> Vec<String> {
 }
 
 /// The kinds of all plans, in the order in which they first stand there.
-fn kinds(plans: &[Plan]) -> Vec<&'static str> {
+pub fn kinds(plans: &[Plan]) -> Vec<&'static str> {
     let mut found = Vec::new();
     for &kind in plans.iter().flat_map(|plan| &plan.kinds) {
         if !found.contains(&kind) {
