@@ -1,4 +1,2 @@
--- Document 01's sample, line by line, and its answers.
-pub mod Answers
-pub mod AnswerLaws
-pub mod Computed
+-- Document 01's sample, line by line, and what "The yard program" prints for it.
+pub mod Sample

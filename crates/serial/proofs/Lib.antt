@@ -25,4 +25,3 @@ pub mod ReplySteps
 pub mod OpeningStep
 pub mod Numbers
 pub mod Theorem
-pub mod Playing

@@ -5,6 +5,5 @@ pub mod History
 pub mod Row
 pub mod Claim
 pub mod Consequences
-pub mod Encoded
 pub mod Sample
 pub mod Wrong

@@ -1,7 +1,7 @@
 -- That the claim rules wrong stores out: machines that a reviewer would try, each refuted by one list of steps.
 use Prim.Native.Nat.{ℕ, suc, _-_, _<_}
-use mathlib.Core.Path.{_≡_, refl, ap, subst, _∙_}
-use mathlib.Core.Bool.{false, cond, false≢true}
+use mathlib.Core.Path.{_≡_, refl, subst, _∙_}
+use mathlib.Core.Bool.{cond}
 use lib.Dec.{eqb}
 use mathlib.Core.Option.{some}
 use mathlib.Core.List.{List, [], _∷_}
@@ -37,7 +37,6 @@ use Rattle.serial.specs.Steps.{Step, opening, beginning-write, beginning
 use Rattle.serial.specs.History.{changed, Transaction, writeOf, readOf, reading, History, openedWith, history}
 use Rattle.serial.specs.Row.{readsOf, rowTo, row, Walk, RealTime}
 use Rattle.serial.specs.Claim.{EndsAt, Unfinished, IsReply, Claim, Demand3}
-use Rattle.serial.specs.Encoded.{isOk, PlayedAll}
 use Rattle.serial.specs.Sample.{zeros}
 
 -- the store, but for the answers of delivered replies
@@ -248,7 +247,3 @@ not-latest d =
     subst (Walk (told showingLatest 2 crossing .initial)) (computed .crossingRow) (claim showingLatest 2 crossing d (computed .acceptedB) .walk) in
     let z : _≡_ {A = ℕ} 1800 1200 = walk .0 refl 0 refl ∙ computed .crossingFirst in
     omega arith
-
--- Not a store but a player of lists: one that refuses every opening and leaves the tables does not keep what `play_all` promises.
-pub not-refusing : ((method k p : ℕ) (setpoints words pool : List ℕ) (t : Tables) → PlayedAll method k p setpoints words pool t false t) → ⊥
-not-refusing promised = false≢true (promised 2 2 2 first [] [] zeros .accepted ∙ ap isOk (computed .acceptedB))

@@ -1,0 +1,133 @@
+-- Document 01's sample: the text of "The yard program" computes to what document 01 prints for it, every answer and then the register,
+-- on the definitions that the contracts of `playing` and `register_text` cite. Texts are bytes, each line below its letters.
+use Prim.Native.Nat.{ℕ}
+use mathlib.Core.Path.{_≡_, refl}
+use mathlib.Core.List.{List, [], _∷_, _++_, flatMap}
+use lib.ListN.{replicate}
+use Rattle.ranges.specs.All.{allBelow, anyBelow}
+use Rattle.ranges.specs.Sum.{sumBelow}
+use Rattle.ranges.specs.First.{firstFrom}
+use Rattle.ranges.specs.Last.{lastBelow}
+use Rattle.ranges.specs.Turns.{turns}
+use Rattle.tables.specs.Links.{linkAt, putLink}
+use Rattle.tables.specs.Tables.{Tables, tablesOf}
+use Rattle.server.specs.Held.{appended}
+use Rattle.coordinator.specs.Log as log
+use Rattle.rules.specs.Begin.{begunWrite, begunRead}
+use Rattle.rules.specs.Request.{onSet, onEnter, onWhichKeys, onGet, onGetAll, onRequestIn, requestDelivered}
+use Rattle.rules.specs.Reply.{onSetDone, onEntered, onKeys, onGot, onAll, onReplyIn, replyDelivered}
+use Rattle.soundness.specs.Sound.{longEnough, pressFits, scalarsSound, keyInRange, serverSound, entrySound, logSound, stateAllowed, uses}
+use Rattle.soundness.specs.Sound.{requestSound, replySound, contentSound, linkSound, receivedSound, clientSound, writeSound, readSound}
+use Rattle.soundness.specs.Sound.{openSound, recordsSound, sound}
+use Rattle.refusals.specs.Refusals.{openRefusal, writeRefusal, readRefusal, deliveryRefusal}
+use Rattle.refusals.specs.Steps as store
+use Rattle.listing.specs.Register.{placesBelow, passing, inserted, insertedAll, listedTo}
+use Rattle.schedule.specs.Lines.{linesOf}
+use Rattle.schedule.specs.Numbers.{digitOf, digitHead, readOn, numberOf, spacedOf, numbersBehind}
+use Rattle.schedule.specs.Decimal.{digits, spacedAll}
+use Rattle.schedule.specs.Steps.{stepOf}
+use Rattle.playing.specs.Played.{playedLine, played, answersFrom}
+use Rattle.register_text.specs.Text.{registerPrinted}
+
+-- the input
+unfoldable pub text : List ℕ
+text =
+    -- O 2 2 2 1200 30
+    79 ∷ 32 ∷ 50 ∷ 32 ∷ 50 ∷ 32 ∷ 50 ∷ 32 ∷ 49 ∷ 50 ∷ 48 ∷ 48 ∷ 32 ∷ 51 ∷ 48 ∷ 10 ∷
+    -- W 0 3 1800 45
+    87 ∷ 32 ∷ 48 ∷ 32 ∷ 51 ∷ 32 ∷ 49 ∷ 56 ∷ 48 ∷ 48 ∷ 32 ∷ 52 ∷ 53 ∷ 10 ∷
+    -- > 0 0
+    62 ∷ 32 ∷ 48 ∷ 32 ∷ 48 ∷ 10 ∷
+    -- R 1 3
+    82 ∷ 32 ∷ 49 ∷ 32 ∷ 51 ∷ 10 ∷
+    -- > 1 16
+    62 ∷ 32 ∷ 49 ∷ 32 ∷ 49 ∷ 54 ∷ 10 ∷
+    -- > 0 1
+    62 ∷ 32 ∷ 48 ∷ 32 ∷ 49 ∷ 10 ∷
+    -- < 0 0
+    60 ∷ 32 ∷ 48 ∷ 32 ∷ 48 ∷ 10 ∷
+    -- < 0 1
+    60 ∷ 32 ∷ 48 ∷ 32 ∷ 49 ∷ 10 ∷
+    -- > 0 16
+    62 ∷ 32 ∷ 48 ∷ 32 ∷ 49 ∷ 54 ∷ 10 ∷
+    -- < 1 16
+    60 ∷ 32 ∷ 49 ∷ 32 ∷ 49 ∷ 54 ∷ 10 ∷
+    -- > 1 0
+    62 ∷ 32 ∷ 49 ∷ 32 ∷ 48 ∷ 10 ∷
+    -- < 1 0
+    60 ∷ 32 ∷ 49 ∷ 32 ∷ 48 ∷ 10 ∷
+    -- > 1 1
+    62 ∷ 32 ∷ 49 ∷ 32 ∷ 49 ∷ 10 ∷
+    -- < 1 1
+    60 ∷ 32 ∷ 49 ∷ 32 ∷ 49 ∷ 10 ∷
+    -- < 0 16
+    60 ∷ 32 ∷ 48 ∷ 32 ∷ 49 ∷ 54 ∷ 10 ∷ []
+
+-- the answers, each behind its line's number
+unfoldable pub answers : List ℕ
+answers =
+    -- 1 ok
+    49 ∷ 32 ∷ 111 ∷ 107 ∷ 10 ∷
+    -- 2 ok
+    50 ∷ 32 ∷ 111 ∷ 107 ∷ 10 ∷
+    -- 3 ok
+    51 ∷ 32 ∷ 111 ∷ 107 ∷ 10 ∷
+    -- 4 ok
+    52 ∷ 32 ∷ 111 ∷ 107 ∷ 10 ∷
+    -- 5 ok
+    53 ∷ 32 ∷ 111 ∷ 107 ∷ 10 ∷
+    -- 6 ok
+    54 ∷ 32 ∷ 111 ∷ 107 ∷ 10 ∷
+    -- 7 wait
+    55 ∷ 32 ∷ 119 ∷ 97 ∷ 105 ∷ 116 ∷ 10 ∷
+    -- 8 next
+    56 ∷ 32 ∷ 110 ∷ 101 ∷ 120 ∷ 116 ∷ 10 ∷
+    -- 9 ok
+    57 ∷ 32 ∷ 111 ∷ 107 ∷ 10 ∷
+    -- 10 next
+    49 ∷ 48 ∷ 32 ∷ 110 ∷ 101 ∷ 120 ∷ 116 ∷ 10 ∷
+    -- 11 ok
+    49 ∷ 49 ∷ 32 ∷ 111 ∷ 107 ∷ 10 ∷
+    -- 12 wait
+    49 ∷ 50 ∷ 32 ∷ 119 ∷ 97 ∷ 105 ∷ 116 ∷ 10 ∷
+    -- 13 ok
+    49 ∷ 51 ∷ 32 ∷ 111 ∷ 107 ∷ 10 ∷
+    -- 14 read 0 0=1200 1=30
+    49 ∷ 52 ∷ 32 ∷ 114 ∷ 101 ∷ 97 ∷ 100 ∷ 32 ∷ 48 ∷ 32 ∷ 48 ∷ 61 ∷ 49 ∷ 50 ∷ 48 ∷ 48 ∷ 32 ∷ 49 ∷ 61 ∷ 51 ∷ 48 ∷ 10 ∷
+    -- 15 write 1
+    49 ∷ 53 ∷ 32 ∷ 119 ∷ 114 ∷ 105 ∷ 116 ∷ 101 ∷ 32 ∷ 49 ∷ 10 ∷ []
+
+-- "then, at the end of the text, the register"
+unfoldable pub lines : List ℕ
+lines =
+    -- R 0 1 4 14 1
+    82 ∷ 32 ∷ 48 ∷ 32 ∷ 49 ∷ 32 ∷ 52 ∷ 32 ∷ 49 ∷ 52 ∷ 32 ∷ 49 ∷ 10 ∷
+    -- W 1 0 1 2 15
+    87 ∷ 32 ∷ 49 ∷ 32 ∷ 48 ∷ 32 ∷ 49 ∷ 32 ∷ 50 ∷ 32 ∷ 49 ∷ 53 ∷ 10 ∷ []
+
+-- tables just long enough, all zero
+unfoldable pub zeros : Tables
+zeros =
+    tablesOf (replicate 23 0) (replicate 76 0) (replicate 102 0)
+    (replicate 512 0) (replicate 512 0) (replicate 512 0)
+    (replicate 1275 0) (replicate 1275 0)
+
+-- the tables that some lines leave
+unfoldable pub leftBy : List (List ℕ) → Tables → Tables
+leftBy [] t = t
+leftBy (line ∷ lines) t = leftBy lines (playedLine line t .tables)
+
+-- all that a text prints
+unfoldable pub printed : List ℕ → Tables → List ℕ
+printed text t = answersFrom 1 (linesOf text) t ++ registerPrinted (leftBy (linesOf text) t)
+
+pub sample-printed : printed text zeros ≡ answers ++ lines
+unfolding text answers lines zeros leftBy printed linesOf digitOf digitHead readOn numberOf spacedOf numbersBehind digits spacedAll stepOf
+    played answersFrom registerPrinted flatMap placesBelow passing inserted insertedAll listedTo
+    store.open′ store.beginWrite store.beginRead store.deliverRequest store.deliverReply
+    openRefusal writeRefusal readRefusal deliveryRefusal longEnough pressFits turns
+    sound scalarsSound keyInRange serverSound entrySound logSound stateAllowed uses requestSound replySound contentSound linkSound
+    receivedSound clientSound writeSound readSound openSound recordsSound allBelow anyBelow sumBelow linkAt putLink firstFrom lastBelow
+    appended log.entered begunWrite begunRead onSet onEnter onWhichKeys onGet onGetAll onRequestIn requestDelivered
+    onSetDone onEntered onKeys onGot onAll onReplyIn replyDelivered
+sample-printed = refl
