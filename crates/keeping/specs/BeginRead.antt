@@ -22,8 +22,7 @@ use Rattle.rules.specs.Begin.{lastTag, sentGets, sendAsk, sentAsks, asking, beg
 use Rattle.soundness.specs.Sound.{isWriting, isReading, uses}
 use Rattle.soundness.specs.Facts.{ClientFacts, ReadFacts, RecordsFacts, Sound}
 use Rattle.soundness.specs.Room.{few-servers, client-row, client-links, link-row, next-read}
-use Rattle.refusals.specs.Refusals.{readRefusal}
-use Rattle.keeping.specs.Accepted.{neither, Beginnable, readable}
+use Rattle.keeping.specs.Accepted.{neither, Beginnable, Readable}
 use Rattle.keeping.specs.Links.{linkWord, put-same, put-other, put-beside}
 use Rattle.keeping.specs.States.{masked-below, not-all, received-none, allowed-by-A, allowed-by-B, allowed-by-C, uses-keys, uses-all, request-keys, request-all}
 use Rattle.keeping.specs.Frame.{Kept, write-kept, read-kept}
@@ -295,6 +294,6 @@ module _ (q mask : ℕ) (t : Tables) (s : Sound t) (b : Beginnable q mask t) (fe
       (λ e. rw (ne-eqb (methodOf t) 1 d, eq-eqb (methodOf t) 2 e) (keptB e))
       (λ f. rw (ne-eqb (methodOf t) 1 d, ne-eqb (methodOf t) 2 f) (keptC d f)))
 
-module _ (q mask : ℕ) (t : Tables) (s : Sound t) (e : readRefusal q mask t ≡ 0) where
+module _ (q mask : ℕ) (t : Tables) (s : Sound t) (a : Readable q mask t) where
   pub begunRead-kept : Kept q t (begunRead q mask t)
-  begunRead-kept = let a = readable q mask t e in begun-read q mask t s (a .begin) (a .few) (a .part)
+  begunRead-kept = begun-read q mask t s (a .begin) (a .few) (a .part)

@@ -20,8 +20,7 @@ use Rattle.rules.specs.Begin.{nextCount, storedSetpoints, sentSets, begunWrite}
 use Rattle.soundness.specs.Sound.{isWriting, isReading, uses}
 use Rattle.soundness.specs.Facts.{ClientFacts, WriteFacts, RecordsFacts, Sound}
 use Rattle.soundness.specs.Room.{few-servers, client-fits, client-row, client-links, next-write}
-use Rattle.refusals.specs.Refusals.{writeRefusal}
-use Rattle.keeping.specs.Accepted.{Beginnable, writable}
+use Rattle.keeping.specs.Accepted.{Beginnable, Writable}
 use Rattle.keeping.specs.Links.{linkWord}
 use Rattle.keeping.specs.States.{masked-below, key-own, not-all, received-none, allowed-writing, uses-writing, request-writing}
 use Rattle.keeping.specs.Frame.{Kept, write-kept, read-kept}
@@ -181,7 +180,7 @@ module _ (q mask : ℕ) (setpoints : List ℕ) (t : Tables) (s : Sound t) (b : B
   begun-write =
       wrote-kept q mask (after .clients) (after .links) t s b few begun-moves (word stateField (omega arith)) (word countField (omega arith)) (word recordField (omega arith)) (sent-client after q begun-sent)
 
-module _ (q mask : ℕ) (setpoints : List ℕ) (t : Tables) (s : Sound t) (e : writeRefusal q mask setpoints t ≡ 0) where
+module _ (q mask : ℕ) (setpoints : List ℕ) (t : Tables) (s : Sound t) (a : Writable q mask setpoints t) where
   pub begunWrite-kept : Kept q t (begunWrite q mask setpoints t)
   unfolding begunWrite
-  begunWrite-kept = let a = writable q mask setpoints t e in begun-write q mask setpoints t s (a .begin) (a .few) (a .part)
+  begunWrite-kept = begun-write q mask setpoints t s (a .begin) (a .few) (a .part)

@@ -20,8 +20,7 @@ use Rattle.tables.specs.Links.{linkWidth, linkRow}
 use Rattle.rules.specs.Open.{cleared, holdOne, openedCounts, allServers, opened}
 use Rattle.soundness.specs.Sound.{keyInRange, isOpen}
 use Rattle.soundness.specs.Facts.{Long, Press, ServerFacts, LogFacts, ClientFacts, facts-none, Sound}
-use Rattle.refusals.specs.Refusals.{openRefusal}
-use Rattle.keeping.specs.Accepted.{Openable, openable}
+use Rattle.keeping.specs.Accepted.{Openable}
 use Rattle.keeping.specs.Links.{linkWord}
 use Rattle.keeping.specs.Rounds.{idle-client}
 
@@ -187,7 +186,6 @@ module _ (m k p : ℕ) (setpoints : List ℕ) (t : Tables) (press : Press m k p)
       }
 
 -- "Open" on tables that are long enough, accepted, leaves sound tables.
-pub opened-sound : (m k p : ℕ) (setpoints : List ℕ) (t : Tables) → openRefusal m k p setpoints t ≡ 0 → Sound (opened m k p setpoints t)
-opened-sound m k p setpoints t e =
-    let a = openable m k p setpoints t e in
+pub opened-sound : (m k p : ℕ) (setpoints : List ℕ) (t : Tables) → Openable m k p setpoints t → Sound (opened m k p setpoints t)
+opened-sound m k p setpoints t a =
     opened-facts m k p setpoints (opened m k p setpoints t) (a .press) (opened-words m k p setpoints t a)

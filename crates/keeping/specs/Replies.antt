@@ -9,11 +9,10 @@ use Rattle.tables.specs.declared.links.Content.the-variants.{Nothing, Request, 
 use Rattle.rules.specs.Reply.{onReplyIn, onReply, replyDelivered}
 use Rattle.soundness.specs.Sound.{keyOn}
 use Rattle.soundness.specs.Facts.{Sound}
-use Rattle.refusals.specs.Refusals.{deliveryRefusal}
 use Rattle.keeping.specs.Links.{numberOn, reply-kind, reply-words}
 use Rattle.keeping.specs.States.{by-state}
 use Rattle.keeping.specs.Frame.{Kept, kept-same}
-use Rattle.keeping.specs.Accepted.{deliverable, target-below}
+use Rattle.keeping.specs.Accepted.{Deliverable, target-below}
 use Rattle.keeping.specs.Came.{Came, used}
 use Rattle.keeping.specs.OnSetDone.{set-done}
 use Rattle.keeping.specs.OnEntered.{entered-delivered}
@@ -32,12 +31,11 @@ in-state q i t a =
     (λ e. rw e (all-delivered q i t a e))
 
 -- The delivery, accepted or refused by 9, leaves sound tables.
-module _ (q i : ℕ) (t : Tables) (s : Sound t) (e : deliveryRefusal q i t ≡ 0) where
+module _ (q i : ℕ) (t : Tables) (s : Sound t) (d : Deliverable q i t) where
   by-content : (c : Content) → contentAt t q i ≡ c → Kept q t (onReply c q i t .tables)
   by-content Nothing h = kept-same q t s
   by-content (Request w) h = kept-same q t s
   by-content (Reply w) h =
-      let d = deliverable q i t e in
       let target = target-below t s i (d .target) in
       let kind = s .client q (d .client) .link i target .kind in
       let came : Came q i t = record { sound = s; client = d .client; target = target; early = d .early; kind = reply-kind (t .links) q i w kind h } in

@@ -23,8 +23,7 @@ use Rattle.tables.specs.declared.links.Content.{Content}
 use Rattle.tables.specs.declared.links.Content.the-variants.{Nothing, Request, Reply}
 use Rattle.soundness.specs.Facts.{facts-between, ClientFacts, LinkFacts, Sound}
 use Rattle.soundness.specs.Room.{link-row}
-use Rattle.refusals.specs.Refusals.{deliveryRefusal}
-use Rattle.keeping.specs.Accepted.{Deliverable, deliverable, target-below, holding-some}
+use Rattle.keeping.specs.Accepted.{Deliverable, target-below, holding-some}
 use Rattle.keeping.specs.Links.{linkWord, kindOn, numberOn, kind-full, pending-at, LinkAsks, request-kind, request-words, put-same, put-other, link-asks, asks-link}
 use Rattle.keeping.specs.States.{received-none, none-received, not-empty, by-state, keys-target, masked-server, holding-log, own-key, own-in-range, uses-writing, request-writing, request-entering, reply-writing, reply-entering, reply-keys, reply-setpoints, reply-all}
 use Rattle.keeping.specs.Appends.{stored-step, stored-kept, entered-step, entry-more, entered-kept}
@@ -198,11 +197,10 @@ module _ (q i : ℕ) (t : Tables) (s : Sound t) (d : Deliverable q i t) (asked :
       (λ e. rw e (all-delivered e))
 
 -- The delivery of a request, accepted or refused by 8 or 9, leaves sound tables.
-module _ (q i : ℕ) (t : Tables) (s : Sound t) (e : deliveryRefusal q i t ≡ 0) where
+module _ (q i : ℕ) (t : Tables) (s : Sound t) (d : Deliverable q i t) where
   by-content : (c : Content) → contentAt t q i ≡ c → Kept q t (onRequest c q i t .tables)
   by-content Nothing h = kept-same q t s
   by-content (Request w) h =
-      let d = deliverable q i t e in
       let kind = s .client q (d .client) .link i (target-below t s i (d .target)) .kind in
       subst (λ (w : Contents). Kept q t (onRequestIn (stateOf t q) w q i t .tables)) (request-words (t .links) q i w kind h) (in-state q i t s d (request-kind (t .links) q i w kind h))
   by-content (Reply w) h = kept-same q t s

@@ -1,4 +1,5 @@
 -- The theorems for the public steps: an accepted opening leaves sound tables, and each step on sound tables leaves sound tables, refused or accepted.
+-- What an accepted step leaves is by facts in the laws that these cite; only here does number 0 of a refusal give the facts.
 use Prim.Native.Nat.{ℕ}
 use mathlib.Core.Path.{_≡_, refl}
 use mathlib.Core.Bool.{Bool, not}
@@ -16,6 +17,7 @@ use Rattle.soundness.specs.Facts.{Sound}
 use Rattle.refusals.specs.Refusals.{atLastStep, openRefusal, writeRefusal, readRefusal, deliveryRefusal}
 use Rattle.refusals.specs.Steps.{open′, beginWrite, beginRead, deliverRequest, deliverReply}
 use Rattle.refusals.specs.Either.{by-refusal, by-refusal-arrived, unstopped}
+use Rattle.keeping.specs.Accepted.{openable, writable, readable, deliverable}
 use Rattle.keeping.specs.Frame.{Kept, kept-same}
 use Rattle.keeping.specs.Opening.{opened-sound}
 use Rattle.keeping.specs.BeginWrite.{begunWrite-kept}
@@ -36,18 +38,23 @@ module _ (m k p : ℕ) (setpoints : List ℕ) (t : Tables) where
   unfolding open′
   open-sound a =
       let none : openRefusal m k p setpoints t ≡ 0 = unstopped (openRefusal m k p setpoints t) (opened m k p setpoints t) t a in
-      rw none (opened-sound m k p setpoints t none)
+      rw none (opened-sound m k p setpoints t (openable m k p setpoints t none))
 
   -- and one that is refused leaves them as sound as they were
   pub open-keeps : Sound t → Sound (open′ m k p setpoints t .tables)
   unfolding open′
-  open-keeps s = by-refusal (λ x. Sound (x .tables)) (openRefusal m k p setpoints t) (left Ok (opened m k p setpoints t)) t (λ n e. s) (opened-sound m k p setpoints t)
+  open-keeps s =
+      by-refusal (λ x. Sound (x .tables)) (openRefusal m k p setpoints t) (left Ok (opened m k p setpoints t)) t
+      (λ n e. s)
+      (λ e. opened-sound m k p setpoints t (openable m k p setpoints t e))
 
 module _ (q mask : ℕ) (setpoints : List ℕ) (t : Tables) (s : Sound t) where
   pub beginWrite-kept : Kept q t (beginWrite q mask setpoints t .tables)
   unfolding beginWrite
   beginWrite-kept =
-      by-refusal (λ x. Kept q t (x .tables)) (writeRefusal q mask setpoints t) (left Ok (begunWrite q mask setpoints t)) t (λ n e. kept-same q t s) (begunWrite-kept q mask setpoints t s)
+      by-refusal (λ x. Kept q t (x .tables)) (writeRefusal q mask setpoints t) (left Ok (begunWrite q mask setpoints t)) t
+      (λ n e. kept-same q t s)
+      (λ e. begunWrite-kept q mask setpoints t s (writable q mask setpoints t e))
 
   pub beginWrite-sound : Sound (beginWrite q mask setpoints t .tables)
   beginWrite-sound = beginWrite-kept .sound
@@ -55,7 +62,10 @@ module _ (q mask : ℕ) (setpoints : List ℕ) (t : Tables) (s : Sound t) where
 module _ (q mask : ℕ) (t : Tables) (s : Sound t) where
   pub beginRead-kept : Kept q t (beginRead q mask t .tables)
   unfolding beginRead
-  beginRead-kept = by-refusal (λ x. Kept q t (x .tables)) (readRefusal q mask t) (left Ok (begunRead q mask t)) t (λ n e. kept-same q t s) (begunRead-kept q mask t s)
+  beginRead-kept =
+      by-refusal (λ x. Kept q t (x .tables)) (readRefusal q mask t) (left Ok (begunRead q mask t)) t
+      (λ n e. kept-same q t s)
+      (λ e. begunRead-kept q mask t s (readable q mask t e))
 
   pub beginRead-sound : Sound (beginRead q mask t .tables)
   beginRead-sound = beginRead-kept .sound
@@ -63,14 +73,20 @@ module _ (q mask : ℕ) (t : Tables) (s : Sound t) where
 module _ (q i : ℕ) (t : Tables) (s : Sound t) where
   pub deliverRequest-kept : Kept q t (deliverRequest q i t .tables)
   unfolding deliverRequest
-  deliverRequest-kept = by-refusal (λ x. Kept q t (x .tables)) (deliveryRefusal q i t) (requestDelivered q i t) t (λ n e. kept-same q t s) (requestDelivered-kept q i t s)
+  deliverRequest-kept =
+      by-refusal (λ x. Kept q t (x .tables)) (deliveryRefusal q i t) (requestDelivered q i t) t
+      (λ n e. kept-same q t s)
+      (λ e. requestDelivered-kept q i t s (deliverable q i t e))
 
   pub deliverRequest-sound : Sound (deliverRequest q i t .tables)
   deliverRequest-sound = deliverRequest-kept .sound
 
   pub deliverReply-kept : Kept q t (deliverReply q i t .tables)
   unfolding deliverReply
-  deliverReply-kept = by-refusal-arrived (λ x. Kept q t (x .tables)) (deliveryRefusal q i t) (replyDelivered q i t) t (λ n e. kept-same q t s) (replyDelivered-kept q i t s)
+  deliverReply-kept =
+      by-refusal-arrived (λ x. Kept q t (x .tables)) (deliveryRefusal q i t) (replyDelivered q i t) t
+      (λ n e. kept-same q t s)
+      (λ e. replyDelivered-kept q i t s (deliverable q i t e))
 
   pub deliverReply-sound : Sound (deliverReply q i t .tables)
   deliverReply-sound = deliverReply-kept .sound

@@ -16,6 +16,7 @@ use Rattle.soundness.specs.Sound.{sound}
 use Rattle.soundness.specs.Facts.{Sound, sound-facts}
 use Rattle.refusals.specs.Refusals.{openRefusal, writeRefusal, readRefusal, deliveryRefusal}
 use Rattle.refusals.specs.Steps.{unless, open′, beginWrite, beginRead, deliverRequest, deliverReply}
+use Rattle.keeping.specs.Accepted.{openable}
 use Rattle.keeping.specs.Opening.{opened-sound}
 use Rattle.keeping.specs.Steps.{beginWrite-sound, beginRead-sound, deliverRequest-sound, deliverReply-sound}
 use Rattle.ranges.specs.Tests.{by-test}
@@ -82,7 +83,7 @@ module _ (t : Tables) (p : Playable t) where
   by-opening before behind (suc n) e = sound-playable _ (behind (p .sound (omega (arith, e))))
 
   open-playable : (method k panels : ℕ) (setpoints : List ℕ) (n : ℕ) → openRefusal method k panels setpoints t ≡ n → Playable (unless n (left Ok (opened method k panels setpoints t)) t .tables)
-  open-playable method k panels setpoints zero e = sound-playable _ (opened-sound method k panels setpoints t e)
+  open-playable method k panels setpoints zero e = sound-playable _ (opened-sound method k panels setpoints t (openable method k panels setpoints t e))
   open-playable method k panels setpoints (suc n) e = p
 
   -- every step leaves tables that may be played on

@@ -15,14 +15,16 @@ use Rattle.rules.specs.Common as rules
 use Rattle.rules.specs.Begin.{nextCount, begunWrite, Asking, askingBy, lastTag, begunRead}
 use Rattle.soundness.specs.Sound.{isReading}
 use Rattle.soundness.specs.Room.{few-servers, client-row}
-use Rattle.refusals.specs.Refusals.{writeRefusal, readRefusal}
-use Rattle.keeping.specs.Accepted.{writable, readable}
+use Rattle.rules.specs.declared.Answer.the-variants.{Ok}
+use Rattle.keeping.specs.Accepted.{Writable, Readable}
 use Rattle.keeping.specs.Begins.{begun-other, begun-more, begun-step}
 use Rattle.keeping.specs.BeginWrite.{begunWrite-kept}
 use Rattle.keeping.specs.BeginRead.{begunRead-kept}
 use Rattle.keeping.specs.Rows.{Put, put, putAll, lastPut, inRow, put-read, loop-other}
-use Rattle.serial.specs.History.{writing, reading, History, begun}
+use Rattle.serial.specs.Steps.{begun-write, begun-read}
+use Rattle.serial.specs.History.{writing, reading, History, begun, after}
 use Rattle.register_order.specs.Agreement.{Agrees}
+use Rattle.register_order.specs.Machines.{Follows}
 use Rattle.register_order.specs.Grown.{more}
 use Rattle.register_order.specs.Laws.{Counts, write-begins, read-begins}
 
@@ -31,12 +33,12 @@ module _ (t : Tables) (h : History) (numbers : List ℕ) (a : Agrees t h numbers
   pub as-next : (t′ : Tables) (h′ : History) → Agrees t′ h′ (more numbers (stepOf t + 1)) → Agrees t′ h′ (more numbers (suc (stepOf t)))
   as-next t′ h′ b = subst (λ (n : ℕ). Agrees t′ h′ (more numbers n)) (add-one (stepOf t)) b
 
-  module _ (q mask : ℕ) (setpoints : List ℕ) (e : writeRefusal q mask setpoints t ≡ 0) where
+  module _ (q mask : ℕ) (setpoints : List ℕ) (b : Writable q mask setpoints t) where
     abbrev puts : List Put
     puts = put stateField rules.writing ∷ put maskField mask ∷ put recordField (writesOf t) ∷ put countField (nextCount t q) ∷ []
 
     client : q < clientsOf t
-    client = writable q mask setpoints t e .begin .client
+    client = b .begin .client
 
     written : (f : ℕ) → f < setpointsField → clientWord (begunWrite q mask setpoints t .clients) q f ≡ lastPut puts (clientWord (t .clients) q f) f
     unfolding begunWrite
@@ -63,17 +65,22 @@ module _ (t : Tables) (h : History) (numbers : List ℕ) (a : Agrees t h numbers
     unfolding begunWrite
     same-reads = refl
 
-    pub write-agrees : Agrees (begunWrite q mask setpoints t) (begun (h .doing q) q (writing mask setpoints (h .clock)) h) (more numbers (stepOf t + 1))
+    write-agrees : Agrees (begunWrite q mask setpoints t) (begun (h .doing q) q (writing mask setpoints (h .clock)) h) (more numbers (stepOf t + 1))
     write-agrees =
-        let b = writable q mask setpoints t e in
         rw (a .clients q client .resting (b .begin .free))
-        (write-begins t (begunWrite q mask setpoints t) h numbers a q client (begunWrite-kept q mask setpoints t (a .sound) e) (nextCount t q) begun-records same-reads write-counts (b .few)
+        (write-begins t (begunWrite q mask setpoints t) h numbers a q client (begunWrite-kept q mask setpoints t (a .sound) b) (nextCount t q) begun-records same-reads write-counts (b .few)
         (written stateField (omega arith)) (written recordField (omega arith)) mask setpoints)
 
-    pub write-step : stepOf (begunWrite q mask setpoints t) ≡ suc (stepOf t)
+    write-step : stepOf (begunWrite q mask setpoints t) ≡ suc (stepOf t)
     write-step = write-counts .step ∙ add-one (stepOf t)
 
-  module _ (q mask : ℕ) (e : readRefusal q mask t ≡ 0) where
+    pub write-follows : Follows t h numbers (record { event = begun-write q mask setpoints Ok; tables = begunWrite q mask setpoints t })
+    write-follows = record {
+      agrees = as-next (begunWrite q mask setpoints t) (after (begun-write q mask setpoints Ok) h) write-agrees;
+      step = write-step;
+    }
+
+  module _ (q mask : ℕ) (b : Readable q mask t) where
     abbrev readPuts : ℕ → List Put
     readPuts state = put stateField state ∷ put maskField mask ∷ put recordField (readsOf t) ∷ []
 
@@ -81,7 +88,7 @@ module _ (t : Tables) (h : History) (numbers : List ℕ) (a : Agrees t h numbers
     readPutsA = put stateField askingSetpoints ∷ put maskField mask ∷ put recordField (readsOf t) ∷ put tagField (lastTag t) ∷ []
 
     reader : q < clientsOf t
-    reader = readable q mask t e .begin .client
+    reader = b .begin .client
 
     asked : (puts : List Put) → inRow puts ≡ true → (f : ℕ) → f < clientWidth → clientWord (putAll puts q (t .clients)) q f ≡ lastPut puts (clientWord (t .clients) q f) f
     asked puts inside f l = put-read q puts (t .clients) f _ (client-row t (a .sound) q reader) inside l refl
@@ -109,12 +116,17 @@ module _ (t : Tables) (h : History) (numbers : List ℕ) (a : Agrees t h numbers
           step = begun-step readsField (t .counts) long (omega arith) (λ z. omega arith);
         }
 
-    pub read-agrees : Agrees (begunRead q mask t) (begun (h .doing q) q (reading mask (h .clock) 0) h) (more numbers (stepOf t + 1))
+    read-agrees : Agrees (begunRead q mask t) (begun (h .doing q) q (reading mask (h .clock) 0) h) (more numbers (stepOf t + 1))
     unfolding begunRead
     read-agrees =
-        let b = readable q mask t e in
         rw (a .clients q reader .resting (b .begin .free))
-        (read-begins t (begunRead q mask t) h numbers a q reader (begunRead-kept q mask t (a .sound) e) mask refl refl read-counts (b .few) (asks .0) (asks .1))
+        (read-begins t (begunRead q mask t) h numbers a q reader (begunRead-kept q mask t (a .sound) b) mask refl refl read-counts (b .few) (asks .0) (asks .1))
 
-    pub read-step : stepOf (begunRead q mask t) ≡ suc (stepOf t)
+    read-step : stepOf (begunRead q mask t) ≡ suc (stepOf t)
     read-step = read-counts .step ∙ add-one (stepOf t)
+
+    pub read-follows : Follows t h numbers (record { event = begun-read q mask Ok; tables = begunRead q mask t })
+    read-follows = record {
+      agrees = as-next (begunRead q mask t) (after (begun-read q mask Ok) h) read-agrees;
+      step = read-step;
+    }

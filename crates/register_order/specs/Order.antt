@@ -8,10 +8,9 @@ use lib.ListN.{getD}
 use Rattle.tables.specs.Layout.{recordWord, clientOfRecord, numberOfRecord, tagOfRecord, beginOfRecord, endOfRecord}
 use Rattle.tables.specs.Tables.{Tables}
 use Rattle.rules.specs.declared.Answer.the-variants.{Ok, Refused}
-use Rattle.refusals.specs.Steps.{open′}
-use Rattle.listing.specs.Register.{Line, write, read, register}
-use Rattle.serial.specs.Steps.{Step, Event, opened, begun-write, begun-read, requested, replied, Played, Machine, run, leftBy}
-use Rattle.serial.specs.History.{Transaction, openedWith, history}
+use Rattle.listing.specs.Register.{Line, write, read}
+use Rattle.serial.specs.Steps.{Event, opened, begun-write, begun-read, requested, replied, Played, Machine, leftBy}
+use Rattle.serial.specs.History.{Transaction, history, BehindOpenings}
 use Rattle.serial.specs.Row.{row}
 use Rattle.serial.specs.Consequences.{accepted}
 
@@ -73,13 +72,11 @@ told numbers x = particulars (x .isWrite) (x .tag) (x .client) (cond (x .isWrite
 
 -- ---- the claim
 
--- For every opening that is accepted and every list of steps behind it, "in any order and with any arguments, … refused ones and refused openings too": the
--- register of the tables then left lists the transactions of the row, all of them and no other, in the row's order, with the same kinds, tags, panels,
--- begins and ends, and READs with the same masks. Every list is meant, so this is so after each step.
-abbrev pub SameOrder : Machine → Type 0
-SameOrder machine =
-    (method k p : ℕ) (setpoints : List ℕ) (t : Tables) → open′ method k p setpoints t .answer ≡ Ok → (steps : List Step) →
-    let start = open′ method k p setpoints t .tables in
-    let played = run machine steps start in
+-- Behind every accepted opening and every list of steps, "in any order and with any arguments, … refused ones and refused openings too": a listing of the
+-- tables then left lists the transactions of the row, all of them and no other, in the row's order, with the same kinds, tags, panels, begins and ends, and
+-- READs with the same masks. Every list is meant, so this is so after each step.
+abbrev pub SameOrder : {S : Type 0} → (Tables → List Line) → Machine S → Type 0
+SameOrder listing machine =
+    BehindOpenings machine (λ start played h.
     let left = leftBy played start in
-    map (described left) (register left) ≡ map (told (stepNumbers played [] 1)) (row (history played (openedWith method setpoints)))
+    map (described left) (listing left) ≡ map (told (stepNumbers played [] 1)) (row (history played h)))

@@ -22,8 +22,7 @@ use Rattle.rules.specs.Begin.{sentGets}
 use Rattle.rules.specs.Reply.{said, moved, emptied, readShown, endedRead, onSetDone, onEntered, onKeys, gotSetpoint, onGot, gotNumber, tagChosen, concluded, endedByC, onAll, onReplyIn, onReply, replyDelivered}
 use Rattle.soundness.specs.Sound.{isReading, keyOn}
 use Rattle.soundness.specs.Room.{client-row, link-row}
-use Rattle.refusals.specs.Refusals.{deliveryRefusal}
-use Rattle.keeping.specs.Accepted.{Deliverable, deliverable, target-below}
+use Rattle.keeping.specs.Accepted.{Deliverable, target-below}
 use Rattle.keeping.specs.Frame.{Kept}
 use Rattle.keeping.specs.Links.{kindOn, numberOn, reply-kind, reply-words, put-same}
 use Rattle.keeping.specs.States.{by-state, entering-target, entered-tag}
@@ -33,10 +32,10 @@ use Rattle.keeping.specs.Replies.{replyDelivered-kept}
 use Rattle.serial.specs.Steps.{replied}
 use Rattle.serial.specs.History.{Doing, tagged, reading, History, turned, after}
 use Rattle.register_order.specs.Agreement.{Untagged, Reading, Activity, Agrees}
+use Rattle.register_order.specs.Machines.{Follows}
 use Rattle.register_order.specs.Grown.{more, be-storing, be-asking, be-reading, untagged-on, reading-on}
 use Rattle.register_order.specs.Laws.{Counts, passed-agrees, quiet-passed, quiet-turned, write-ends, read-ends}
 use Rattle.register_order.specs.Begins.{as-next}
-use Rattle.register_order.specs.Requests.{Follows}
 
 module _ (t : Tables) (h : History) (numbers : List ℕ) (a : Agrees t h numbers) (q i : ℕ) where
   abbrev pub AnswersReply : Arrived → Type 0
@@ -221,6 +220,6 @@ module _ (t : Tables) (h : History) (numbers : List ℕ) (a : Agrees t h numbers
       let came : Came q i t = record { sound = a .sound; client = d .client; target = target; early = d .early; kind = reply-kind (t .links) q i x kind e } in
       subst (λ (y : Contents). Kept q t (onReplyIn (stateOf t q) y q i t .tables) → AnswersReply (onReplyIn (stateOf t q) y q i t)) (reply-words (t .links) q i x kind e) (in-state came)
 
-  pub reply-answers : deliveryRefusal q i t ≡ 0 → AnswersReply (replyDelivered q i t)
+  pub reply-answers : Deliverable q i t → AnswersReply (replyDelivered q i t)
   unfolding replyDelivered
-  reply-answers e = by-content (deliverable q i t e) (contentAt t q i) refl (replyDelivered-kept q i t (a .sound) e)
+  reply-answers d = by-content d (contentAt t q i) refl (replyDelivered-kept q i t (a .sound) d)

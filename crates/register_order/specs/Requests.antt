@@ -26,26 +26,19 @@ use Rattle.rules.specs.Request.{answered, refused, storedBy, enteredBy, onSet, 
 use Rattle.soundness.specs.Sound.{uses, isReading}
 use Rattle.soundness.specs.Facts.{ClientFacts}
 use Rattle.soundness.specs.Room.{server-fits, link-row}
-use Rattle.refusals.specs.Refusals.{deliveryRefusal}
-use Rattle.keeping.specs.Accepted.{Deliverable, deliverable, target-below}
+use Rattle.keeping.specs.Accepted.{Deliverable, target-below}
 use Rattle.keeping.specs.Frame.{Kept}
 use Rattle.keeping.specs.Links.{linkWord, kindOn, link-asks, request-kind, put-same}
 use Rattle.keeping.specs.States.{by-state, entering-target, masked-server, uses-writing}
 use Rattle.keeping.specs.Moves.{counted-other, counted-step, counted-length}
 use Rattle.keeping.specs.Requests.{requestDelivered-kept}
-use Rattle.serial.specs.Steps.{requested, Played}
+use Rattle.serial.specs.Steps.{requested}
 use Rattle.serial.specs.History.{reading, History, atCoordinator, after}
-use Rattle.serial.specs.Consequences.{accepted}
-use Rattle.register_order.specs.Order.{numbered}
 use Rattle.register_order.specs.Agreement.{Activity, Agrees}
+use Rattle.register_order.specs.Machines.{Follows}
 use Rattle.register_order.specs.Grown.{more, be-storing, be-reading, untagged-on, reading-on}
 use Rattle.register_order.specs.Laws.{Counts, passed-agrees, quiet-passed, quiet-turned, write-tags}
 use Rattle.register_order.specs.Begins.{as-next}
-
--- A step keeps the tie, and the tables' step number is that of the steps accepted.
-pub record Follows (t : Tables) (h : History) (numbers : List ℕ) (x : Played) : Type 0 where
-  pub agrees : Agrees (x .tables) (after (x .event) h) (numbered (x .event) numbers (stepOf t))
-  pub step : stepOf (x .tables) ≡ accepted (x .event) (stepOf t)
 
 module _ (t : Tables) (h : History) (numbers : List ℕ) (a : Agrees t h numbers) (q i : ℕ) where
   abbrev pub AnswersRequest : Left → Type 0
@@ -195,6 +188,6 @@ module _ (t : Tables) (h : History) (numbers : List ℕ) (a : Agrees t h numbers
   by-content d (Request w) e k = in-state d (request-kind (t .links) q i w (a .sound .client q (d .client) .link i (target-below t (a .sound) i (d .target)) .kind) e) w k
   by-content d (Reply w) e k = request-refused 9
 
-  pub request-answers : deliveryRefusal q i t ≡ 0 → AnswersRequest (requestDelivered q i t)
+  pub request-answers : Deliverable q i t → AnswersRequest (requestDelivered q i t)
   unfolding requestDelivered
-  request-answers e = by-content (deliverable q i t e) (contentAt t q i) refl (requestDelivered-kept q i t (a .sound) e)
+  request-answers d = by-content d (contentAt t q i) refl (requestDelivered-kept q i t (a .sound) d)

@@ -15,7 +15,7 @@ use Rattle.coordinator.specs.Latest.{latestKey}
 use Rattle.tables.specs.Rows.{HasRow, word-same, word-other}
 use Rattle.tables.specs.Layout.{clientWidth, clientWord, putClientWord, stateField, countField, maskField, tagField, recordField, setpointsField, writesField, readsField, recordPlaces, countWords}
 use Rattle.tables.specs.Links.{targets, HasLinks, linkAt}
-use Rattle.tables.specs.Tables.{Tables, methodOf, serversOf, clientsOf, stepOf, writesOf, readsOf, stateOf, countOf}
+use Rattle.tables.specs.Tables.{Tables, methodOf, serversOf, clientsOf, stepOf, writesOf, readsOf, countOf}
 use Rattle.tables.specs.declared.links.Content.{Content}
 use Rattle.tables.specs.declared.links.Content.the-variants.{Nothing}
 use Rattle.rules.specs.Answers.{left}
@@ -23,6 +23,7 @@ use Rattle.rules.specs.Common.{idle, askingKeys, askingSetpoints, askingAll, co
 use Rattle.rules.specs.Common as rules
 use Rattle.rules.specs.Begin.{storedSetpoints, nextCount, begunWrite, sentGets, sendAsk, sentAsks, asking, lastTag, askingByA, askingByB, askingByC, begunReadWith, begunRead}
 use Rattle.rules.specs.declared.Answer.the-variants.{Ok}
+use Rattle.keeping.specs.Accepted.{Beginnable, Writable, Readable}
 use Rattle.keeping.specs.States.{masked-below}
 use Rattle.keeping.specs.Rows.{Put, put, putAll, put-read, put-elsewhere, put-length, loop-other}
 use Rattle.keeping.specs.Rounds.{sent-length}
@@ -36,6 +37,7 @@ use Rattle.serial.proofs.Invariant.{Idle, Tied}
 use Rattle.serial.proofs.Kept.{Kept, resting}
 use Rattle.serial.proofs.Links.{come-changed, come-none, no-coordinator, sends-come}
 use Rattle.serial.proofs.Budget.{Budget, no-rest, few-servers}
+use Rattle.serial.proofs.Fair.{Standing, Fair}
 use Rattle.serial.proofs.Spending.{write-budget, read-budget}
 use Rattle.serial.proofs.Begins.{write-kept, read-a-kept, read-b-kept, read-c-kept}
 
@@ -65,12 +67,21 @@ mask-some mask k l w =
     let s = some-server mask k w in
     omega (arith, sum-part (λ i. one (hasServer mask i)) 16 (s .0) (omega (arith, s .1)), one-true (s .2))
 
-module _ (floor : ℕ → ℕ) (t : Tables) (h : History) (tied : Tied floor (view t) h) (budget : Budget (view t)) (q : ℕ) (ready : Ready t q) (rest : stateOf t q ≡ idle) (mask : ℕ) (w : Within mask (serversOf t)) where
+module _ (floor : ℕ → ℕ) (t : Tables) (h : History) (s : Standing floor t h) (q mask : ℕ) (b : Beginnable q mask t) where
+  abbrev tied : Tied floor (view t) h
+  tied = s .tied
+
+  abbrev budget : Budget (view t)
+  budget = s .budget
+
+  abbrev ready : Ready t q
+  ready = record { sound = s .sound; client = b .client }
+
   abbrev c : Client
   c = view t .client q
 
   resting-state : stateIn c ≡ idle
-  resting-state = row-at t q stateField (omega arith) ∙ rest
+  resting-state = row-at t q stateField (omega arith) ∙ b .free
 
   idling : Idle (h .extra) (world (view t) h) (floor q) q c (h .doing q)
   idling = resting (h .extra) (world (view t) h) (floor q) q c (h .doing q) resting-state (tied .clients q (in-range t q ready) .activity)
@@ -82,14 +93,13 @@ module _ (floor : ℕ → ℕ) (t : Tables) (h : History) (tied : Tied floor (vi
   long = has-links t q ready
 
   bound : (i : ℕ) → hasServer mask i ≡ true → i < serversOf t
-  bound i e = masked-below mask (serversOf t) i (w .below) e
+  bound i e = masked-below mask (serversOf t) i (b .masked .below) e
 
   some-masked : 0 < serversIn mask
-  some-masked = mask-some mask (serversOf t) (few t q ready) w
+  some-masked = mask-some mask (serversOf t) (few t q ready) (b .masked)
 
-  -- the begin keeps the tie and the budget, and pays what it owes
-  abbrev pub Fair : Event → Tables → Type 0
-  Fair event left = Kept floor h event (view left) × Budget (view left) × (stepOf left ≡ suc (stepOf t))
+  abbrev Begun : Event → Tables → Type 0
+  Begun event left = Fair floor h (stepOf t) (record { event = event; tables = left })
 
   small : serversOf t ≤ targets
   small = omega (arith, few t q ready)
@@ -164,18 +174,20 @@ module _ (floor : ℕ → ℕ) (t : Tables) (h : History) (tied : Tied floor (vi
         ∙ started-others rules.writing mask (writesOf t) q (t .clients) (has-row t q ready) r d)
         (λ r d. sent-others q (sets (nextCount t q)) fits mask (serversOf t) small bound (t .links) long empty r d)
 
-    pub write-fair : Fair (begun-write q mask setpoints Ok) (begunWrite q mask setpoints t)
-    write-fair = (
-      subst (λ (v : Press). Kept floor h (begun-write q mask setpoints Ok) v) (sym seen)
+    write-begun : Begun (begun-write q mask setpoints Ok) (begunWrite q mask setpoints t)
+    write-begun = record {
+      kept = subst (λ (v : Press). Kept floor h (begun-write q mask setpoints Ok) v) (sym seen)
           (write-kept floor (view t) h tied (few t q ready) q (in-range t q ready) resting-state mask bound some-masked (rowOf clients′ q)
           (other-word maskField (omega arith) (λ e. omega arith) ∙ started-mask rules.writing mask (writesOf t) q (t .clients) (has-row t q ready)) step′ (writesOf t + 1) (readsOf t)
           setpoints begun-state
           (begun-word countField (omega arith) ∙ word-same clientWidth (startedClient rules.writing mask (writesOf t) q (t .clients)) q countField (nextCount t q) has-begun (omega arith) ∙ next-count)
-          few-counts),
-      subst Budget (sym seen)
-          (write-budget (view t) budget q (in-range t q ready) free begun begun-state (omega (arith, sends-come mask (sets (suc (countIn c))) (λ i. refl) (no-coordinator mask (serversOf t) (few t q ready) bound), few-servers mask))),
-      ap (λ (v : Press). v .shared .step) seen ∙ add-one (stepOf t),
-    )
+          few-counts);
+      budget = subst Budget (sym seen)
+          (write-budget (view t) budget q (in-range t q ready) free begun begun-state (omega (arith, sends-come mask (sets (suc (countIn c))) (λ i. refl) (no-coordinator mask (serversOf t) (few t q ready) bound), few-servers mask)));
+      answers = tt;
+      room = λ z. omega arith;
+      step = ap (λ (v : Press). v .shared .step) seen ∙ add-one (stepOf t);
+    }
 
   -- a READ that leaves the client's row and links so
   module _ (clients′ links′ : List ℕ) where
@@ -186,10 +198,16 @@ module _ (floor : ℕ → ℕ) (t : Tables) (h : History) (tied : Tied floor (vi
     readPress link = pressOf (renumbered step′ (writesOf t) (readsOf t + 1) (sharedOf t)) (changed (view t .client) q (clientOf (rowOf clients′ q) link))
 
     read-left : {link : ℕ → Content} → ((r : ℕ) → (r ≡ q → ⊥) → rowOf clients′ r ≡ rowOf (t .clients) r) → linksOf links′ q ≡ link → ((r : ℕ) → (r ≡ q → ⊥) → linksOf links′ r ≡ linksOf (t .links) r) →
-        Kept floor h (begun-read q mask Ok) (readPress link) → Budget (readPress link) → Fair (begun-read q mask Ok) readLeft
+        Kept floor h (begun-read q mask Ok) (readPress link) → Budget (readPress link) → Begun (begun-read q mask Ok) readLeft
     read-left other-rows link-is other-links k b =
         let seen = view-is t readLeft q reads-shared refl link-is other-rows other-links in
-        (subst (λ (v : Press). Kept floor h (begun-read q mask Ok) v) (sym seen) k, subst Budget (sym seen) b, ap (λ (v : Press). v .shared .step) seen ∙ add-one (stepOf t))
+        record {
+          kept = subst (λ (v : Press). Kept floor h (begun-read q mask Ok) v) (sym seen) k;
+          budget = subst Budget (sym seen) b;
+          answers = tt;
+          room = λ z. omega arith;
+          step = ap (λ (v : Press). v .shared .step) seen ∙ add-one (stepOf t);
+        }
 
   abbrev ask : Content
   ask = request opening 0
@@ -206,7 +224,7 @@ module _ (floor : ℕ → ℕ) (t : Tables) (h : History) (tied : Tied floor (vi
   count-of : (state : ℕ) → clientWord (with-state state) q countField ≡ countIn c
   count-of state = started-count state mask (readsOf t) q (t .clients) (has-row t q ready) ∙ sym (row-at t q countField (omega arith))
 
-  a-fair : readsOf t < recordPlaces → h .extra ≡ 0 → Fair (begun-read q mask Ok) (begunReadWith q mask (askingByA q mask t) t)
+  a-fair : readsOf t < recordPlaces → h .extra ≡ 0 → Begun (begun-read q mask Ok) (begunReadWith q mask (askingByA q mask t) t)
   a-fair free extra =
       read-left clients′ (sentGets q mask (t .log) (lastTag t) (serversOf t) (t .links))
       (λ r d. row-put-other (with-state askingSetpoints) q tagField (lastTag t) (omega arith) r d ∙ started-others askingSetpoints mask (readsOf t) q (t .clients) (has-row t q ready) r d)
@@ -242,7 +260,7 @@ module _ (floor : ℕ → ℕ) (t : Tables) (h : History) (tied : Tied floor (vi
       last : lastTag t ≡ h .tags
       last = omega (arith, tied .entries)
 
-  b-fair : readsOf t < recordPlaces → h .extra ≡ 2 → Fair (begun-read q mask Ok) (begunReadWith q mask (askingByB q mask t) t)
+  b-fair : readsOf t < recordPlaces → h .extra ≡ 2 → Begun (begun-read q mask Ok) (begunReadWith q mask (askingByB q mask t) t)
   b-fair free extra =
       read-left (with-state askingKeys) (sendAsk q coordinator (t .links))
       (started-others askingKeys mask (readsOf t) q (t .clients) (has-row t q ready))
@@ -264,7 +282,7 @@ module _ (floor : ℕ → ℕ) (t : Tables) (h : History) (tied : Tied floor (vi
       state : stateIn asked ≡ askingKeys
       state = word-of askingKeys stateField (omega arith) (started-state askingKeys mask (readsOf t) q (t .clients) (has-row t q ready))
 
-  c-fair : readsOf t < recordPlaces → h .extra ≡ 2 → Fair (begun-read q mask Ok) (begunReadWith q mask (askingByC q mask t) t)
+  c-fair : readsOf t < recordPlaces → h .extra ≡ 2 → Begun (begun-read q mask Ok) (begunReadWith q mask (askingByC q mask t) t)
   c-fair free extra =
       read-left (with-state askingAll) (sendAsk q coordinator sent)
       (started-others askingAll mask (readsOf t) q (t .clients) (has-row t q ready))
@@ -287,12 +305,21 @@ module _ (floor : ℕ → ℕ) (t : Tables) (h : History) (tied : Tied floor (vi
       sent : List ℕ
       sent = sentAsks q mask (serversOf t) (t .links)
 
-  pub read-fair : readsOf t < recordPlaces → Fair (begun-read q mask Ok) (begunRead q mask t)
+  read-begun : readsOf t < recordPlaces → Begun (begun-read q mask Ok) (begunRead q mask t)
   unfolding begunRead
-  read-fair free =
+  read-begun free =
       let extra : h .extra ≡ extraOf (methodOf t) = tied .method in
       by-test (eqb (methodOf t) 1)
       (λ a. rw a (a-fair free (rw a at extra)))
       (λ a. by-test (eqb (methodOf t) 2)
       (λ b. rw (a, b) (b-fair free (rw a at extra)))
       (λ b. rw (a, b) (c-fair free (rw a at extra))))
+
+-- Begins, by facts: whichever refusals stand ahead of them.
+module _ (floor : ℕ → ℕ) (t : Tables) (h : History) (s : Standing floor t h) (q mask : ℕ) where
+  pub write-fair : (setpoints : List ℕ) → Writable q mask setpoints t →
+      Fair floor h (stepOf t) (record { event = begun-write q mask setpoints Ok; tables = begunWrite q mask setpoints t })
+  write-fair setpoints a = write-begun floor t h s q mask (a .begin) setpoints (a .few)
+
+  pub read-fair : Readable q mask t → Fair floor h (stepOf t) (record { event = begun-read q mask Ok; tables = begunRead q mask t })
+  read-fair a = read-begun floor t h s q mask (a .begin) (a .few)

@@ -27,6 +27,7 @@ use Rattle.rules.specs.Begin.{sentGets}
 use Rattle.rules.specs.Reply.{said, emptied, showSetpoint, shownSetpoints, readShown, onSetDone, onEntered, onKeys, gotSetpoint, onGot, gotNumber, receivedIn, setpointAt, keepSetpoint, forget, tagChosen, concluded, onAll, onReplyIn, onReply, replyDelivered}
 use Rattle.rules.specs.declared.Delivered.{Delivered}
 use Rattle.rules.specs.declared.Arrival.the-variants as arrival
+use Rattle.keeping.specs.Accepted.{Deliverable, target-below}
 use Rattle.keeping.specs.Rows.{loop-other, loop-length, loop-there}
 use Rattle.serial.specs.Steps.{replied}
 use Rattle.serial.specs.History.{changed, History}
@@ -37,18 +38,16 @@ use Rattle.serial.proofs.View.{within-at, row-put, row-put-other, link-
 use Rattle.serial.proofs.Links.{come-changed, all-empty, no-coordinator, sends-come}
 use Rattle.serial.proofs.Budget.{Budget, no-rest}
 use Rattle.serial.proofs.Spending.{further, done-budget, last-budget}
+use Rattle.serial.proofs.Fair.{Standing, Fair}
 use Rattle.serial.proofs.Loops.{sent-links, sent-others, loop-rows, pending-come, none-come}
 use Rattle.serial.proofs.Ready.{Ready, few, in-range, has-row, has-link, has-links, row-at, link-at, not-empty, at-coordinator}
 use Rattle.serial.proofs.Invariant.{Writing, Entering, AskingKeys, Getting, AskingAll, Activity, at-rest, at-writing, at-entering, at-keys, at-getting, at-all, Tied}
 use Rattle.serial.proofs.Kept.{Kept, Does, passed-tied}
 use Rattle.serial.proofs.Replies.{done-wait-kept, done-next-kept, got-wait-kept, got-end-kept, told-wait-kept, told-end-kept, entered-kept, keys-kept}
 
--- the step keeps the tie and the budget, and pays what it owes
-pub record FairReply (floor : ℕ → ℕ) (h : History) (n q i : ℕ) (x : Arrived) : Type 0 where
-  pub kept : Kept floor h (replied q i (x .delivered)) (view (x .tables))
-  pub budget : Budget (view (x .tables))
-  pub room : numberOfArrival (x .delivered .arrival) ≡ 8 → ⊥
-  pub step : stepOf (x .tables) ≡ countedArrival (x .delivered .arrival) n
+-- what the delivery answers and leaves is fair
+abbrev pub FairReply : (ℕ → ℕ) → History → ℕ → ℕ → ℕ → Arrived → Type 0
+FairReply floor h n q i x = Fair floor h n (record { event = replied q i (x .delivered); tables = x .tables })
 
 -- the setpoints shown are the words of the client's row
 pub shown-at : (clients : List ℕ) (q mask j : ℕ) → j < 16 → hasServer mask j ≡ true → getD (shownSetpoints clients q mask) j 0 ≡ clientWord clients q (setpointsField + j)
@@ -59,11 +58,17 @@ shown-at clients q mask j l e =
     (λ i u xs m d. getD-set-other xs i u (clientWord clients q (setpointsField + i)) 0 d)
     (hasServer mask) (replicate 16 0) (omega arith) 16 j (omega arith) l e
 
-module _ (floor : ℕ → ℕ) (t : Tables) (h : History) (tied : Tied floor (view t) h) (budget : Budget (view t)) (q i : ℕ) where
+module _ (floor : ℕ → ℕ) (t : Tables) (h : History) (s : Standing floor t h) (q i : ℕ) where
   pub refused-reply : (n : ℕ) → (n ≡ 8 → ⊥) → FairReply floor h (stepOf t) q i (said (arrival.Refused n) t)
-  refused-reply n d = record { kept = (tt, passed-tied floor (view t) h tied); budget = budget; room = d; step = refl }
+  refused-reply n d = record { kept = (tt, passed-tied floor (view t) h (s .tied)); budget = s .budget; answers = tt; room = d; step = refl }
 
-module _ (floor : ℕ → ℕ) (t : Tables) (h : History) (tied : Tied floor (view t) h) (budget : Budget (view t)) (q : ℕ) (ready : Ready t q) (i : ℕ) (hi : i < targets) where
+module _ (floor : ℕ → ℕ) (t : Tables) (h : History) (s : Standing floor t h) (q i : ℕ) (ready : Ready t q) (hi : i < targets) where
+  abbrev tied : Tied floor (view t) h
+  tied = s .tied
+
+  abbrev budget : Budget (view t)
+  budget = s .budget
+
   abbrev Okay : Arrived → Type 0
   Okay = FairReply floor h (stepOf t) q i
 
@@ -93,7 +98,7 @@ module _ (floor : ℕ → ℕ) (t : Tables) (h : History) (tied : Tied floor (vi
         Kept floor h (replied q i d) (movedPress row link) → Budget (movedPress row link) → Okay (arrived d (movedTo clients links writes reads))
     moved-fair rows other-rows link-is other-links room step k b =
         let seen = view-is t (movedTo clients links writes reads) q (shared-step (t .counts) (stepOf t + 1) (t .keys) (t .values) (t .log) (ready .sound .long .counts)) rows link-is other-rows other-links in
-        record { kept = subst (λ (v : Press). Kept floor h (replied q i d) v) (sym seen) k; budget = subst Budget (sym seen) b; room = room; step = ap (λ (v : Press). v .shared .step) seen ∙ add-one (stepOf t) ∙ step }
+        record { kept = subst (λ (v : Press). Kept floor h (replied q i d) v) (sym seen) k; budget = subst Budget (sym seen) b; answers = tt; room = room; step = ap (λ (v : Press). v .shared .step) seen ∙ add-one (stepOf t) ∙ step }
 
   -- words of the row that a step puts one behind the other
   one-word : (f v : ℕ) → f < clientWidth → rowOf (putClientWord (t .clients) q f v) q ≡ changed (c .row) f v
@@ -383,10 +388,17 @@ module _ (floor : ℕ → ℕ) (t : Tables) (h : History) (tied : Tied floor (vi
 
   by-content : (x : Content) → contentAt t q i ≡ x → Okay (onReply x q i t)
   unfolding replyDelivered
-  by-content Nothing e = refused-reply floor t h tied budget q i 9 (λ z. omega arith)
-  by-content (Request w) e = refused-reply floor t h tied budget q i 9 (λ z. omega arith)
+  by-content Nothing e = refused-reply floor t h s q i 9 (λ z. omega arith)
+  by-content (Request w) e = refused-reply floor t h s q i 9 (λ z. omega arith)
   by-content (Reply w) e = rw e at (in-activity w e (tied .clients q (in-range t q ready) .activity))
 
-  pub reply-fair : Okay (replyDelivered q i t)
+  delivered-fair : Okay (replyDelivered q i t)
   unfolding replyDelivered
-  reply-fair = by-content (contentAt t q i) refl
+  delivered-fair = by-content (contentAt t q i) refl
+
+-- The delivery, by facts: whichever refusals stand ahead of it.
+module _ (floor : ℕ → ℕ) (t : Tables) (h : History) (s : Standing floor t h) (q i : ℕ) where
+  pub reply-fair : Deliverable q i t → FairReply floor h (stepOf t) q i (replyDelivered q i t)
+  reply-fair d =
+      let ready : Ready t q = record { sound = s .sound; client = d .client } in
+      delivered-fair floor t h s q i ready (target-below t (s .sound) i (d .target))

@@ -23,11 +23,11 @@ use Rattle.rules.specs.Common.{entering, askingKeys, askingSetpoints, askingAll
 use Rattle.rules.specs.Common as rules
 use Rattle.rules.specs.Request.{refused, onSet, onEnter, onWhichKeys, onGet, onGetAll, onRequestIn, onRequest, requestDelivered}
 use Rattle.rules.specs.declared.Answer.the-variants.{Ok}
+use Rattle.keeping.specs.Accepted.{Deliverable, target-below}
 use Rattle.soundness.specs.Room.{server-fits, keys-row, values-row, next-entry}
 use Rattle.serial.specs.Steps.{requested}
 use Rattle.serial.specs.History.{changed, History}
-use Rattle.serial.specs.Claim.{IsReply, LeavesReply}
-use Rattle.serial.specs.Consequences.{numberOf, countedAnswer}
+use Rattle.serial.specs.Claim.{IsReply}
 use Rattle.serial.proofs.Press.{Shared, renumbered, Client, Press, pressOf, stateIn, sharedOf, view, weight, world}
 use Rattle.serial.proofs.View.{link-put, link-put-other, view-is, sharedIn, shared-step, shared-held, shared-entries}
 use Rattle.serial.proofs.Links.{come-changed}
@@ -37,21 +37,24 @@ use Rattle.serial.proofs.Invariant.{Writing, Entering, AskingKeys, Gett
 use Rattle.serial.proofs.Kept.{Kept, Does, passed-tied}
 use Rattle.serial.proofs.Budget.{waits, due, Budget, waiting-room, entry-room}
 use Rattle.serial.proofs.Spending.{further, set-budget, enter-budget}
+use Rattle.serial.proofs.Fair.{Standing, Fair}
 use Rattle.serial.proofs.Requests.{versionMore, entryMore, withLink, set-kept, enter-kept, which-keys-kept, get-kept, get-all-kept}
 
--- the step keeps the tie and the budget, pays what it owes, leaves the reply on the link, and finds room
-pub record FairRequest (floor : ℕ → ℕ) (h : History) (n q i : ℕ) (x : Left) : Type 0 where
-  pub kept : Kept floor h (requested q i (x .answer)) (view (x .tables))
-  pub budget : Budget (view (x .tables))
-  pub answers : LeavesReply (x .answer) (contentAt (x .tables) q i)
-  pub room : numberOf (x .answer) ≡ 8 → ⊥
-  pub step : stepOf (x .tables) ≡ countedAnswer (x .answer) n
+-- what the delivery answers and leaves is fair
+abbrev pub FairRequest : (ℕ → ℕ) → History → ℕ → ℕ → ℕ → Left → Type 0
+FairRequest floor h n q i x = Fair floor h n (record { event = requested q i (x .answer); tables = x .tables })
 
-module _ (floor : ℕ → ℕ) (t : Tables) (h : History) (tied : Tied floor (view t) h) (budget : Budget (view t)) (q i : ℕ) where
+module _ (floor : ℕ → ℕ) (t : Tables) (h : History) (s : Standing floor t h) (q i : ℕ) where
   pub refused-fair : (n : ℕ) → (n ≡ 8 → ⊥) → FairRequest floor h (stepOf t) q i (refused n t)
-  refused-fair n d = record { kept = (tt, passed-tied floor (view t) h tied); budget = budget; answers = tt; room = d; step = refl }
+  refused-fair n d = record { kept = (tt, passed-tied floor (view t) h (s .tied)); budget = s .budget; answers = tt; room = d; step = refl }
 
-module _ (floor : ℕ → ℕ) (t : Tables) (h : History) (tied : Tied floor (view t) h) (budget : Budget (view t)) (q : ℕ) (ready : Ready t q) (i : ℕ) (hi : i < targets) where
+module _ (floor : ℕ → ℕ) (t : Tables) (h : History) (s : Standing floor t h) (q i : ℕ) (ready : Ready t q) (hi : i < targets) where
+  abbrev tied : Tied floor (view t) h
+  tied = s .tied
+
+  abbrev budget : Budget (view t)
+  budget = s .budget
+
   abbrev Okay : Left → Type 0
   Okay = FairRequest floor h (stepOf t) q i
 
@@ -179,10 +182,17 @@ module _ (floor : ℕ → ℕ) (t : Tables) (h : History) (tied : Tied floor (vi
 
   by-content : (c : Content) → contentAt t q i ≡ c → Okay (onRequest c q i t)
   unfolding requestDelivered
-  by-content Nothing e = refused-fair floor t h tied budget q i 9 (λ z. omega arith)
+  by-content Nothing e = refused-fair floor t h s q i 9 (λ z. omega arith)
   by-content (Request w) e = rw e at (in-activity w e (tied .clients q (in-range t q ready) .activity))
-  by-content (Reply w) e = refused-fair floor t h tied budget q i 9 (λ z. omega arith)
+  by-content (Reply w) e = refused-fair floor t h s q i 9 (λ z. omega arith)
 
-  pub request-fair : Okay (requestDelivered q i t)
+  delivered-fair : Okay (requestDelivered q i t)
   unfolding requestDelivered
-  request-fair = by-content (contentAt t q i) refl
+  delivered-fair = by-content (contentAt t q i) refl
+
+-- The delivery, by facts: whichever refusals stand ahead of it.
+module _ (floor : ℕ → ℕ) (t : Tables) (h : History) (s : Standing floor t h) (q i : ℕ) where
+  pub request-fair : Deliverable q i t → FairRequest floor h (stepOf t) q i (requestDelivered q i t)
+  request-fair d =
+      let ready : Ready t q = record { sound = s .sound; client = d .client } in
+      delivered-fair floor t h s q i ready (target-below t (s .sound) i (d .target))

@@ -12,9 +12,8 @@ use Rattle.tables.specs.declared.links.Content.the-variants.{Nothing, Request, 
 use Rattle.tables.specs.Tables.{Tables, contentAt}
 use Rattle.rules.specs.declared.Answer.{Answer}
 use Rattle.rules.specs.declared.Answer.the-variants.{Ok, Refused}
-use Rattle.refusals.specs.Steps.{open′}
-use Rattle.serial.specs.Steps.{Step, Event, opened, begun-write, begun-read, requested, replied, Played, Machine, run}
-use Rattle.serial.specs.History.{Transaction, Doing, nothing, writing, tagged, reading, History, openedWith, history}
+use Rattle.serial.specs.Steps.{Event, opened, begun-write, begun-read, requested, replied, Played, Machine}
+use Rattle.serial.specs.History.{Transaction, Doing, nothing, writing, tagged, reading, History, history, BehindOpenings}
 use Rattle.serial.specs.Row.{row, Walk, RealTime}
 
 -- the number of deliveries at which a READ of a mask ends: two for each of its stations, and what the method adds
@@ -70,10 +69,6 @@ pub record Claim (steps : List Played) (h : History) : Type 0 where
   -- every accepted step belongs to a transaction, and every *write* and *read* ends one of its kind
   pub whose : h .astray ≡ 0
 
--- The whole of it, of a machine that plays the steps: for every opening that is accepted, with any method, k, p, setpoints and tables, and every list of steps
--- behind it. An accepted opening in the list starts the history anew, so that the claim is of the steps behind the last one.
-abbrev pub Demand3 : Machine → Type 0
-Demand3 machine =
-    (method k p : ℕ) (setpoints : List ℕ) (t : Tables) → open′ method k p setpoints t .answer ≡ Ok → (steps : List Step) →
-    let played = run machine steps (open′ method k p setpoints t .tables) in
-    Claim played (history played (openedWith method setpoints))
+-- The whole of it, of a machine: behind every accepted opening, what was played has the claim.
+abbrev pub Demand3 : {S : Type 0} → Machine S → Type 0
+Demand3 machine = BehindOpenings machine (λ start played h. Claim played (history played h))

@@ -9,7 +9,8 @@ use Rattle.rules.specs.declared.Answer.the-variants as answer
 use Rattle.rules.specs.declared.Arrival.{Arrival}
 use Rattle.rules.specs.declared.Arrival.the-variants as arrival
 use Rattle.soundness.specs.Sound.{sound}
-use Rattle.serial.specs.Steps.{Event, opened, begun-write, begun-read, requested, replied, Played}
+use Rattle.serial.specs.Steps.{Event, opened, begun-write, begun-read, requested, replied, Played, Machine}
+use Rattle.serial.specs.History.{BehindOpenings}
 
 -- the number by which a step was refused; 0 where it was accepted
 abbrev pub numberOf : Answer → ℕ
@@ -62,3 +63,7 @@ pub record Consequences (played : List Played) (n : ℕ) : Type 0 where
   pub few : acceptedSteps played n ≤ 17851
   -- the tables are sound after every step, so that number 2 never arises either
   pub sound : Each (λ x. sound (x .tables) ≡ true) played
+
+-- of a machine: the opening was step 1
+abbrev pub Besides : {S : Type 0} → Machine S → Type 0
+Besides machine = BehindOpenings machine (λ start played h. Consequences played 1)

@@ -1,15 +1,17 @@
 -- What steps and answers tell of transactions: folded from the events alone, one event at a time. Nothing here knows a method, but for the number of a READ's deliveries.
 use Prim.Native.Nat.{ℕ, suc}
+use mathlib.Core.Path.{_≡_}
 use mathlib.Core.Bool.{Bool, true, false, cond}
 use mathlib.Core.Option.{Option, none, some}
 use mathlib.Core.List.{List, [], _∷_, _++_}
 use lib.ListN.{getD}
 use lib.Dec.{eqb}
+use Rattle.tables.specs.Tables.{Tables}
 use Rattle.rules.specs.declared.Answer.the-variants.{Ok, Refused}
 use Rattle.rules.specs.declared.Arrival.{Arrival}
 use Rattle.rules.specs.declared.Arrival.the-variants as arrival
 use Rattle.rules.specs.Common.{coordinator}
-use Rattle.serial.specs.Steps.{Event, opened, begun-write, begun-read, requested, replied, Played}
+use Rattle.serial.specs.Steps.{Event, opened, begun-write, begun-read, requested, replied, Played, Machine, run}
 
 -- a function changed at one place
 unfoldable pub changed : {A : Type 0} → (ℕ → A) → ℕ → A → ℕ → A
@@ -165,3 +167,14 @@ after (replied q i d) h = arrived (d .arrival) (d .setpoints) q h
 abbrev pub history : List Played → History → History
 history [] h = h
 history (x ∷ xs) h = history xs (after (x .event) h)
+
+-- What is claimed of a machine: for every opening that it accepts, with any method, k, p, setpoints and tables, and every list of its steps behind it.
+-- The claim is of the tables that the opening left, what was played behind it, and the history that the opening begins. An accepted opening in the list
+-- starts the history anew, so that the claim is of the steps behind the last one.
+abbrev pub BehindOpenings : {S : Type 0} → Machine S → (Tables → List Played → History → Type 0) → Type 0
+BehindOpenings {S} machine Holds =
+    (first : S) (t : Tables) (method k p : ℕ) (setpoints : List ℕ) →
+    machine first t .event ≡ opened method k p setpoints Ok →
+    (steps : List S) →
+    let start = machine first t .tables in
+    Holds start (run machine steps start) (openedWith method setpoints)

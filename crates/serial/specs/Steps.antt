@@ -35,19 +35,20 @@ leaving event x = record { event = event (x .answer); tables = x .tables }
 abbrev arriving : (Delivered → Event) → Arrived → Played
 arriving event x = record { event = event (x .delivered); tables = x .tables }
 
+-- A machine plays one step, of a type of steps of its own.
+abbrev pub Machine : Type 0 → Type 0
+Machine S = S → Tables → Played
+
 -- the store's machine: its five public steps
-abbrev pub play : Step → Tables → Played
+abbrev pub play : Machine Step
 play (opening method k p setpoints) t = leaving (opened method k p setpoints) (open′ method k p setpoints t)
 play (beginning-write q mask setpoints) t = leaving (begun-write q mask setpoints) (beginWrite q mask setpoints t)
 play (beginning-read q mask) t = leaving (begun-read q mask) (beginRead q mask t)
 play (request q i) t = leaving (requested q i) (deliverRequest q i t)
 play (reply q i) t = arriving (replied q i) (deliverReply q i t)
 
--- "The first gets the tables that an accepted opening left, each later one those that the step before it left". A machine plays one step.
-abbrev pub Machine : Type 0
-Machine = Step → Tables → Played
-
-abbrev pub run : Machine → List Step → Tables → List Played
+-- "The first gets the tables that an accepted opening left, each later one those that the step before it left"
+abbrev pub run : {S : Type 0} → Machine S → List S → Tables → List Played
 run machine [] t = []
 run machine (step ∷ steps) t = let x = machine step t in x ∷ run machine steps (x .tables)
 

@@ -1,6 +1,6 @@
 -- That the claim rules wrong stores out: machines that a reviewer would try, each refuted by one list of steps.
 use Prim.Native.Nat.{ℕ, suc, _-_, _<_}
-use mathlib.Core.Path.{_≡_, refl, subst, _∙_}
+use mathlib.Core.Path.{_≡_, refl, ap, subst, _∙_}
 use mathlib.Core.Bool.{cond}
 use lib.Dec.{eqb}
 use mathlib.Core.Option.{some}
@@ -50,7 +50,7 @@ otherwise f (begun-read q mask a) = begun-read q mask a
 otherwise f (requested q i a) = requested q i a
 otherwise f (replied q i d) = replied q i (f (d .arrival) (d .setpoints))
 
-abbrev pub answering : (Arrival → List ℕ → Delivered) → Machine
+abbrev pub answering : (Arrival → List ℕ → Delivered) → Machine Step
 answering f step t = let x = play step t in record { event = otherwise f (x .event); tables = x .tables }
 
 -- "A READ that always shows the opening at tag 0: demand 3, real time."
@@ -86,7 +86,7 @@ inventing (Read tag) shown = said (Read tag) shown
 inventing (Refused n) shown = said (Refused n) shown
 
 -- *ok* to a request whose reply is not there
-abbrev pub unanswering : Machine
+abbrev pub unanswering : Machine Step
 unanswering (opening method k p setpoints) t = play (opening method k p setpoints) t
 unanswering (beginning-write q mask setpoints) t = play (beginning-write q mask setpoints) t
 unanswering (beginning-read q mask) t = play (beginning-read q mask) t
@@ -106,7 +106,7 @@ hurried (Write tag) q i x = x
 hurried (Read tag) q i x = x
 hurried (Refused n) q i x = x
 
-abbrev pub hurrying : Machine
+abbrev pub hurrying : Machine Step
 hurrying (opening method k p setpoints) t = play (opening method k p setpoints) t
 hurrying (beginning-write q mask setpoints) t = play (beginning-write q mask setpoints) t
 hurrying (beginning-read q mask) t = play (beginning-read q mask) t
@@ -120,7 +120,7 @@ arriving q i t x =
     (record { event = x .event; tables = withLinks (putLink (x .tables .links) q i (rules.reply (versionWord (t .values) i (heldOf t i - 1)))) (x .tables) })
     x
 
-abbrev pub showingLatest : Machine
+abbrev pub showingLatest : Machine Step
 showingLatest (opening method k p setpoints) t = play (opening method k p setpoints) t
 showingLatest (beginning-write q mask setpoints) t = play (beginning-write q mask setpoints) t
 showingLatest (beginning-read q mask) t = play (beginning-read q mask) t
@@ -148,10 +148,14 @@ crossing =
 abbrev first : List ℕ
 first = 1200 ∷ 30 ∷ []
 
-unfoldable pub played : Machine → ℕ → List Step → List Played
-played machine method steps = run machine steps (open′ method 2 2 first zeros .tables)
+-- the first step of each
+abbrev opens : ℕ → Step
+opens method = opening method 2 2 first
 
-unfoldable pub told : Machine → ℕ → List Step → History
+unfoldable pub played : Machine Step → ℕ → List Step → List Played
+played machine method steps = run machine steps (machine (opens method) zeros .tables)
+
+unfoldable pub told : Machine Step → ℕ → List Step → History
 told machine method steps = history (played machine method steps) (openedWith method first)
 
 abbrev toldBy : (Arrival → List ℕ → Delivered) → History
@@ -199,12 +203,23 @@ computed =
     }
 
 -- the claim that demand 3 makes of such a machine and list
-claim : (machine : Machine) (method : ℕ) (steps : List Step) → Demand3 machine → open′ method 2 2 first zeros .answer ≡ Ok → Claim (played machine method steps) (told machine method steps)
+abbrev Opens : Machine Step → ℕ → Type 0
+Opens machine method = machine (opens method) zeros .event ≡ opened method 2 2 first Ok
+
+claim : (machine : Machine Step) (method : ℕ) (steps : List Step) → Demand3 machine → Opens machine method →
+    Claim (played machine method steps) (told machine method steps)
 unfolding told played
-claim machine method steps d e = d method 2 2 first zeros e steps
+claim machine method steps d e = d (opens method) zeros method 2 2 first e steps
+
+-- each of them opens as the store does
+opensB : opened 2 2 2 first (open′ 2 2 2 first zeros .answer) ≡ opened 2 2 2 first Ok
+opensB = ap (opened 2 2 2 first) (computed .acceptedB)
+
+opensC : opened 3 2 2 first (open′ 3 2 2 first zeros .answer) ≡ opened 3 2 2 first Ok
+opensC = ap (opened 3 2 2 first) (computed .acceptedC)
 
 claimBy : (f : Arrival → List ℕ → Delivered) → Demand3 (answering f) → Claim (played (answering f) 2 orderly) (toldBy f)
-claimBy f d = claim (answering f) 2 orderly d (computed .acceptedB)
+claimBy f d = claim (answering f) 2 orderly d opensB
 
 pub not-opening-always : Demand3 (answering openingAlways) → ⊥
 not-opening-always d =
@@ -233,17 +248,17 @@ not-invented d =
 
 pub not-unanswered : Demand3 unanswering → ⊥
 unfolding played orderly
-not-unanswered d = subst IsReply (computed .leftThere) (claim unanswering 2 orderly d (computed .acceptedB) .answered .1 .0)
+not-unanswered d = subst IsReply (computed .leftThere) (claim unanswering 2 orderly d opensB .answered .1 .0)
 
 pub not-hurried : Demand3 hurrying → ⊥
 not-hurried d =
-    let real : RealTime (readOf 1 3 (1200 ∷ 30 ∷ replicate 14 0) 0 5 11 6 ∷ writeBoth ∷ []) = subst RealTime (computed .hastyRow) (claim hurrying 3 hasty d (computed .acceptedC) .realTime) in
+    let real : RealTime (readOf 1 3 (1200 ∷ 30 ∷ replicate 14 0) 0 5 11 6 ∷ writeBoth ∷ []) = subst RealTime (computed .hastyRow) (claim hurrying 3 hasty d opensC .realTime) in
     let z : 1 < 0 = real 1 0 4 (omega arith) (omega arith) refl (omega arith) in
     omega arith
 
 pub not-latest : Demand3 showingLatest → ⊥
 not-latest d =
     let walk : Walk (told showingLatest 2 crossing .initial) (readOf 1 3 (1800 ∷ 30 ∷ replicate 14 0) 0 0 8 6 ∷ []) =
-    subst (Walk (told showingLatest 2 crossing .initial)) (computed .crossingRow) (claim showingLatest 2 crossing d (computed .acceptedB) .walk) in
+    subst (Walk (told showingLatest 2 crossing .initial)) (computed .crossingRow) (claim showingLatest 2 crossing d opensB .walk) in
     let z : _≡_ {A = ℕ} 1800 1200 = walk .0 refl 0 refl ∙ computed .crossingFirst in
     omega arith
