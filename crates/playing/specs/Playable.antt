@@ -83,7 +83,8 @@ module _ (t : Tables) (p : Playable t) where
   by-opening before behind (suc n) e = sound-playable _ (behind (p .sound (omega (arith, e))))
 
   open-playable : (method k panels : ℕ) (setpoints : List ℕ) (n : ℕ) → openRefusal method k panels setpoints t ≡ n → Playable (unless n (left Ok (opened method k panels setpoints t)) t .tables)
-  open-playable method k panels setpoints zero e = sound-playable _ (opened-sound method k panels setpoints t (openable method k panels setpoints t e))
+  open-playable method k panels setpoints zero e =
+      sound-playable _ (opened-sound method k panels setpoints t (openable method k panels setpoints t e))
   open-playable method k panels setpoints (suc n) e = p
 
   -- every step leaves tables that may be played on

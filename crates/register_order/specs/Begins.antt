@@ -65,10 +65,12 @@ module _ (t : Tables) (h : History) (numbers : List ℕ) (a : Agrees t h numbers
     unfolding begunWrite
     same-reads = refl
 
-    write-agrees : Agrees (begunWrite q mask setpoints t) (begun (h .doing q) q (writing mask setpoints (h .clock)) h) (more numbers (stepOf t + 1))
+    write-agrees :
+        Agrees (begunWrite q mask setpoints t) (begun (h .doing q) q (writing mask setpoints (h .clock)) h) (more numbers (stepOf t + 1))
     write-agrees =
         rw (a .clients q client .resting (b .begin .free))
-        (write-begins t (begunWrite q mask setpoints t) h numbers a q client (begunWrite-kept q mask setpoints t (a .sound) b) (nextCount t q) begun-records same-reads write-counts (b .few)
+        (write-begins t (begunWrite q mask setpoints t) h numbers a q client (begunWrite-kept q mask setpoints t (a .sound) b)
+        (nextCount t q) begun-records same-reads write-counts (b .few)
         (written stateField (omega arith)) (written recordField (omega arith)) mask setpoints)
 
     write-step : stepOf (begunWrite q mask setpoints t) ≡ suc (stepOf t)
@@ -120,7 +122,8 @@ module _ (t : Tables) (h : History) (numbers : List ℕ) (a : Agrees t h numbers
     unfolding begunRead
     read-agrees =
         rw (a .clients q reader .resting (b .begin .free))
-        (read-begins t (begunRead q mask t) h numbers a q reader (begunRead-kept q mask t (a .sound) b) mask refl refl read-counts (b .few) (asks .0) (asks .1))
+        (read-begins t (begunRead q mask t) h numbers a q reader (begunRead-kept q mask t (a .sound) b)
+        mask refl refl read-counts (b .few) (asks .0) (asks .1))
 
     read-step : stepOf (begunRead q mask t) ≡ suc (stepOf t)
     read-step = read-counts .step ∙ add-one (stepOf t)

@@ -14,6 +14,7 @@ use Rattle.tables.specs.Layout.{recordPlaces, recordWidth, recordWord, clientOf
 use Rattle.tables.specs.Tables.{Tables, clientsOf, stepOf, entriesOf, writesOf, readsOf, stateOf, recordOf}
 use Rattle.rules.specs.Common.{idle, entering, coordinator, endedRecord, taggedRecord}
 use Rattle.rules.specs.Common as rules
+use Rattle.rules.specs.declared.Delivered.{Delivered}
 use Rattle.soundness.specs.Sound.{isWriting, isReading, isOpen}
 use Rattle.soundness.specs.Facts as underway
 use Rattle.soundness.specs.Room.{write-open, read-open, write-row, read-row, next-write, next-read}
@@ -21,7 +22,8 @@ use Rattle.keeping.specs.Records.{open-client, begun-here, tagged-here, tagged-
 use Rattle.keeping.specs.Frame.{Kept}
 use Rattle.keeping.specs.Links.{kindOn, numberOn}
 use Rattle.listing.specs.Register.{endIn}
-use Rattle.serial.specs.History.{changed, Transaction, Doing, nothing, writing, tagged, reading, History, historyOf, passed, turned, writeOf, readOf, given, wrote, showed, ended}
+use Rattle.serial.specs.History.{valueWritten, valueShown, changed, Transaction, Doing, nothing, writing, tagged, reading, History}
+use Rattle.serial.specs.History.{historyOf, passed, turned, writeOf, readOf, given, wrote, showed, ended}
 use Rattle.serial.proofs.Places.{changed-other, changed-all}
 use Rattle.register_order.specs.Order.{Particulars, particulars, ofRecord, numberAt}
 use Rattle.register_order.specs.Agreement.{Tells, OneWrite, Untagged, Reading, Activity, Agrees, ofRead}
@@ -212,7 +214,7 @@ module _ (t t′ : Tables) (h : History) (numbers : List ℕ) (a : Agrees t h nu
     tag-beside f g d = rw tags (tagged-word (t .writes) own-place (entriesOf t) own-place f g d)
 
     abbrev new : Transaction
-    new = writeOf q (u .mask) (u .setpoints) (suc (h .tags)) (u .begin) none
+    new = writeOf q (u .mask) (valueWritten (u .setpoints)) (suc (h .tags)) (u .begin) none
 
     new-tells : Tells numbers′ new (ofRecord true 0 (t′ .writes) own-place)
     new-tells = record {
@@ -309,7 +311,7 @@ module _ (t t′ : Tables) (h : History) (numbers : List ℕ) (a : Agrees t h nu
     }
 
   -- a READ ends
-  module _ (w : isReading (stateOf t q) ≡ true) (r : Reading t numbers q (h .doing q)) (tag : ℕ) (shown : List ℕ)
+  module _ (w : isReading (stateOf t q) ≡ true) (r : Reading t numbers q (h .doing q)) (tag : ℕ) (shown : Delivered)
       (ends : t′ .reads ≡ endedRecord (recordOf t q) step′ (taggedRecord (recordOf t q) tag (t .reads))) (same-writes : t′ .writes ≡ t .writes) (c : Counts t t′ (entriesOf t) (writesOf t) (readsOf t)) (state : stateOf t′ q ≡ idle) where
     abbrev with-tag : List ℕ
     with-tag = taggedRecord own-place tag (t .reads)
@@ -333,7 +335,7 @@ module _ (t t′ : Tables) (h : History) (numbers : List ℕ) (a : Agrees t h nu
     over-beside f g d e = rw ends (ended-word with-tag own-place step′ own-place f g d ∙ tagged-word (t .reads) own-place tag own-place f g e)
 
     abbrev finished : Transaction
-    finished = readOf q (r .mask) shown tag (r .begin) (h .clock) (suc (r .deliveries))
+    finished = readOf q (r .mask) (valueShown shown) tag (r .begin) (h .clock) (suc (r .deliveries))
 
     over-tells : Tells numbers′ finished (ofRead (t′ .reads) own-place)
     over-tells = record {

@@ -72,9 +72,9 @@ told numbers x = particulars (x .isWrite) (x .tag) (x .client) (cond (x .isWrite
 
 -- ---- the claim
 
--- Behind every accepted opening and every list of steps, "in any order and with any arguments, … refused ones and refused openings too": a listing of the
--- tables then left lists the transactions of the row, all of them and no other, in the row's order, with the same kinds, tags, panels, begins and ends, and
--- READs with the same masks. Every list is meant, so this is so after each step.
+-- Behind every accepted opening and every list of steps, "in any order and with any arguments, … refused ones and refused openings too": a
+-- listing of the tables then left lists the transactions of the row, all of them and no other, in the row's order, with the same kinds,
+-- tags, panels, begins and ends, and READs with the same masks. Every list is meant, so this is so after each step.
 abbrev pub SameOrder : {S : Type 0} → (Tables → List Line) → Machine S → Type 0
 SameOrder listing machine =
     BehindOpenings machine (λ start played h.

@@ -109,7 +109,8 @@ module _ (t : Tables) (h : History) (numbers : List ℕ) (a : Agrees t h numbers
       read-over : AnswersReply (endedRead q tag clients links t)
       read-over =
           let x = activity .reading reads in
-          let b = read-ends t over h numbers a q client k reads x tag (readShown tag clients q (maskOf t q) .setpoints) refl refl (counts over refl) over-idle in
+          let shown = readShown tag clients q (maskOf t q) in
+          let b = read-ends t over h numbers a q client k reads x tag shown refl refl (counts over refl) over-idle in
           record { agrees = as-next t h numbers a over (after (replied q i (readShown tag clients q (maskOf t q))) h) (rw (x .is) b); step = next-step over refl }
 
     abbrev rest : List ℕ

@@ -64,7 +64,8 @@ module _ (t : Tables) (h : History) (numbers : List ℕ) (a : Agrees t h numbers
   step-follows (opening method k p setpoints) =
       by-refusal (Leaving (event.opened method k p setpoints)) (openRefusal method k p setpoints t) (left Ok (opened method k p setpoints t)) t
       (λ m e. record { agrees = passed-agrees t h numbers a; step = refl })
-      (λ e. let o = opened-starts method k p setpoints t (openable method k p setpoints t e) in record { agrees = o .agrees; step = o .step })
+      (λ e. let o = opened-starts method k p setpoints t (openable method k p setpoints t e) in
+      record { agrees = o .agrees; step = o .step })
   step-follows (beginning-write q mask setpoints) =
       by-refusal (Leaving (begun-write q mask setpoints)) (writeRefusal q mask setpoints t) (left Ok (begunWrite q mask setpoints t)) t
       (λ m e. record { agrees = passed-agrees t h numbers a; step = refl })

@@ -1,7 +1,7 @@
 -- Begins, on the tables.
 use Prim.Native.Nat.{ℕ, suc, _+_, _≤_, _<_}
 use mathlib.Core.Path.{_≡_, refl, sym, ap, _∙_, subst}
-use mathlib.Core.Bool.{true}
+use mathlib.Core.Bool.{true, false}
 use mathlib.Core.List.{List, [], _∷_}
 use native.Mathlib.Omega.{arith}
 use native.Mathlib.Numerals.{add-one}
@@ -174,6 +174,9 @@ module _ (floor : ℕ → ℕ) (t : Tables) (h : History) (s : Standing floor t 
         ∙ started-others rules.writing mask (writesOf t) q (t .clients) (has-row t q ready) r d)
         (λ r d. sent-others q (sets (nextCount t q)) fits mask (serversOf t) small bound (t .links) long empty r d)
 
+    none-there : hasServer mask coordinator ≡ false
+    none-there = no-coordinator mask (serversOf t) (few t q ready) bound
+
     write-begun : Begun (begun-write q mask setpoints Ok) (begunWrite q mask setpoints t)
     write-begun = record {
       kept = subst (λ (v : Press). Kept floor h (begun-write q mask setpoints Ok) v) (sym seen)
@@ -183,7 +186,8 @@ module _ (floor : ℕ → ℕ) (t : Tables) (h : History) (s : Standing floor t 
           (begun-word countField (omega arith) ∙ word-same clientWidth (startedClient rules.writing mask (writesOf t) q (t .clients)) q countField (nextCount t q) has-begun (omega arith) ∙ next-count)
           few-counts);
       budget = subst Budget (sym seen)
-          (write-budget (view t) budget q (in-range t q ready) free begun begun-state (omega (arith, sends-come mask (sets (suc (countIn c))) (λ i. refl) (no-coordinator mask (serversOf t) (few t q ready) bound), few-servers mask)));
+          (write-budget (view t) budget q (in-range t q ready) free begun begun-state
+          (omega (arith, sends-come mask (sets (suc (countIn c))) (λ i. refl) none-there, few-servers mask)));
       answers = tt;
       room = λ z. omega arith;
       step = ap (λ (v : Press). v .shared .step) seen ∙ add-one (stepOf t);

@@ -18,6 +18,7 @@ use Rattle.rules.specs.declared.Answer.the-variants.{Ok}
 use Rattle.serial.specs.Steps.{begun-write, begun-read}
 use Rattle.serial.specs.History.{changed, writing, History}
 use Rattle.serial.proofs.Places.{changed-same, changed-other, changed-all}
+use Rattle.serial.proofs.Versions.{Version}
 use Rattle.serial.proofs.Press.{renumbered, Client, clientOf, Press, pressOf, stateIn, countIn, weight, toCome, sends, World, world}
 use Rattle.serial.proofs.Links.{come-changed, no-coordinator, sends-masked, sends-other, sends-come}
 use Rattle.serial.proofs.Invariant.{AllLink, Idle, at-writing, at-keys, at-getting, at-all, ClientOk, Tied}
@@ -50,7 +51,7 @@ module _ (floor : ℕ → ℕ) (p : Press) (h : History) (tied : Tied floor p h)
   next-none : (i : ℕ) → x .lookup i (keyOf (suc (countIn old)) q) (x .held i) ≡ none
   next-none i = go (x .lookup i (keyOf (suc (countIn old)) q) (x .held i)) refl
     where
-      go : (o : Option ℕ) → x .lookup i (keyOf (suc (countIn old)) q) (x .held i) ≡ o → o ≡ none
+      go : (o : Option Version) → x .lookup i (keyOf (suc (countIn old)) q) (x .held i) ≡ o → o ≡ none
       go none e = refl
       go (some v) e = let z : ⊥ = omega (arith, okay .latest i (suc (countIn old)) v e) in absurd z
 
@@ -80,7 +81,7 @@ module _ (floor : ℕ → ℕ) (p : Press) (h : History) (tied : Tied floor p h)
       new = clientOf row (sends mask (sets setpoints))
 
   module _ (count : row countField ≡ countIn old) where
-    latest′ : (i n v : ℕ) → x .lookup i (keyOf n q) (x .held i) ≡ some v → n ≤ row countField
+    latest′ : (i n : ℕ) (v : Version) → x .lookup i (keyOf n q) (x .held i) ≡ some v → n ≤ row countField
     latest′ i n v e = omega (arith, okay .latest i n v e, count)
 
     -- A: the last tag and its keys

@@ -18,7 +18,8 @@ pub record Standing (floor : ℕ → ℕ) (t : Tables) (h : History) : Type 0 wh
   pub tied : Tied floor (view t) h
   pub budget : Budget (view t)
 
--- a step keeps the tie and the budget, pays what it owes, answers a request, finds room, and counts where it is accepted; n steps were accepted before
+-- a step keeps the tie and the budget, pays what it owes, answers a request, finds room, and counts where it is accepted; n steps were
+-- accepted before
 pub record Fair (floor : ℕ → ℕ) (h : History) (n : ℕ) (x : Played) : Type 0 where
   pub kept : Kept floor h (x .event) (view (x .tables))
   pub budget : Budget (view (x .tables))

@@ -5,38 +5,46 @@ use mathlib.Core.Bool.{Bool, true, false, cond, false≢true}
 use mathlib.Core.Option.{none, some, Option·none-ne-some, Option·some-injective}
 use mathlib.Core.List.{List, [], _∷_}
 use native.Mathlib.Omega.{arith}
-use lib.ListN.{getD}
 use Rattle.ranges.specs.Tests.{by-equal}
 use Rattle.ranges.specs.Each.{Each, each-append, each-map}
 use Rattle.rules.specs.declared.Answer.the-variants.{Ok, Refused}
 use Rattle.rules.specs.declared.Arrival.{Arrival}
 use Rattle.rules.specs.declared.Arrival.the-variants as arrival
+use Rattle.rules.specs.declared.Delivered.{Delivered}
 use Rattle.serial.specs.Steps.{Event, opened, begun-write, begun-read, requested, replied}
-use Rattle.serial.specs.History.{changed, Transaction, Doing, nothing, writing, tagged, reading, History, historyOf, passed, turned, begun, delivered, writeOf, given, entered, ended, wrote, readOf, showed, arrived, fresh, extraOf, atCoordinator, after}
+use Rattle.serial.specs.History.{Value, valueOpened, valueWritten, valueShown, changed, Transaction, Doing, nothing, writing}
+use Rattle.serial.specs.History.{tagged, reading, History, historyOf, passed, turned, begun, delivered, writeOf, given, entered}
+use Rattle.serial.specs.History.{ended, wrote, readOf, showed, arrived, fresh, extraOf, atCoordinator, after}
 use Rattle.serial.specs.Claim.{EndsAt, Unfinished}
 use Rattle.serial.proofs.Places.{changed-same, changed-other, changed-all, changed-both}
 use Rattle.serial.proofs.Lists.{pairs-append}
 use Rattle.serial.proofs.Owed.{valueAt, More, OwedRead, OwedArrival, Owed, floorAfter}
 use Rattle.serial.proofs.HistoryOk.{Timed, Rising, DoingOk, Later, Shown, WriteOk, HistoryOk}
 
--- Values behind a tag go by masks and setpoints of the WRITEs up to it.
-pub value-same : (initial : ℕ → ℕ) (f g : ℕ → Transaction) (n : ℕ) → ((t : ℕ) → t ≤ n → (f t .mask ≡ g t .mask) × (f t .setpoints ≡ g t .setpoints)) → (t : ℕ) → t ≤ n → (i : ℕ) → valueAt initial f t i ≡ valueAt initial g t i
+-- Values behind a tag go by masks and values of the WRITEs up to it.
+pub value-same : (initial : ℕ → Value) (f g : ℕ → Transaction) (n : ℕ) →
+    ((t : ℕ) → t ≤ n → (f t .mask ≡ g t .mask) × (f t .value ≡ g t .value)) →
+    (t : ℕ) → t ≤ n → (i : ℕ) → valueAt initial f t i ≡ valueAt initial g t i
 unfolding valueAt
 value-same initial f g n e zero l i = refl
 value-same initial f g n e (suc t) l i =
     rw (e (suc t) l .0, e (suc t) l .1, value-same initial f g n e t (omega arith) i)
 
 -- a WRITE of a later tag leaves them
-pub value-before : (initial : ℕ → ℕ) (write : ℕ → Transaction) (n : ℕ) (x : Transaction) (t : ℕ) → t ≤ n → (i : ℕ) → valueAt initial (changed write (suc n) x) t i ≡ valueAt initial write t i
+pub value-before : (initial : ℕ → Value) (write : ℕ → Transaction) (n : ℕ) (x : Transaction) (t : ℕ) → t ≤ n → (i : ℕ) →
+    valueAt initial (changed write (suc n) x) t i ≡ valueAt initial write t i
 value-before initial write n x t l i =
     value-same initial (changed write (suc n) x) write n
-    (λ u k. let e = changed-other write (suc n) x u (λ z. omega arith) in (ap (λ (y : Transaction). y .mask) e, ap (λ (y : Transaction). y .setpoints) e)) t l i
+    (λ u k. let e = changed-other write (suc n) x u (λ z. omega arith) in
+    (ap (λ (y : Transaction). y .mask) e, ap (λ (y : Transaction). y .value) e)) t l i
 
 -- and so does the end of a WRITE
-pub value-ended : (initial : ℕ → ℕ) (write : ℕ → Transaction) (tag end : ℕ) (t i : ℕ) → valueAt initial (changed write tag (ended end (write tag))) t i ≡ valueAt initial write t i
+pub value-ended : (initial : ℕ → Value) (write : ℕ → Transaction) (tag end : ℕ) (t i : ℕ) →
+    valueAt initial (changed write tag (ended end (write tag))) t i ≡ valueAt initial write t i
 value-ended initial write tag end t i =
     value-same initial (changed write tag (ended end (write tag))) write t
-    (λ u k. changed-all write tag (ended end (write tag)) (λ v y. (y .mask ≡ write v .mask) × (y .setpoints ≡ write v .setpoints)) (refl, refl) (λ v d. (refl, refl)) u) t (omega arith) i
+    (λ u k. changed-all write tag (ended end (write tag)) (λ v y. (y .mask ≡ write v .mask) × (y .value ≡ write v .value))
+    (refl, refl) (λ v d. (refl, refl)) u) t (omega arith) i
 
 -- One step more on the clock.
 module _ (tagsAt : ℕ → ℕ) (clock tags : ℕ) where
@@ -129,7 +137,7 @@ module _ (tagsAt floor : ℕ → ℕ) (h : History) (ok : HistoryOk tagsAt floor
   given-ok : (q mask : ℕ) (setpoints : List ℕ) (begin : ℕ) → h .doing q ≡ writing mask setpoints begin → HistoryOk more floor (given q mask setpoints begin h)
   given-ok q mask setpoints begin e =
       let c : (begin < h .clock) × (tagsAt begin ≤ floor q) × (floor q ≤ h .tags) = rw e at (ok .doing q) in
-      let new = writeOf q mask setpoints (suc (h .tags)) begin none in
+      let new = writeOf q mask (valueWritten setpoints) (suc (h .tags)) begin none in
       let was : more begin ≡ tagsAt begin = before tagsAt (h .clock) (suc (h .tags)) begin (omega (arith, c .0)) in
       record {
         rising = rising-on tagsAt (h .clock) (suc (h .tags)) (h .tags) (omega arith) (ok .now) (ok .rising);
@@ -183,10 +191,10 @@ module _ (tagsAt floor : ℕ → ℕ) (h : History) (ok : HistoryOk tagsAt floor
         whose = ok .whose;
       }
 
-  showed-ok : (q tag : ℕ) (shown : List ℕ) → OwedRead (floor q) h (h .doing q) tag shown → HistoryOk now′ floor (showed tag shown (h .doing q) q h)
-  showed-ok q tag shown owed =
+  showed-ok : (q tag : ℕ) (d : Delivered) → OwedRead (floor q) h (h .doing q) tag d → HistoryOk now′ floor (showed tag d (h .doing q) q h)
+  showed-ok q tag d owed =
       let c : (owed .begin < h .clock) × (tagsAt (owed .begin) ≤ floor q) × (floor q ≤ h .tags) = rw (owed .is) at (ok .doing q) in
-      let x = readOf q (owed .mask) shown tag (owed .begin) (h .clock) (suc (owed .deliveries)) in
+      let x = readOf q (owed .mask) (valueShown d) tag (owed .begin) (h .clock) (suc (owed .deliveries)) in
       rw (owed .is) record {
         order = pairs-append Later (h .reads) _ (ok .order) (tt, tt) (each-map _ (λ y. Each (Later y) (x ∷ [])) (λ y s. ((λ e k. rw (← Option·some-injective _ _ k) (s .begun)), tt)) (h .reads) (ok .reads));
         rising = rising-on tagsAt (h .clock) (h .tags) (h .tags) (omega arith) (ok .now) (ok .rising);
@@ -224,14 +232,14 @@ module _ (tagsAt floor : ℕ → ℕ) (h : History) (ok : HistoryOk tagsAt floor
   requested-ok q true m = entered-ok q (h .doing q) refl m
   requested-ok q false m = (now′, delivered-ok q (h .doing q) refl m)
 
-  arrived-ok : (q i : ℕ) (a : Arrival) (shown : List ℕ) → OwedArrival floor h a shown q → HistoryOk now′ floor (arrived a shown q h)
-  arrived-ok q i arrival.Wait shown owed = delivered-ok q (h .doing q) refl owed
-  arrived-ok q i arrival.Next shown owed = delivered-ok q (h .doing q) refl owed
-  arrived-ok q i (arrival.Write tag) shown owed = rw owed (wrote-ok q tag owed)
-  arrived-ok q i (arrival.Read tag) shown owed = showed-ok q tag shown owed
-  arrived-ok q i (arrival.Refused n) shown owed = passed-ok
+  arrived-ok : (q i : ℕ) (a : Arrival) (d : Delivered) → OwedArrival floor h a d q → HistoryOk now′ floor (arrived a d q h)
+  arrived-ok q i arrival.Wait d owed = delivered-ok q (h .doing q) refl owed
+  arrived-ok q i arrival.Next d owed = delivered-ok q (h .doing q) refl owed
+  arrived-ok q i (arrival.Write tag) d owed = rw owed (wrote-ok q tag owed)
+  arrived-ok q i (arrival.Read tag) d owed = showed-ok q tag d owed
+  arrived-ok q i (arrival.Refused n) d owed = passed-ok
 
-pub fresh-ok : (floor : ℕ → ℕ) (initial : ℕ → ℕ) (extra : ℕ) → HistoryOk (λ c. 0) floor (fresh initial extra)
+pub fresh-ok : (floor : ℕ → ℕ) (initial : ℕ → Value) (extra : ℕ) → HistoryOk (λ c. 0) floor (fresh initial extra)
 fresh-ok floor initial extra = record {
   rising = λ c d l k. omega arith;
   now = refl;
@@ -247,7 +255,7 @@ fresh-ok floor initial extra = record {
 }
 
 pub after-ok : (tagsAt floor : ℕ → ℕ) (h : History) (ok : HistoryOk tagsAt floor h) (event : Event) → Owed floor h event → Next tagsAt floor h ok event
-after-ok tagsAt floor h ok (opened method k p setpoints Ok) owed = ((λ c. 0), fresh-ok floor (λ i. getD setpoints i 0) (extraOf method))
+after-ok tagsAt floor h ok (opened method k p setpoints Ok) owed = ((λ c. 0), fresh-ok floor (valueOpened setpoints) (extraOf method))
 after-ok tagsAt floor h ok (opened method k p setpoints (Refused n)) owed = (now′ tagsAt floor h ok, passed-ok tagsAt floor h ok)
 after-ok tagsAt floor h ok (begun-write q mask setpoints Ok) owed = rw owed (now′ tagsAt floor h ok, begun-ok tagsAt floor h ok q (writing mask setpoints (h .clock)) tt (begin-now tagsAt floor h ok (h .clock) refl))
 after-ok tagsAt floor h ok (begun-write q mask setpoints (Refused n)) owed = (now′ tagsAt floor h ok, passed-ok tagsAt floor h ok)
@@ -255,4 +263,4 @@ after-ok tagsAt floor h ok (begun-read q mask Ok) owed = rw (owed .0) (now′ ta
 after-ok tagsAt floor h ok (begun-read q mask (Refused n)) owed = (now′ tagsAt floor h ok, passed-ok tagsAt floor h ok)
 after-ok tagsAt floor h ok (requested q i Ok) owed = requested-ok tagsAt floor h ok q (atCoordinator i) owed
 after-ok tagsAt floor h ok (requested q i (Refused n)) owed = (now′ tagsAt floor h ok, passed-ok tagsAt floor h ok)
-after-ok tagsAt floor h ok (replied q i d) owed = (now′ tagsAt floor h ok, arrived-ok tagsAt floor h ok q i (d .arrival) (d .setpoints) owed)
+after-ok tagsAt floor h ok (replied q i d) owed = (now′ tagsAt floor h ok, arrived-ok tagsAt floor h ok q i (d .arrival) d owed)

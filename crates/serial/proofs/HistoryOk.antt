@@ -5,14 +5,13 @@ use mathlib.Core.Bool.{true, false}
 use mathlib.Core.Option.{some}
 use mathlib.Core.List.{List, [], _∷_, _++_}
 use native.Mathlib.Omega.{arith}
-use lib.ListN.{getD}
 use lib.Dec.{leb, ltb}
 use borrow.Author.Tests.{leb-true, leb-false, ltb-true, ltb-false}
 use Rattle.ranges.specs.Tests.{by-equal, by-test, not-both}
 use Rattle.ranges.specs.Each.{Each, each-append, each-map, each-at}
 use Rattle.keys.specs.Masks.{hasServer}
 use Rattle.serial.specs.Steps.{Played}
-use Rattle.serial.specs.History.{Transaction, noWrite, Doing, nothing, writing, tagged, reading, History}
+use Rattle.serial.specs.History.{Value, Transaction, noWrite, Doing, nothing, writing, tagged, reading, History}
 use Rattle.serial.specs.Row.{readsOf, rowTo, row, walked, Walk, at, RealTime}
 use Rattle.serial.specs.Claim.{EndsAt, Unfinished, Answers, Claim}
 use Rattle.serial.proofs.Lists.{Pairs, pairs-append, pairs-map, pairs-at, OfTag, reads-each, reads-only, reads-pairs, row-complete}
@@ -43,7 +42,7 @@ NotBefore x y = (e : ℕ) → y .end ≡ some e → x .begin ≤ e
 
 -- a finished READ, its tag, and what it showed
 abbrev pub Shown : History → Transaction → Type 0
-Shown h x = (x .isWrite ≡ false) × (x .tag ≤ h .tags) × ((i : ℕ) → hasServer (x .mask) i ≡ true → getD (x .setpoints) i 0 ≡ valueIn h (x .tag) i)
+Shown h x = (x .isWrite ≡ false) × (x .tag ≤ h .tags) × ((i : ℕ) → hasServer (x .mask) i ≡ true → x .value i ≡ valueIn h (x .tag) i)
 
 pub record WriteOk (clock : ℕ) (tagsAt : ℕ → ℕ) (place : ℕ) (x : Transaction) : Type 0 where
   pub kind : x .isWrite ≡ true
@@ -65,23 +64,23 @@ pub record HistoryOk (tagsAt floor : ℕ → ℕ) (h : History) : Type 0 where
   pub whose : h .astray ≡ 0
 
 -- The walk: where it stands behind a part of the row.
-abbrev behind : (ℕ → ℕ) → List Transaction → ℕ → ℕ
+abbrev behind : (ℕ → Value) → List Transaction → ℕ → Value
 behind values [] = values
 behind values (x ∷ xs) = behind (walked values x) xs
 
-walk-append : (values : ℕ → ℕ) (xs ys : List Transaction) → Walk values xs → Walk (behind values xs) ys → Walk values (xs ++ ys)
+walk-append : (values : ℕ → Value) (xs ys : List Transaction) → Walk values xs → Walk (behind values xs) ys → Walk values (xs ++ ys)
 walk-append values [] ys a b = b
 walk-append values (x ∷ xs) ys a b = (a .0, walk-append (walked values x) xs ys (a .1) b)
 
-behind-append : (values : ℕ → ℕ) (xs ys : List Transaction) → behind values (xs ++ ys) ≡ behind (behind values xs) ys
+behind-append : (values : ℕ → Value) (xs ys : List Transaction) → behind values (xs ++ ys) ≡ behind (behind values xs) ys
 behind-append values [] ys = refl
 behind-append values (x ∷ xs) ys = behind-append (walked values x) xs ys
 
 -- READs that all show the values just then change none
-abbrev ReadAt : (ℕ → ℕ) → Transaction → Type 0
-ReadAt values x = (x .isWrite ≡ false) × ((i : ℕ) → hasServer (x .mask) i ≡ true → getD (x .setpoints) i 0 ≡ values i)
+abbrev ReadAt : (ℕ → Value) → Transaction → Type 0
+ReadAt values x = (x .isWrite ≡ false) × ((i : ℕ) → hasServer (x .mask) i ≡ true → x .value i ≡ values i)
 
-walk-reads : (values : ℕ → ℕ) (xs : List Transaction) → Each (ReadAt values) xs → Walk values xs × (behind values xs ≡ values)
+walk-reads : (values : ℕ → Value) (xs : List Transaction) → Each (ReadAt values) xs → Walk values xs × (behind values xs ≡ values)
 walk-reads values [] a = (tt, refl)
 walk-reads values (x ∷ xs) a =
     let rest = walk-reads values xs (a .1) in
@@ -114,8 +113,8 @@ module _ (tagsAt floor : ℕ → ℕ) (h : History) (ok : HistoryOk tagsAt floor
       let step : walked (valueIn h tag) (h .write (suc tag)) ≡ valueIn h (suc tag) = fun-ext (λ i. rw kind) in (
         walk-append (h .initial) (rowTo h tag) _ (before .0) (rw (before .1) (λ e. absurd (not-both kind e), rw step (here .0))),
         behind-append (h .initial) (rowTo h tag) _
-            ∙ ap (λ (v : ℕ → ℕ). behind (walked v (h .write (suc tag))) (readsOf (suc tag) (h .reads))) (before .1)
-            ∙ ap (λ (v : ℕ → ℕ). behind v (readsOf (suc tag) (h .reads))) step
+            ∙ ap (λ (v : ℕ → Value). behind (walked v (h .write (suc tag))) (readsOf (suc tag) (h .reads))) (before .1)
+            ∙ ap (λ (v : ℕ → Value). behind v (readsOf (suc tag) (h .reads))) step
             ∙ here .1,
       )
 

@@ -1,11 +1,10 @@
 -- What ties the tables to the history, by client, and what another client's step leaves of it.
 use Prim.Native.Nat.{ℕ, suc, _+_, _≤_, _<_}
-use mathlib.Core.Path.{_≡_, sym, _∙_}
+use mathlib.Core.Path.{_≡_, sym, ap, _∙_}
 use mathlib.Core.Bool.{true}
 use mathlib.Core.Option.{none, some}
 use mathlib.Core.List.{List}
 use native.Mathlib.Omega.{arith}
-use lib.ListN.{getD}
 use Rattle.keys.specs.declared.Key.{Key}
 use Rattle.keys.specs.Keys.{keyOf}
 use Rattle.keys.specs.Masks.{hasServer, serversIn}
@@ -15,9 +14,11 @@ use Rattle.tables.specs.declared.links.Content.{Content}
 use Rattle.tables.specs.declared.links.Content.the-variants.{Nothing, Request, Reply}
 use Rattle.rules.specs.Common.{idle, entering, askingKeys, askingSetpoints, askingAll, coordinator}
 use Rattle.rules.specs.Common as rules
-use Rattle.serial.specs.History.{Doing, nothing, writing, tagged, reading, History, extraOf}
+use Rattle.serial.specs.History.{valueWritten, Doing, nothing, writing, tagged, reading, History, extraOf}
 use Rattle.serial.specs.Claim.{enough}
-use Rattle.serial.proofs.Press.{Client, Press, stateIn, countIn, maskIn, tagIn, setpointIn, receivedIn, toCome, World, world}
+use Rattle.serial.proofs.Versions.{Version, keptOf}
+use Rattle.serial.proofs.Press.{Client, Press, stateIn, countIn, maskIn, tagIn, receivedIn, toCome, World, keptAt, carried}
+use Rattle.serial.proofs.Press.{storedIn, world}
 
 -- ---- what a link of a client holds, by the client's state
 
@@ -25,8 +26,8 @@ use Rattle.serial.proofs.Press.{Client, Press, stateIn, countIn, maskIn
 abbrev pub own : ℕ → Client → Key
 own q c = keyOf (countIn c) q
 
--- server i holds a key with a setpoint
-abbrev pub Holds : World → ℕ → Key → ℕ → Type 0
+-- server i keeps this of a key
+abbrev pub Holds : World → ℕ → Key → Version → Type 0
 Holds x i key v = x .lookup i key (x .held i) ≡ some v
 
 abbrev pub Masked : Client → ℕ → Type 0
@@ -35,9 +36,11 @@ Masked c i = hasServer (maskIn c) i ≡ true
 -- State 1. A server that was sent the setpoint holds it, or the request is still under way and no version bears the key.
 module _ (x : World) (q : ℕ) (c : Client) where
   abbrev pub WriteLink : List ℕ → ℕ → Content → Type 0
-  WriteLink setpoints i Nothing = Masked c i → Holds x i (own q c) (getD setpoints i 0)
-  WriteLink setpoints i (Request w) = (w .key ≡ own q c) × (w .number ≡ getD setpoints i 0) × (i < x .servers) × (x .lookup i (own q c) (x .held i) ≡ none)
-  WriteLink setpoints i (Reply w) = Holds x i (own q c) (getD setpoints i 0)
+  WriteLink setpoints i Nothing = Masked c i → Holds x i (own q c) (keptOf (valueWritten setpoints i))
+  WriteLink setpoints i (Request w) =
+      (w .key ≡ own q c) × (carried w ≡ keptOf (valueWritten setpoints i)) × (i < x .servers) ×
+      (x .lookup i (own q c) (x .held i) ≡ none)
+  WriteLink setpoints i (Reply w) = Holds x i (own q c) (keptOf (valueWritten setpoints i))
 
 -- State 3. The reply's number is that of the entries, one more than the last tag.
 module _ (x : World) (floor : ℕ) where
@@ -49,13 +52,15 @@ module _ (x : World) (floor : ℕ) where
 -- State 4. Every request, reply and setpoint is of the value behind the client's tag.
 module _ (x : World) (c : Client) where
   abbrev pub GetLink : ℕ → Content → Type 0
-  GetLink i Nothing = Masked c i → setpointIn c i ≡ x .value (tagIn c) i
-  GetLink i (Request w) = Holds x i (w .key) (x .value (tagIn c) i)
-  GetLink i (Reply w) = w .number ≡ x .value (tagIn c) i
+  GetLink i Nothing = Masked c i → storedIn c i ≡ keptAt x (tagIn c) i
+  GetLink i (Request w) = Holds x i (w .key) (keptAt x (tagIn c) i)
+  GetLink i (Reply w) = carried w ≡ keptAt x (tagIn c) i
 
 -- State 5. The first n versions, or entries, hold what the row had when the READ began.
 abbrev pub Snapshot : World → ℕ → Client → ℕ → ℕ → Type 0
-Snapshot x floor c i n = (i ≡ coordinator → (floor < n) × (n ≤ suc (x .tags))) × (Masked c i → (n ≤ x .held i) × (x .lookup i (x .key floor i) n ≡ some (x .value floor i)))
+Snapshot x floor c i n =
+    (i ≡ coordinator → (floor < n) × (n ≤ suc (x .tags))) ×
+    (Masked c i → (n ≤ x .held i) × (x .lookup i (x .key floor i) n ≡ some (keptAt x floor i)))
 
 module _ (x : World) (floor : ℕ) (c : Client) where
   abbrev pub AllLink : ℕ → Content → Type 0
@@ -81,7 +86,7 @@ module _ (extra : ℕ) (x : World) (floor q : ℕ) (c : Client) (doing : Doing) 
     pub is : doing ≡ writing (maskIn c) setpoints begin
     pub few : countIn c < 256
     pub bound : (i : ℕ) → Masked c i → i < x .servers
-    pub all : (i : ℕ) → Masked c i → Holds x i (own q c) (getD setpoints i 0)
+    pub all : (i : ℕ) → Masked c i → Holds x i (own q c) (keptOf (valueWritten setpoints i))
 
   abbrev pub EnterLink : Content → Type 0
   EnterLink Nothing = ⊥
@@ -139,7 +144,7 @@ module _ (extra : ℕ) (x : World) (floor q : ℕ) (c : Client) (doing : Doing) 
 
   pub record ClientOk : Type 0 where
     -- no version bears a later key of this client
-    pub latest : (i n v : ℕ) → Holds x i (keyOf n q) v → n ≤ countIn c
+    pub latest : (i n : ℕ) (v : Version) → Holds x i (keyOf n q) v → n ≤ countIn c
     pub activity : Activity
 
 -- At most 16 clients and servers; the key of server i at a tag is held with the value behind that tag.
@@ -147,7 +152,8 @@ pub record Tied (floor : ℕ → ℕ) (p : Press) (h : History) : Type 0 where
   pub method : h .extra ≡ extraOf (p .shared .method)
   pub entries : p .shared .entries ≡ suc (h .tags)
   pub room : (i : ℕ) → p .shared .held i ≤ serverPlaces
-  pub value : (tag : ℕ) → tag ≤ h .tags → (i : ℕ) → i < p .shared .servers → world p h .lookup i (world p h .key tag i) (p .shared .held i) ≡ some (world p h .value tag i)
+  pub value : (tag : ℕ) → tag ≤ h .tags → (i : ℕ) → i < p .shared .servers →
+      world p h .lookup i (world p h .key tag i) (p .shared .held i) ≡ some (keptAt (world p h) tag i)
   pub clients : (q : ℕ) → q < 16 → ClientOk (h .extra) (world p h) (floor q) q (p .client q) (h .doing q)
 
 -- What a step of another client does to the world that client q sees.
@@ -158,7 +164,7 @@ pub record Grown (q : ℕ) (x y : World) : Type 0 where
   pub key : (tag : ℕ) → tag ≤ x .tags → (i : ℕ) → y .key tag i ≡ x .key tag i
   pub held : (i : ℕ) → x .held i ≤ y .held i
   pub fewer : (i : ℕ) (key : Key) (n : ℕ) → n ≤ x .held i → y .lookup i key n ≡ x .lookup i key n
-  pub more : (i : ℕ) (key : Key) (v : ℕ) → x .lookup i key (x .held i) ≡ some v → y .lookup i key (y .held i) ≡ some v
+  pub more : (i : ℕ) (key : Key) (v : Version) → x .lookup i key (x .held i) ≡ some v → y .lookup i key (y .held i) ≡ some v
   pub own : (i n : ℕ) → y .lookup i (keyOf n q) (y .held i) ≡ x .lookup i (keyOf n q) (x .held i)
 
 module _ (extra floor q : ℕ) (x y : World) (g : Grown q x y) (c : Client) (d : Doing) where
@@ -180,9 +186,9 @@ module _ (extra floor q : ℕ) (x y : World) (g : Grown q x y) (c : Client) (d :
   keys-frame deliveries (Reply w) h = (h .0, h .1, omega (arith, h .2, g .tags))
 
   get-frame : tagIn c ≤ x .tags → (i : ℕ) (l : Content) → GetLink x c i l → GetLink y c i l
-  get-frame b i Nothing h = λ m. h m ∙ sym (g .value (tagIn c) b i)
+  get-frame b i Nothing h = λ m. h m ∙ sym (ap keptOf (g .value (tagIn c) b i))
   get-frame b i (Request w) h = rw (g .value (tagIn c) b i) (g .more i (w .key) _ h)
-  get-frame b i (Reply w) h = h ∙ sym (g .value (tagIn c) b i)
+  get-frame b i (Reply w) h = h ∙ sym (ap keptOf (g .value (tagIn c) b i))
 
   snapshot-frame : floor ≤ x .tags → (i n : ℕ) → Snapshot x floor c i n → Snapshot y floor c i n
   snapshot-frame b i n h = (

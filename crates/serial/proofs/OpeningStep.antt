@@ -24,9 +24,9 @@ use Rattle.rules.specs.Common.{idle}
 use Rattle.rules.specs.Open.{cleared, holdOne, opened}
 use Rattle.keeping.specs.Accepted.{Openable}
 use Rattle.keeping.specs.Opening.{Opened, opened-words}
-use Rattle.serial.specs.History.{openedWith}
+use Rattle.serial.specs.History.{valueOpened, openedWith}
 use Rattle.serial.proofs.Owed.{valueAt}
-use Rattle.serial.proofs.Versions.{find, is-found, found-is}
+use Rattle.serial.proofs.Versions.{Version, versionOf, keptOf, find, is-found, found-is}
 use Rattle.serial.proofs.Press.{Client, stateIn, view}
 use Rattle.serial.proofs.Links.{come-none}
 use Rattle.serial.proofs.Budget.{waits, due, ahead, Budget, no-waits, no-due, no-rest}
@@ -57,18 +57,18 @@ module _ (m k p : ℕ) (setpoints : List ℕ) (t : Tables) (o : Openable m k p s
       let z : latestTag (left .log) i 0 ≡ 0 = omega (arith, latest-within (left .log) i 0) in
       ap (λ (u : ℕ). entryKey (left .log) u) z ∙ ap keyAtWord (words .entrykey)
 
-  found-first : (i : ℕ) → i < k → find (left .keys) (left .values) i opening (heldOf left i) ≡ some (getD setpoints i 0)
+  found-first : (i : ℕ) → i < k → find (left .keys) (left .values) i opening (heldOf left i) ≡ some (keptOf (valueOpened setpoints i))
   found-first i l =
       rw (words .held i l)
-      (found-is (left .keys) (left .values) i opening 1 (getD setpoints i 0) (record {
+      (found-is (left .keys) (left .values) i opening 1 (keptOf (valueOpened setpoints i)) (record {
         place = 0;
         first = record { within = omega arith; before = λ u d. let z : ⊥ = omega arith in absurd z; here = λ d. eq-eqb _ _ (words .key i l) };
         below = omega arith;
-        setpoint = words .value i l;
+        kept = ap versionOf (words .value i l);
       }))
 
   -- no other key is held
-  latest : (q i n v : ℕ) → find (left .keys) (left .values) i (keyOf n q) (heldOf left i) ≡ some v → n ≤ 0
+  latest : (q i n : ℕ) (v : Version) → find (left .keys) (left .values) i (keyOf n q) (heldOf left i) ≡ some v → n ≤ 0
   latest q i n v e =
       let f = is-found (left .keys) (left .values) i (keyOf n q) (heldOf left i) v e in
       by-test (ltb i k)

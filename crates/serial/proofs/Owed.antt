@@ -2,22 +2,21 @@
 use Prim.Native.Nat.{ℕ, zero, suc, _≤_, _<_}
 use mathlib.Core.Path.{_≡_}
 use mathlib.Core.Bool.{true, cond}
-use mathlib.Core.List.{List}
-use lib.ListN.{getD}
 use Rattle.keys.specs.Masks.{hasServer}
 use Rattle.rules.specs.declared.Answer.the-variants.{Ok, Refused}
 use Rattle.rules.specs.declared.Arrival.{Arrival}
 use Rattle.rules.specs.declared.Arrival.the-variants as arrival
+use Rattle.rules.specs.declared.Delivered.{Delivered}
 use Rattle.serial.specs.Steps.{Event, opened, begun-write, begun-read, requested, replied}
-use Rattle.serial.specs.History.{changed, Transaction, Doing, nothing, writing, tagged, reading, History}
+use Rattle.serial.specs.History.{Value, valueShown, changed, Transaction, Doing, nothing, writing, tagged, reading, History}
 use Rattle.serial.specs.Claim.{enough}
 
 -- the value of server i in the row behind the WRITE of a tag
-unfoldable pub valueAt : (ℕ → ℕ) → (ℕ → Transaction) → ℕ → ℕ → ℕ
+unfoldable pub valueAt : (ℕ → Value) → (ℕ → Transaction) → ℕ → ℕ → Value
 valueAt initial write zero i = initial i
-valueAt initial write (suc tag) i = cond (hasServer (write (suc tag) .mask) i) (getD (write (suc tag) .setpoints) i 0) (valueAt initial write tag i)
+valueAt initial write (suc tag) i = cond (hasServer (write (suc tag) .mask) i) (write (suc tag) .value i) (valueAt initial write tag i)
 
-abbrev pub valueIn : History → ℕ → ℕ → ℕ
+abbrev pub valueIn : History → ℕ → ℕ → Value
 valueIn h tag i = valueAt (h .initial) (h .write) tag i
 
 -- a delivery that does not end a READ leaves deliveries to come
@@ -29,23 +28,23 @@ More extra (reading mask begin deliveries) = suc deliveries < enough extra mask
 
 -- A READ that ends: its tag lies between the number of WRITEs tagged at its begin and the number tagged now, it shows the values behind that tag,
 -- and this is the delivery at which it ends.
-pub record OwedRead (floor : ℕ) (h : History) (doing : Doing) (tag : ℕ) (shown : List ℕ) : Type 0 where
+pub record OwedRead (floor : ℕ) (h : History) (doing : Doing) (tag : ℕ) (d : Delivered) : Type 0 where
   pub mask : ℕ
   pub begin : ℕ
   pub deliveries : ℕ
   pub is : doing ≡ reading mask begin deliveries
   pub low : floor ≤ tag
   pub high : tag ≤ h .tags
-  pub shows : (i : ℕ) → hasServer mask i ≡ true → getD shown i 0 ≡ valueIn h tag i
+  pub shows : (i : ℕ) → hasServer mask i ≡ true → valueShown d i ≡ valueIn h tag i
   pub count : suc deliveries ≡ enough (h .extra) mask
 
 -- `floor` is, for each client, the number of WRITEs tagged when its transaction began
-abbrev pub OwedArrival : (ℕ → ℕ) → History → Arrival → List ℕ → ℕ → Type 0
-OwedArrival floor h arrival.Wait shown q = More (h .extra) (h .doing q)
-OwedArrival floor h arrival.Next shown q = More (h .extra) (h .doing q)
-OwedArrival floor h (arrival.Write tag) shown q = h .doing q ≡ tagged tag
-OwedArrival floor h (arrival.Read tag) shown q = OwedRead (floor q) h (h .doing q) tag shown
-OwedArrival floor h (arrival.Refused n) shown q = Unit {0}
+abbrev pub OwedArrival : (ℕ → ℕ) → History → Arrival → Delivered → ℕ → Type 0
+OwedArrival floor h arrival.Wait d q = More (h .extra) (h .doing q)
+OwedArrival floor h arrival.Next d q = More (h .extra) (h .doing q)
+OwedArrival floor h (arrival.Write tag) d q = h .doing q ≡ tagged tag
+OwedArrival floor h (arrival.Read tag) d q = OwedRead (floor q) h (h .doing q) tag d
+OwedArrival floor h (arrival.Refused n) d q = Unit {0}
 
 abbrev pub Owed : (ℕ → ℕ) → History → Event → Type 0
 Owed floor h (opened method k p setpoints answer) = Unit {0}
@@ -55,7 +54,7 @@ Owed floor h (begun-read q mask Ok) = (h .doing q ≡ nothing) × (0 < enough (h
 Owed floor h (begun-read q mask (Refused n)) = Unit {0}
 Owed floor h (requested q i Ok) = More (h .extra) (h .doing q)
 Owed floor h (requested q i (Refused n)) = Unit {0}
-Owed floor h (replied q i d) = OwedArrival floor h (d .arrival) (d .setpoints) q
+Owed floor h (replied q i d) = OwedArrival floor h (d .arrival) d q
 
 -- a begin sets the client's floor
 abbrev pub floorAfter : Event → History → (ℕ → ℕ) → ℕ → ℕ

@@ -11,10 +11,11 @@ use Rattle.coordinator.specs.Latest.{latestKey}
 use Rattle.tables.specs.Layout.{clientWidth, clientWord, stateField, countField, maskField, tagField, setpointsField, receivedField}
 use Rattle.tables.specs.Links.{targets, linkAt}
 use Rattle.tables.specs.Tables.{Tables, methodOf, serversOf, stepOf, entriesOf, writesOf, readsOf, heldOf}
+use Rattle.tables.specs.declared.links.Contents.{Contents}
 use Rattle.tables.specs.declared.links.Content.{Content}
 use Rattle.tables.specs.declared.links.Content.the-variants.{Nothing, Request, Reply}
-use Rattle.serial.specs.History.{History}
-use Rattle.serial.proofs.Versions.{find}
+use Rattle.serial.specs.History.{Value, History}
+use Rattle.serial.proofs.Versions.{Version, versionOf, keptOf, find}
 use Rattle.serial.proofs.Owed.{valueIn}
 
 -- places from n on count for nothing
@@ -104,14 +105,25 @@ sends mask request i = cond (hasServer mask i) (request i) Nothing
 pub record World : Type 0 where
   pub servers : ℕ
   pub held : ℕ → ℕ
-  pub lookup : ℕ → Key → ℕ → Option ℕ
+  pub lookup : ℕ → Key → ℕ → Option Version
   pub tags : ℕ
   pub key : ℕ → ℕ → Key
-  pub value : ℕ → ℕ → ℕ
+  pub value : ℕ → ℕ → Value
 
-abbrev pub worldOf : Shared → ℕ → (ℕ → ℕ → ℕ) → World
+abbrev pub worldOf : Shared → ℕ → (ℕ → ℕ → Value) → World
 worldOf s tags value =
     record { servers = s .servers; held = s .held; lookup = find (s .keys) (s .values); tags = tags; key = λ tag i. latestKey (s .log) i tag; value = value }
+
+-- what is kept of the value of server i behind a tag
+abbrev pub keptAt : World → ℕ → ℕ → Version
+keptAt x tag i = keptOf (x .value tag i)
+
+-- what a message carries of a value, and what a client's row has of it
+abbrev pub carried : Contents → Version
+carried w = versionOf (w .number)
+
+abbrev pub storedIn : Client → ℕ → Version
+storedIn c i = versionOf (setpointIn c i)
 
 abbrev pub world : Press → History → World
 world p h = worldOf (p .shared) (h .tags) (valueIn h)

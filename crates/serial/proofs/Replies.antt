@@ -24,12 +24,13 @@ use Rattle.rules.specs.Common as rules
 use Rattle.rules.specs.Choice.{hasVersion, serves, qualifies, chosenTag, chosenSetpoint}
 use Rattle.rules.specs.declared.Arrival.the-variants as arrival
 use Rattle.serial.specs.Steps.{replied}
-use Rattle.serial.specs.History.{changed, nothing, writing, tagged, History, ended}
+use Rattle.serial.specs.History.{valueOf, valueWritten, changed, nothing, writing, tagged, History, ended}
 use Rattle.serial.proofs.Places.{changed-same, changed-other, changed-all, changed-both}
 use Rattle.serial.proofs.Owed.{valueAt}
 use Rattle.serial.proofs.HistoryKept.{value-ended}
-use Rattle.serial.proofs.Versions.{found-place, place-found, found-more}
-use Rattle.serial.proofs.Press.{Shared, renumbered, Client, clientOf, Press, pressOf, stateIn, countIn, maskIn, tagIn, setpointIn, receivedIn, weight, toCome, sends, World, worldOf, world}
+use Rattle.serial.proofs.Versions.{Version, versionOf, keptOf, found-place, place-found, found-more}
+use Rattle.serial.proofs.Press.{Shared, renumbered, Client, clientOf, Press, pressOf, stateIn, countIn, maskIn, tagIn, setpointIn}
+use Rattle.serial.proofs.Press.{receivedIn, weight, toCome, sends, World, worldOf, keptAt, carried, world}
 use Rattle.serial.proofs.Links.{come-changed, all-empty, no-coordinator, sends-masked, sends-other, sends-come}
 use Rattle.serial.proofs.Invariant.{Holds, WriteLink, Writing, Entering, AskingKeys, GetLink, Getting, Snapshot, AllLink, AskingAll, at-rest, at-writing, at-entering, at-getting, at-all, ClientOk, Tied, Grown, client-frame}
 use Rattle.serial.proofs.Kept.{Kept, turned-tied, moved-tied}
@@ -64,7 +65,7 @@ module _ (floor : ℕ → ℕ) (p : Press) (h : History) (tied : Tied floor p h)
       done-link : (j : ℕ) → j < targets → WriteLink x q c (a .setpoints) j (emptied j)
       done-link j l =
           changed-all (c .link) i Nothing (λ j k. j < targets → WriteLink x q c (a .setpoints) j k)
-          (λ m k. let e : Holds x i (keyOf (countIn c) q) (getD (a .setpoints) i 0) = rw lk at (a .links i hi) in e)
+          (λ m k. let e : Holds x i (keyOf (countIn c) q) (keptOf (valueWritten (a .setpoints) i)) = rw lk at (a .links i hi) in e)
           (λ j ne m. a .links j m) j l
 
       pub done-wait-kept : stateIn c ≡ rules.writing → Kept floor h (replied q i (nothingShown arrival.Wait)) (afterwards (withLink c i Nothing))
@@ -102,7 +103,7 @@ module _ (floor : ℕ → ℕ) (p : Press) (h : History) (tied : Tied floor p h)
             })),
           )
         where
-          here : (j : ℕ) → hasServer (maskIn c) j ≡ true → Holds x j (keyOf (countIn c) q) (getD (a .setpoints) j 0)
+          here : (j : ℕ) → hasServer (maskIn c) j ≡ true → Holds x j (keyOf (countIn c) q) (keptOf (valueWritten (a .setpoints) j))
           here j m =
               let l : j < targets = omega (arith, a .bound j m) in
               let e : WriteLink x q c (a .setpoints) j Nothing = rw (all-empty emptied all j l) at (done-link j l) in
@@ -122,7 +123,7 @@ module _ (floor : ℕ → ℕ) (p : Press) (h : History) (tied : Tied floor p h)
       got-link : (j : ℕ) → j < targets → GetLink x got j (emptied j)
       got-link j l =
           changed-all (c .link) i Nothing (λ j k. j < targets → GetLink x got j k)
-          (λ k m. let e : w .number ≡ x .value (tagIn c) i = rw lk at (a .links i hi) in rw (new, tag) e)
+          (λ k m. let e : carried w ≡ keptAt x (tagIn c) i = rw lk at (a .links i hi) in rw (new, tag) e)
           (λ j ne k. same-get j ne (c .link j) (a .links j k)) j l
 
       pub got-wait-kept : 0 < toCome emptied → row stateField ≡ askingSetpoints → Kept floor h (replied q i (nothingShown arrival.Wait)) (afterwards got)
@@ -155,7 +156,7 @@ module _ (floor : ℕ → ℕ) (p : Press) (h : History) (tied : Tied floor p h)
           is = a .is;
           low = a .low;
           high = a .high;
-          shows = λ j m. shows j m ∙ here j m;
+          shows = λ j m. ap valueOf (shows j m ∙ here j m);
           count = omega (arith, a .count, come);
         },
         rw (a .is) (
@@ -164,11 +165,11 @@ module _ (floor : ℕ → ℕ) (p : Press) (h : History) (tied : Tied floor p h)
             ),
       )
         where
-          here : (j : ℕ) → hasServer (maskIn c) j ≡ true → row (setpointsField + j) ≡ x .value (tagIn c) j
+          here : (j : ℕ) → hasServer (maskIn c) j ≡ true → row (setpointsField + j) ≡ x .value (tagIn c) j .setpoint
           here j m =
               let l : j < targets = omega (arith, a .bound j m) in
               let e : GetLink x got j Nothing = rw (all-empty emptied all j l) at (got-link j l) in
-              rw tag at (e (rw mask m))
+              ap (λ (v : Version). v .setpoint) (rw tag at (e (rw mask m)))
 
     -- C: a server or the coordinator told how much it holds.
     module _ (a : AskingAll (h .extra) x (floor q) q c (h .doing q)) (row : ℕ → ℕ) (mask : row maskField ≡ maskIn c)
@@ -238,14 +239,15 @@ module _ (floor : ℕ → ℕ) (p : Press) (h : History) (tied : Tied floor p h)
         high : tag ≤ h .tags
         high = omega (arith, last-below fits (received coordinator) (omega (arith, entries .0)), entries .1)
 
-        pub chosen-value : (j : ℕ) → hasServer (maskIn c) j ≡ true → chosenSetpoint (s .keys) (s .values) (s .log) received tag j ≡ x .value tag j
+        pub chosen-value : (j : ℕ) → hasServer (maskIn c) j ≡ true →
+            chosenSetpoint (s .keys) (s .values) (s .log) received tag j ≡ x .value tag j .setpoint
         chosen-value j m =
             let l : j < s .servers = a .bound j m in
-            let v = chosenSetpoint (s .keys) (s .values) (s .log) received tag j in
+            let v = versionOf (chosenSetpoint (s .keys) (s .values) (s .log) received tag j) in
             let has : hasVersion (s .keys) (s .log) received tag j ≡ true
             = rw m at (all-at (serves (s .keys) (s .log) (maskIn c) received tag) (s .servers) tag-fits j l) in
             let found = found-more (s .keys) (s .values) j (x .key tag j) (received j) (s .held j) v (snapshot j (omega arith) .1 m .0) (place-found (s .keys) (s .values) j (x .key tag j) (received j) (ltb-true _ _ has)) in
-            Option·some-injective _ _ (sym found ∙ tied .value tag high j l)
+            ap (λ (v : Version). v .setpoint) (Option·some-injective _ _ (sym found ∙ tied .value tag high j l))
 
         pub told-end-kept : (row′ : ℕ → ℕ) → row′ stateField ≡ idle → row′ countField ≡ countIn c → (shown : List ℕ) →
             ((j : ℕ) → hasServer (maskIn c) j ≡ true → getD shown j 0 ≡ chosenSetpoint (s .keys) (s .values) (s .log) received tag j) →
@@ -258,7 +260,7 @@ module _ (floor : ℕ → ℕ) (p : Press) (h : History) (tied : Tied floor p h)
             is = a .is;
             low = low;
             high = high;
-            shows = λ j m. shows j m ∙ chosen-value j m;
+            shows = λ j m. ap valueOf (shows j m ∙ chosen-value j m);
             count = omega (arith, a .count, come);
           },
           rw (a .is) (

@@ -60,7 +60,8 @@ shown-at clients q mask j l e =
 
 module _ (floor : ℕ → ℕ) (t : Tables) (h : History) (s : Standing floor t h) (q i : ℕ) where
   pub refused-reply : (n : ℕ) → (n ≡ 8 → ⊥) → FairReply floor h (stepOf t) q i (said (arrival.Refused n) t)
-  refused-reply n d = record { kept = (tt, passed-tied floor (view t) h (s .tied)); budget = s .budget; answers = tt; room = d; step = refl }
+  refused-reply n d =
+      record { kept = (tt, passed-tied floor (view t) h (s .tied)); budget = s .budget; answers = tt; room = d; step = refl }
 
 module _ (floor : ℕ → ℕ) (t : Tables) (h : History) (s : Standing floor t h) (q i : ℕ) (ready : Ready t q) (hi : i < targets) where
   abbrev tied : Tied floor (view t) h
@@ -98,7 +99,13 @@ module _ (floor : ℕ → ℕ) (t : Tables) (h : History) (s : Standing floor t 
         Kept floor h (replied q i d) (movedPress row link) → Budget (movedPress row link) → Okay (arrived d (movedTo clients links writes reads))
     moved-fair rows other-rows link-is other-links room step k b =
         let seen = view-is t (movedTo clients links writes reads) q (shared-step (t .counts) (stepOf t + 1) (t .keys) (t .values) (t .log) (ready .sound .long .counts)) rows link-is other-rows other-links in
-        record { kept = subst (λ (v : Press). Kept floor h (replied q i d) v) (sym seen) k; budget = subst Budget (sym seen) b; answers = tt; room = room; step = ap (λ (v : Press). v .shared .step) seen ∙ add-one (stepOf t) ∙ step }
+        record {
+          kept = subst (λ (v : Press). Kept floor h (replied q i d) v) (sym seen) k;
+          budget = subst Budget (sym seen) b;
+          answers = tt;
+          room = room;
+          step = ap (λ (v : Press). v .shared .step) seen ∙ add-one (stepOf t) ∙ step;
+        }
 
   -- words of the row that a step puts one behind the other
   one-word : (f v : ℕ) → f < clientWidth → rowOf (putClientWord (t .clients) q f v) q ≡ changed (c .row) f v

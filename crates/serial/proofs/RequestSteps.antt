@@ -28,10 +28,10 @@ use Rattle.soundness.specs.Room.{server-fits, keys-row, values-row, next-entry}
 use Rattle.serial.specs.Steps.{requested}
 use Rattle.serial.specs.History.{changed, History}
 use Rattle.serial.specs.Claim.{IsReply}
-use Rattle.serial.proofs.Press.{Shared, renumbered, Client, Press, pressOf, stateIn, sharedOf, view, weight, world}
+use Rattle.serial.proofs.Press.{Shared, renumbered, Client, Press, pressOf, stateIn, sharedOf, view, weight, keptAt, world}
 use Rattle.serial.proofs.View.{link-put, link-put-other, view-is, sharedIn, shared-step, shared-held, shared-entries}
 use Rattle.serial.proofs.Links.{come-changed}
-use Rattle.serial.proofs.Versions.{found-place}
+use Rattle.serial.proofs.Versions.{Version, found-place}
 use Rattle.serial.proofs.Ready.{Ready, few, in-range, has-link, row-at, link-at, not-empty, at-coordinator}
 use Rattle.serial.proofs.Invariant.{Writing, Entering, AskingKeys, Getting, AskingAll, Activity, at-rest, at-writing, at-entering, at-keys, at-getting, at-all, Tied}
 use Rattle.serial.proofs.Kept.{Kept, Does, passed-tied}
@@ -164,12 +164,12 @@ module _ (floor : ℕ → ℕ) (t : Tables) (h : History) (s : Standing floor t 
     get-fair : stateIn c ≡ askingSetpoints → Does floor (view t) h q Getting → Okay (onGet w q i t)
     unfolding onGet
     get-fair state a =
-        let v = world (view t) h .value (c .row tagField) i in
+        let v = keptAt (world (view t) h) (c .row tagField) i in
         let f = found-place (t .keys) (t .values) i (w .key) (heldOf t i) v (rw link at (a .links i hi)) in
-        rw (lt-ltb (firstBearing (t .keys) i (w .key) (heldOf t i)) (heldOf t i) (f .0), f .1)
-        (replied-fair (t .counts) (t .keys) (t .values) (t .log) (t .writes) v counts-long refl (sharedOf t) refl
+        rw (lt-ltb (firstBearing (t .keys) i (w .key) (heldOf t i)) (heldOf t i) (f .0), ap (λ (x : Version). x .setpoint) (f .1))
+        (replied-fair (t .counts) (t .keys) (t .values) (t .log) (t .writes) (v .setpoint) counts-long refl (sharedOf t) refl
         (get-kept floor (view t) h tied (few t q ready) q (in-range t q ready) (stepOf t + 1) (writesOf t) (readsOf t) i hi w link state a)
-        (read-further v w link askingSetpoints state (λ e. omega arith) (λ e. omega arith)))
+        (read-further (v .setpoint) w link askingSetpoints state (λ e. omega arith) (λ e. omega arith)))
 
     in-activity : Does floor (view t) h q Activity → Okay (requestDelivered q i t)
     unfolding onRequestIn

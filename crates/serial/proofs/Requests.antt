@@ -4,7 +4,6 @@ use mathlib.Core.Path.{_≡_, refl, sym, ap, _∙_}
 use mathlib.Core.Bool.{true, false, cond}
 use mathlib.Core.Option.{none, some}
 use native.Mathlib.Omega.{arith}
-use lib.ListN.{getD}
 use lib.Dec.{eqb}
 use borrow.Author.Tests.{eqb-true, eqb-false, ne-eqb}
 use Rattle.ranges.specs.Tests.{by-equal, by-test}
@@ -24,13 +23,14 @@ use Rattle.rules.specs.Common.{entering, askingKeys, askingSetpoints, askingAll
 use Rattle.rules.specs.Common as rules
 use Rattle.rules.specs.declared.Answer.the-variants.{Ok}
 use Rattle.serial.specs.Steps.{requested}
-use Rattle.serial.specs.History.{atCoordinator, changed, Transaction, writeOf, writing, tagged, reading, History}
+use Rattle.serial.specs.History.{valueWritten, atCoordinator, changed, Transaction, writeOf, writing, tagged, reading, History}
 use Rattle.serial.specs.Claim.{enough}
 use Rattle.serial.proofs.Places.{changed-same, changed-other, changed-all, changed-both}
 use Rattle.serial.proofs.Owed.{valueAt, valueIn}
 use Rattle.serial.proofs.HistoryKept.{value-before}
-use Rattle.serial.proofs.Versions.{find-before, find-more, find-new, find-other}
-use Rattle.serial.proofs.Press.{Shared, renumbered, Client, clientOf, Press, pressOf, stateIn, countIn, maskIn, tagIn, weight, toCome, World, worldOf, world}
+use Rattle.serial.proofs.Versions.{keptOf, find-before, find-more, find-new, find-other}
+use Rattle.serial.proofs.Press.{Shared, renumbered, Client, clientOf, Press, pressOf, stateIn, countIn, maskIn, tagIn, weight}
+use Rattle.serial.proofs.Press.{toCome, World, worldOf, keptAt, carried, world}
 use Rattle.serial.proofs.Links.{come-changed, come-some}
 use Rattle.serial.proofs.Invariant.{own, WriteLink, Writing, Stored, Entering, AskingKeys, GetLink, Getting, Snapshot, AllLink, AskingAll, at-writing, at-entering, at-keys, at-getting, at-all, ClientOk, Tied, Grown, client-frame}
 use Rattle.serial.proofs.Kept.{Kept, turned-tied}
@@ -94,7 +94,9 @@ module _ (floor : ℕ → ℕ) (p : Press) (h : History) (tied : Tied floor p h)
     abbrev y : World
     y = worldOf s′ (h .tags) (valueIn h)
 
-    link : (w .key ≡ keyOf (countIn c) q) × (w .number ≡ getD (a .setpoints) i 0) × (i < s .servers) × (x .lookup i (keyOf (countIn c) q) (x .held i) ≡ none)
+    link :
+        (w .key ≡ keyOf (countIn c) q) × (carried w ≡ keptOf (valueWritten (a .setpoints) i)) × (i < s .servers) ×
+        (x .lookup i (keyOf (countIn c) q) (x .held i) ≡ none)
     link = rw lk at (a .links i hi)
 
     word-is : word ≡ countIn c * 256 + q
@@ -136,7 +138,7 @@ module _ (floor : ℕ → ℕ) (p : Press) (h : History) (tied : Tied floor p h)
         go (Request w) k = (k .0, k .1, k .2, same ∙ k .3)
         go (Reply w) k = same ∙ k
 
-    here : y .lookup i (keyOf (countIn c) q) (y .held i) ≡ some (getD (a .setpoints) i 0)
+    here : y .lookup i (keyOf (countIn c) q) (y .held i) ≡ some (keptOf (valueWritten (a .setpoints) i))
     here =
         rw (changed-same (s .held) i (suc (s .held i)), ← link .1)
         (find-new (s .keys) (s .values) i (s .held i) word (w .number) keyed valued room (keyOf (countIn c) q) word-is (link .3))
@@ -176,7 +178,7 @@ module _ (floor : ℕ → ℕ) (p : Press) (h : History) (tied : Tied floor p h)
     s″ = entryMore s (w .key) (w .number)
 
     abbrev new : Transaction
-    new = writeOf q (maskIn c) (b .setpoints) (suc (h .tags)) (b .begin) none
+    new = writeOf q (maskIn c) (valueWritten (b .setpoints)) (suc (h .tags)) (b .begin) none
 
     abbrev write′ : ℕ → Transaction
     write′ = changed (h .write) (suc (h .tags)) new
@@ -206,17 +208,17 @@ module _ (floor : ℕ → ℕ) (p : Press) (h : History) (tied : Tied floor p h)
         let t : s .entries - 1 ≡ h .tags = omega (arith, tied .entries) in
         sym (latest-before (s″ .log) i (s .entries) (sym mask-new) refl (λ y. omega (arith, tied .entries)) e (ap (λ (u : ℕ). latestKey (s″ .log) i u) (sym t)))
 
-    value-new : (i : ℕ) → z .value (suc (h .tags)) i ≡ cond (hasServer (maskIn c) i) (getD (b .setpoints) i 0) (z .value (h .tags) i)
+    value-new : (i : ℕ) → z .value (suc (h .tags)) i ≡ cond (hasServer (maskIn c) i) (valueWritten (b .setpoints) i) (z .value (h .tags) i)
     unfolding valueAt
     value-new i = rw (changed-same (h .write) (suc (h .tags)) new)
 
-    held-new : (i : ℕ) → i < s .servers → z .lookup i (z .key (s .entries) i) (s .held i) ≡ some (z .value (suc (h .tags)) i)
+    held-new : (i : ℕ) → i < s .servers → z .lookup i (z .key (s .entries) i) (s .held i) ≡ some (keptAt z (suc (h .tags)) i)
     held-new i k =
         by-test (hasServer (maskIn c) i)
         (λ e. rw (key-masked i (rw mask-is e), value-new i, e, key-is) (b .all i e))
         (λ e. rw (key-other i (rw mask-is e), value-new i, e, old-key (h .tags) (omega arith) i, old-value (h .tags) (omega arith) i) (tied .value (h .tags) (omega arith) i k))
 
-    held-all : (tag : ℕ) → tag ≤ suc (h .tags) → (i : ℕ) → i < s .servers → z .lookup i (z .key tag i) (s .held i) ≡ some (z .value tag i)
+    held-all : (tag : ℕ) → tag ≤ suc (h .tags) → (i : ℕ) → i < s .servers → z .lookup i (z .key tag i) (s .held i) ≡ some (keptAt z tag i)
     held-all tag l i k =
         by-equal tag (suc (h .tags))
         (λ e. rw e (ap (λ (u : ℕ). z .lookup i (z .key u i) (s .held i)) (sym (tied .entries)) ∙ held-new i k))
@@ -289,9 +291,10 @@ module _ (floor : ℕ → ℕ) (p : Press) (h : History) (tied : Tied floor p h)
 
   -- A server answers a get with the setpoint of the key: the value behind the client's tag.
   pub get-kept : (i : ℕ) → i < targets → (w : Contents) → c .link i ≡ Request w → stateIn c ≡ askingSetpoints → Getting (h .extra) x (floor q) q c (h .doing q) →
-      Kept floor h (requested q i Ok) (pressOf (renumbered step writes reads s) (changed (p .client) q (withLink c i (reply (x .value (tagIn c) i)))))
+      let answer = reply (keptAt x (tagIn c) i .setpoint) in
+      Kept floor h (requested q i Ok) (pressOf (renumbered step writes reads s) (changed (p .client) q (withLink c i answer)))
   get-kept i hi w lk state a =
-      let v = x .value (tagIn c) i in
+      let v = keptAt x (tagIn c) i .setpoint in
       let come = replied-come i hi w lk v (maskIn c) (a .begin) (a .deliveries) (a .is) in
       let left = come-some (withLink c i (reply v) .link) i hi (rw (changed-same (c .link) i (reply v)) (omega arith)) in
       read-kept i hi w lk v (maskIn c) (a .begin) (a .deliveries) (a .is) (omega (arith, a .count, come, left)) (record {

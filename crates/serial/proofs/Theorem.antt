@@ -1,5 +1,5 @@
--- Demand 3: the store's machine is fair, so the one theorem holds of it, over every list of steps behind every accepted opening. Only here does number 0
--- of a refusal give the facts by which a step is fair.
+-- Demand 3: the store's machine is fair, so the one theorem holds of it, over every list of steps behind every accepted opening. Only here
+-- does number 0 of a refusal give the facts by which a step is fair.
 use Prim.Native.Nat.{ℕ}
 use mathlib.Core.Path.{refl}
 use mathlib.Core.List.{List}
@@ -20,7 +20,8 @@ use Rattle.keeping.specs.Opening.{opened-words, opened-sound}
 use Rattle.keeping.specs.Steps.{open-keeps, beginWrite-sound, beginRead-sound, deliverRequest-sound, deliverReply-sound}
 use Rattle.refusals.specs.Steps.{open′, beginWrite, beginRead, deliverRequest, deliverReply}
 use Rattle.refusals.specs.Either.{by-refusal, by-refusal-arrived}
-use Rattle.serial.specs.Steps.{Step, opening, beginning-write, beginning-read, request, reply, Event, begun-write, begun-read, requested, replied}
+use Rattle.serial.specs.Steps.{Step, opening, beginning-write, beginning-read, request, reply, Event, begun-write, begun-read}
+use Rattle.serial.specs.Steps.{requested, replied}
 use Rattle.serial.specs.Steps.{Played, play}
 use Rattle.serial.specs.Steps as event
 use Rattle.serial.specs.History.{History, passed, openedWith}
@@ -69,17 +70,21 @@ module _ (floor : ℕ → ℕ) (t : Tables) (h : History) (s : Standing floor t 
   step-fair (opening method k p setpoints) =
       by-refusal (λ x. Steps (leaving (event.opened method k p setpoints) x)) (openRefusal method k p setpoints t)
       (left Ok (opened method k p setpoints t)) t
-      (λ m e. record { kept = (tt, stays); budget = s .budget; answers = tt; room = rw (← e) (open-number method k p setpoints t); step = refl })
+      (λ m e. let room = open-number method k p setpoints t in
+      record { kept = (tt, stays); budget = s .budget; answers = tt; room = rw (← e) room; step = refl })
       (λ e. let o = opened-starts method k p setpoints t (openable method k p setpoints t e) in
-      record { kept = (tt, o .standing floor .tied); budget = o .standing floor .budget; answers = tt; room = λ z. omega arith; step = o .step })
+      let l = o .standing floor in
+      record { kept = (tt, l .tied); budget = l .budget; answers = tt; room = λ z. omega arith; step = o .step })
   step-fair (beginning-write q mask setpoints) =
       by-refusal (λ x. Steps (leaving (begun-write q mask setpoints) x)) (writeRefusal q mask setpoints t)
       (left Ok (begunWrite q mask setpoints t)) t
-      (λ m e. record { kept = (tt, stays); budget = s .budget; answers = tt; room = rw (← e) (write-number t q mask setpoints); step = refl })
+      (λ m e. let room = write-number t q mask setpoints in
+      record { kept = (tt, stays); budget = s .budget; answers = tt; room = rw (← e) room; step = refl })
       (λ e. write-fair floor t h s q mask setpoints (writable q mask setpoints t e))
   step-fair (beginning-read q mask) =
       by-refusal (λ x. Steps (leaving (begun-read q mask) x)) (readRefusal q mask t) (left Ok (begunRead q mask t)) t
-      (λ m e. record { kept = (tt, stays); budget = s .budget; answers = tt; room = rw (← e) (read-number t q mask); step = refl })
+      (λ m e. let room = read-number t q mask in
+      record { kept = (tt, stays); budget = s .budget; answers = tt; room = rw (← e) room; step = refl })
       (λ e. read-fair floor t h s q mask (readable q mask t e))
   step-fair (request q i) =
       by-refusal (λ x. Steps (leaving (requested q i) x)) (deliveryRefusal q i t) (requestDelivered q i t) t

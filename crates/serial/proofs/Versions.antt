@@ -1,4 +1,4 @@
--- The setpoint of a key among a server's versions, and what one version more leaves of it.
+-- What a server keeps of a key among its versions, and what one version more leaves of it.
 use Prim.Native.Nat.{ℕ, suc, _≤_, _<_}
 use mathlib.Core.Path.{_≡_, refl, sym, ap, _∙_}
 use mathlib.Core.Bool.{false, cond}
@@ -14,38 +14,60 @@ use Rattle.keys.specs.Keys.{keyWord}
 use Rattle.tables.specs.Rows.{HasRow, word-same, word-other}
 use Rattle.tables.specs.Layout.{serverPlaces, versionWord, putVersionWord}
 use Rattle.server.specs.Held.{bears, firstBearing}
+use Rattle.serial.specs.History.{Value}
 
--- "A key is looked up as the first version that bears it": its setpoint among the first n versions of server i
-unfoldable pub find : List ℕ → List ℕ → ℕ → Key → ℕ → Option ℕ
-find keys values i key n = cond (ltb (firstBearing keys i key n) n) (some (versionWord values i (firstBearing keys i key n))) none
+-- What a version bears beside its key: what a server keeps of a value, and what messages carry of it.
+pub record Version : Type 0 where
+  pub setpoint : ℕ
+
+abbrev pub versionOf : ℕ → Version
+versionOf setpoint = record { setpoint = setpoint }
+
+abbrev pub keptOf : Value → Version
+keptOf value = versionOf (value .setpoint)
+
+-- at a place of the table
+abbrev pub versionAt : List ℕ → ℕ → ℕ → Version
+versionAt values i place = versionOf (versionWord values i place)
+
+-- "A key is looked up as the first version that bears it": what the first n versions of server i keep of it
+unfoldable pub find : List ℕ → List ℕ → ℕ → Key → ℕ → Option Version
+find keys values i key n = cond (ltb (firstBearing keys i key n) n) (some (versionAt values i (firstBearing keys i key n))) none
 
 module _ (keys values : List ℕ) (i : ℕ) (key : Key) where
   -- a key that is found has a first place
-  pub record Found (n v : ℕ) : Type 0 where
+  pub record Found (n : ℕ) (v : Version) : Type 0 where
     pub place : ℕ
     pub first : First (bears keys i key) n place
     pub below : place < n
-    pub setpoint : versionWord values i place ≡ v
+    pub kept : versionAt values i place ≡ v
 
-  pub is-found : (n v : ℕ) → find keys values i key n ≡ some v → Found n v
+  pub is-found : (n : ℕ) (v : Version) → find keys values i key n ≡ some v → Found n v
   unfolding find
   is-found n v e =
       by-test (ltb (firstBearing keys i key n) n)
-      (λ b. record { place = firstBearing keys i key n; first = first-found (bears keys i key) n; below = ltb-true _ _ b; setpoint = Option·some-injective _ _ (rw b at e) })
+      (λ b. record {
+        place = firstBearing keys i key n;
+        first = first-found (bears keys i key) n;
+        below = ltb-true _ _ b;
+        kept = Option·some-injective _ _ (rw b at e);
+      })
       (λ b. absurd (Option·none-ne-some v (rw b at e)))
 
-  pub found-is : (n v : ℕ) → Found n v → find keys values i key n ≡ some v
+  pub found-is : (n : ℕ) (v : Version) → Found n v → find keys values i key n ≡ some v
   unfolding find
-  found-is n v f = rw (← first-is (bears keys i key) n (f .first), lt-ltb (f .place) n (f .below), f .setpoint)
+  found-is n v f = rw (← first-is (bears keys i key) n (f .first), lt-ltb (f .place) n (f .below), f .kept)
 
   -- the place that the search gives is that one
-  pub found-place : (n v : ℕ) → find keys values i key n ≡ some v → (firstBearing keys i key n < n) × (versionWord values i (firstBearing keys i key n) ≡ v)
+  pub found-place : (n : ℕ) (v : Version) → find keys values i key n ≡ some v →
+      (firstBearing keys i key n < n) × (versionAt values i (firstBearing keys i key n) ≡ v)
   found-place n v e =
       let f = is-found n v e in
-      rw (← first-is (bears keys i key) n (f .first)) (f .below, f .setpoint)
+      rw (← first-is (bears keys i key) n (f .first)) (f .below, f .kept)
 
-  -- a place that the search finds holds the setpoint
-  pub place-found : (n : ℕ) → firstBearing keys i key n < n → find keys values i key n ≡ some (versionWord values i (firstBearing keys i key n))
+  -- a place that the search finds holds what is kept
+  pub place-found : (n : ℕ) → firstBearing keys i key n < n →
+      find keys values i key n ≡ some (versionAt values i (firstBearing keys i key n))
   unfolding find
   place-found n l = rw (lt-ltb _ _ l)
 
@@ -65,10 +87,15 @@ module _ (keys values : List ℕ) (i : ℕ) (key : Key) where
       (λ b. rw b)
 
   -- what is found among fewer is found among more
-  pub found-more : (n m v : ℕ) → n ≤ m → find keys values i key n ≡ some v → find keys values i key m ≡ some v
+  pub found-more : (n m : ℕ) (v : Version) → n ≤ m → find keys values i key n ≡ some v → find keys values i key m ≡ some v
   found-more n m v l e =
       let f = is-found n v e in
-      found-is m v (record { place = f .place; first = record { within = omega (arith, f .below); before = f .first .before; here = λ g. f .first .here (f .below) }; below = omega (arith, f .below); setpoint = f .setpoint })
+      found-is m v (record {
+        place = f .place;
+        first = record { within = omega (arith, f .below); before = f .first .before; here = λ g. f .first .here (f .below) };
+        below = omega (arith, f .below);
+        kept = f .kept;
+      })
 
 -- One version more of server i, at place n.
 module _ (keys values : List ℕ) (i n word v : ℕ) (keyed : HasRow serverPlaces keys i) (valued : HasRow serverPlaces values i) (room : n < serverPlaces) where
@@ -86,16 +113,19 @@ module _ (keys values : List ℕ) (i n word v : ℕ) (keyed : HasRow serverPlace
       let same : firstBearing keys′ j key m ≡ firstBearing keys j key m
       = first-same (bears keys′ j key) (bears keys j key) m (λ u k. ap (λ (x : ℕ). eqb x (keyWord key)) (word-other serverPlaces keys i n word j u room (omega arith) (apart u k))) in
       by-test (ltb (firstBearing keys j key m) m)
-      (λ b. let k = ltb-true _ _ b in rw (same, b) (ap some (word-other serverPlaces values i n v j (firstBearing keys j key m) room (omega arith) (apart _ k))))
+      (λ b. let k = ltb-true _ _ b in
+      rw (same, b) (ap (λ (x : ℕ). some (versionOf x))
+      (word-other serverPlaces values i n v j (firstBearing keys j key m) room (omega arith) (apart _ k))))
       (λ b. rw (same, b))
 
-  pub find-more : (j : ℕ) (key : Key) (m m′ x : ℕ) → (j ≡ i → m ≤ n) → m ≤ serverPlaces → m ≤ m′ → find keys values j key m ≡ some x → find keys′ values′ j key m′ ≡ some x
+  pub find-more : (j : ℕ) (key : Key) (m m′ : ℕ) (x : Version) → (j ≡ i → m ≤ n) → m ≤ serverPlaces → m ≤ m′ →
+      find keys values j key m ≡ some x → find keys′ values′ j key m′ ≡ some x
   find-more j key m m′ x before l k e = found-more keys′ values′ j key m m′ x k (find-before j m key before l ∙ e)
 
   -- a key that none bore, borne now
-  pub find-new : (key : Key) → word ≡ keyWord key → find keys values i key n ≡ none → find keys′ values′ i key (suc n) ≡ some v
+  pub find-new : (key : Key) → word ≡ keyWord key → find keys values i key n ≡ none → find keys′ values′ i key (suc n) ≡ some (versionOf v)
   find-new key w e =
-      found-is keys′ values′ i key (suc n) v (record {
+      found-is keys′ values′ i key (suc n) (versionOf v) (record {
         place = n;
         first = record {
           within = omega arith;
@@ -103,14 +133,14 @@ module _ (keys values : List ℕ) (i n word v : ℕ) (keyed : HasRow serverPlace
           here = λ g. eq-eqb _ _ (word-same serverPlaces keys i n word keyed room ∙ w);
         };
         below = omega arith;
-        setpoint = word-same serverPlaces values i n v valued room;
+        kept = ap versionOf (word-same serverPlaces values i n v valued room);
       })
 
   -- any other key as before
   pub find-other : (key : Key) → (word ≡ keyWord key → ⊥) → find keys′ values′ i key (suc n) ≡ find keys values i key n
   find-other key d = go (find keys values i key n) refl
     where
-      go : (o : Option ℕ) → find keys values i key n ≡ o → find keys′ values′ i key (suc n) ≡ o
+      go : (o : Option Version) → find keys values i key n ≡ o → find keys′ values′ i key (suc n) ≡ o
       go (some x) e = find-more i key n (suc n) x (λ z. omega arith) (omega arith) (omega arith) e
       go none e =
           none-found keys′ values′ i key (suc n) (λ u l.

@@ -10,6 +10,7 @@ use Rattle.tables.specs.Tables.{Tables}
 use Rattle.rules.specs.declared.Answer.the-variants.{Ok, Refused}
 use Rattle.rules.specs.declared.Arrival.{Arrival}
 use Rattle.rules.specs.declared.Arrival.the-variants as arrival
+use Rattle.rules.specs.declared.Delivered.{Delivered}
 use Rattle.rules.specs.Common.{coordinator}
 use Rattle.serial.specs.Steps.{Event, opened, begun-write, begun-read, requested, replied, Played, Machine, run}
 
@@ -17,13 +18,32 @@ use Rattle.serial.specs.Steps.{Event, opened, begun-write, begun-read, r
 unfoldable pub changed : {A : Type 0} → (ℕ → A) → ℕ → A → ℕ → A
 changed f i a j = cond (eqb j i) a (f j)
 
+-- What a station has at a place of the row.
+pub record Value : Type 0 where
+  pub setpoint : ℕ
+
+abbrev pub valueOf : ℕ → Value
+valueOf setpoint = record { setpoint = setpoint }
+
+-- "at first the opening's"
+abbrev pub valueOpened : List ℕ → ℕ → Value
+valueOpened setpoints i = valueOf (getD setpoints i 0)
+
+-- "A WRITE sets the value of each station in its mask to the setpoint that its begin gave for that station."
+abbrev pub valueWritten : List ℕ → ℕ → Value
+valueWritten setpoints i = valueOf (getD setpoints i 0)
+
+-- "A READ's tag and the setpoints it shows are those in its *read*."
+abbrev pub valueShown : Delivered → ℕ → Value
+valueShown d i = valueOf (getD (d .setpoints) i 0)
+
 -- A transaction that stands in the row. Steps are numbered from 0 behind the opening, refused ones too.
 pub record Transaction : Type 0 where
   pub isWrite : Bool
   pub client : ℕ
   pub mask : ℕ
-  -- what a WRITE's begin gave, what a READ's end showed
-  pub setpoints : List ℕ
+  -- what a WRITE writes, what a READ shows, by station
+  pub value : ℕ → Value
   pub tag : ℕ
   pub begin : ℕ
   pub end : Option ℕ
@@ -39,7 +59,7 @@ pub data Doing : Type 0 where
 
 pub record History : Type 0 where
   -- the opening's values, and the deliveries at which a READ ends beyond two for each of its stations
-  pub initial : ℕ → ℕ
+  pub initial : ℕ → Value
   pub extra : ℕ
   -- steps so far
   pub clock : ℕ
@@ -53,7 +73,7 @@ pub record History : Type 0 where
   -- accepted steps that fit no transaction: a begin of a client that is at one, a delivery to a client that is at none, an end of another kind
   pub astray : ℕ
 
-abbrev pub historyOf : (ℕ → ℕ) → ℕ → ℕ → ℕ → (ℕ → Transaction) → (ℕ → Option ℕ) → List Transaction → (ℕ → Doing) → ℕ → History
+abbrev pub historyOf : (ℕ → Value) → ℕ → ℕ → ℕ → (ℕ → Transaction) → (ℕ → Option ℕ) → List Transaction → (ℕ → Doing) → ℕ → History
 historyOf initial extra clock tags write said reads doing astray =
     record { initial = initial; extra = extra; clock = clock; tags = tags; write = write; said = said; reads = reads; doing = doing; astray = astray }
 
@@ -83,14 +103,14 @@ delivered (tagged tag) q h = passed h
 delivered (reading mask begin deliveries) q h = turned q (reading mask begin (suc deliveries)) h
 
 -- "WRITEs are tagged 1, 2, 3 and so on in the order in which their requests at target 16 were first delivered"
-abbrev pub writeOf : ℕ → ℕ → List ℕ → ℕ → ℕ → Option ℕ → Transaction
-writeOf q mask setpoints tag begin end =
-    record { isWrite = true; client = q; mask = mask; setpoints = setpoints; tag = tag; begin = begin; end = end; deliveries = 0 }
+abbrev pub writeOf : ℕ → ℕ → (ℕ → Value) → ℕ → ℕ → Option ℕ → Transaction
+writeOf q mask value tag begin end =
+    record { isWrite = true; client = q; mask = mask; value = value; tag = tag; begin = begin; end = end; deliveries = 0 }
 
 abbrev pub given : ℕ → ℕ → List ℕ → ℕ → History → History
 given q mask setpoints begin h =
     historyOf (h .initial) (h .extra) (suc (h .clock)) (suc (h .tags))
-    (changed (h .write) (suc (h .tags)) (writeOf q mask setpoints (suc (h .tags)) begin none))
+    (changed (h .write) (suc (h .tags)) (writeOf q mask (valueWritten setpoints) (suc (h .tags)) begin none))
     (changed (h .said) (suc (h .tags)) none)
     (h .reads) (changed (h .doing) q (tagged (suc (h .tags)))) (h .astray)
 
@@ -102,7 +122,16 @@ entered (reading mask begin deliveries) q h = turned q (reading mask begin (suc 
 
 -- "and finishes at the next reply delivered to its panel that answers *write* or *read*"; "*write* answers this tag"
 abbrev pub ended : ℕ → Transaction → Transaction
-ended end x = record { isWrite = x .isWrite; client = x .client; mask = x .mask; setpoints = x .setpoints; tag = x .tag; begin = x .begin; end = some end; deliveries = x .deliveries }
+ended end x = record {
+  isWrite = x .isWrite;
+  client = x .client;
+  mask = x .mask;
+  value = x .value;
+  tag = x .tag;
+  begin = x .begin;
+  end = some end;
+  deliveries = x .deliveries;
+}
 
 abbrev pub wrote : ℕ → Doing → ℕ → History → History
 wrote answer nothing q h = strayed h
@@ -114,39 +143,38 @@ wrote answer (tagged tag) q h =
     (h .reads) (changed (h .doing) q nothing) (h .astray)
 wrote answer (reading mask begin deliveries) q h = strayed h
 
--- "A READ's tag and the setpoints it shows are those in its *read*."
-abbrev pub readOf : ℕ → ℕ → List ℕ → ℕ → ℕ → ℕ → ℕ → Transaction
-readOf q mask shown tag begin end deliveries =
-    record { isWrite = false; client = q; mask = mask; setpoints = shown; tag = tag; begin = begin; end = some end; deliveries = deliveries }
+abbrev pub readOf : ℕ → ℕ → (ℕ → Value) → ℕ → ℕ → ℕ → ℕ → Transaction
+readOf q mask value tag begin end deliveries =
+    record { isWrite = false; client = q; mask = mask; value = value; tag = tag; begin = begin; end = some end; deliveries = deliveries }
 
-abbrev pub showed : ℕ → List ℕ → Doing → ℕ → History → History
-showed tag shown nothing q h = strayed h
-showed tag shown (writing mask setpoints begin) q h = strayed h
-showed tag shown (tagged t) q h = strayed h
-showed tag shown (reading mask begin deliveries) q h =
+abbrev pub showed : ℕ → Delivered → Doing → ℕ → History → History
+showed tag d nothing q h = strayed h
+showed tag d (writing mask setpoints begin) q h = strayed h
+showed tag d (tagged t) q h = strayed h
+showed tag d (reading mask begin deliveries) q h =
     historyOf (h .initial) (h .extra) (suc (h .clock)) (h .tags) (h .write) (h .said)
-    (h .reads ++ (readOf q mask shown tag begin (h .clock) (suc deliveries) ∷ []))
+    (h .reads ++ (readOf q mask (valueShown d) tag begin (h .clock) (suc deliveries) ∷ []))
     (changed (h .doing) q nothing) (h .astray)
 
-abbrev pub arrived : Arrival → List ℕ → ℕ → History → History
-arrived arrival.Wait shown q h = delivered (h .doing q) q h
-arrived arrival.Next shown q h = delivered (h .doing q) q h
-arrived (arrival.Write tag) shown q h = wrote tag (h .doing q) q h
-arrived (arrival.Read tag) shown q h = showed tag shown (h .doing q) q h
-arrived (arrival.Refused n) shown q h = passed h
+abbrev pub arrived : Arrival → Delivered → ℕ → History → History
+arrived arrival.Wait d q h = delivered (h .doing q) q h
+arrived arrival.Next d q h = delivered (h .doing q) q h
+arrived (arrival.Write tag) d q h = wrote tag (h .doing q) q h
+arrived (arrival.Read tag) d q h = showed tag d (h .doing q) q h
+arrived (arrival.Refused n) d q h = passed h
 
 -- Behind an accepted opening there is nothing yet. Demand 3: a READ of m stations ends at exactly the 2m-th delivery on its links under A, at the (2m + 2)-th under B and C.
 abbrev pub noWrite : Transaction
-noWrite = writeOf 0 0 [] 0 0 none
+noWrite = writeOf 0 0 (valueWritten []) 0 0 none
 
-abbrev pub fresh : (ℕ → ℕ) → ℕ → History
+abbrev pub fresh : (ℕ → Value) → ℕ → History
 fresh initial extra = historyOf initial extra 0 0 (λ tag. noWrite) (λ tag. none) [] (λ q. nothing) 0
 
 abbrev pub extraOf : ℕ → ℕ
 extraOf method = cond (eqb method 1) 0 2
 
 abbrev pub openedWith : ℕ → List ℕ → History
-openedWith method setpoints = fresh (λ i. getD setpoints i 0) (extraOf method)
+openedWith method setpoints = fresh (valueOpened setpoints) (extraOf method)
 
 -- "their requests at target 16"
 abbrev pub atCoordinator : ℕ → Bool
@@ -162,15 +190,15 @@ after (begun-read q mask Ok) h = begun (h .doing q) q (reading mask (h .clock) 0
 after (begun-read q mask (Refused n)) h = passed h
 after (requested q i Ok) h = cond (atCoordinator i) (entered (h .doing q) q h) (delivered (h .doing q) q h)
 after (requested q i (Refused n)) h = passed h
-after (replied q i d) h = arrived (d .arrival) (d .setpoints) q h
+after (replied q i d) h = arrived (d .arrival) d q h
 
 abbrev pub history : List Played → History → History
 history [] h = h
 history (x ∷ xs) h = history xs (after (x .event) h)
 
--- What is claimed of a machine: for every opening that it accepts, with any method, k, p, setpoints and tables, and every list of its steps behind it.
--- The claim is of the tables that the opening left, what was played behind it, and the history that the opening begins. An accepted opening in the list
--- starts the history anew, so that the claim is of the steps behind the last one.
+-- What is claimed of a machine: for every opening that it accepts, with any method, k, p, setpoints and tables, and every list of its
+-- steps behind it. The claim is of the tables that the opening left, what was played behind it, and the history that the opening begins.
+-- An accepted opening in the list starts the history anew, so that the claim is of the steps behind the last one.
 abbrev pub BehindOpenings : {S : Type 0} → Machine S → (Tables → List Played → History → Type 0) → Type 0
 BehindOpenings {S} machine Holds =
     (first : S) (t : Tables) (method k p : ℕ) (setpoints : List ℕ) →

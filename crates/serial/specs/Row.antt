@@ -7,7 +7,7 @@ use mathlib.Core.List.{List, [], _∷_, _++_}
 use lib.ListN.{length, getD}
 use lib.Dec.{eqb}
 use Rattle.keys.specs.Masks.{hasServer}
-use Rattle.serial.specs.History.{Transaction, noWrite, History}
+use Rattle.serial.specs.History.{Value, Transaction, noWrite, History}
 
 -- the READs of a tag, by end
 unfoldable pub readsOf : ℕ → List Transaction → List Transaction
@@ -24,15 +24,15 @@ abbrev pub row : History → List Transaction
 row h = rowTo h (h .tags)
 
 -- "A WRITE sets the value of each station in its mask to the setpoint that its begin gave for that station. A READ changes none"
-abbrev pub walked : (ℕ → ℕ) → Transaction → ℕ → ℕ
-walked values x i = cond (x .isWrite && hasServer (x .mask) i) (getD (x .setpoints) i 0) (values i)
+abbrev pub walked : (ℕ → Value) → Transaction → ℕ → Value
+walked values x i = cond (x .isWrite && hasServer (x .mask) i) (x .value i) (values i)
 
 -- "at each station in its mask it shows the value just then"
-abbrev pub Shows : (ℕ → ℕ) → Transaction → Type 0
-Shows values x = x .isWrite ≡ false → (i : ℕ) → hasServer (x .mask) i ≡ true → getD (x .setpoints) i 0 ≡ values i
+abbrev pub Shows : (ℕ → Value) → Transaction → Type 0
+Shows values x = x .isWrite ≡ false → (i : ℕ) → hasServer (x .mask) i ≡ true → x .value i ≡ values i
 
 -- "The row is walked with k values, at first the opening's."
-abbrev pub Walk : (ℕ → ℕ) → List Transaction → Type 0
+abbrev pub Walk : (ℕ → Value) → List Transaction → Type 0
 Walk values [] = Unit {0}
 Walk values (x ∷ xs) = Shows values x × Walk (walked values x) xs
 

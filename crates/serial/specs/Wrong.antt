@@ -34,7 +34,8 @@ use Rattle.soundness.specs.Sound.{longEnough, pressFits, scalarsSound, keyInRan
 use Rattle.refusals.specs.Refusals.{openRefusal, writeRefusal, readRefusal, deliveryRefusal}
 use Rattle.refusals.specs.Steps.{open′, beginWrite, beginRead, deliverRequest, deliverReply}
 use Rattle.serial.specs.Steps.{Step, opening, beginning-write, beginning-read, request, reply, Event, opened, begun-write, begun-read, requested, replied, Played, Machine, play, run}
-use Rattle.serial.specs.History.{changed, Transaction, writeOf, readOf, reading, History, openedWith, history}
+use Rattle.serial.specs.History.{Value, valueOf, valueWritten, valueShown, changed, Transaction, writeOf, readOf, reading, History}
+use Rattle.serial.specs.History.{openedWith, history}
 use Rattle.serial.specs.Row.{readsOf, rowTo, row, Walk, RealTime}
 use Rattle.serial.specs.Claim.{EndsAt, Unfinished, IsReply, Claim, Demand3}
 use Rattle.serial.specs.Sample.{zeros}
@@ -161,27 +162,31 @@ told machine method steps = history (played machine method steps) (openedWith me
 abbrev toldBy : (Arrival → List ℕ → Delivered) → History
 toldBy f = told (answering f) 2 orderly
 
+-- a READ of both servers by client 1 that showed these setpoints
+abbrev readBoth : List ℕ → ℕ → ℕ → ℕ → ℕ → Transaction
+readBoth setpoints tag begin end deliveries = readOf 1 3 (valueShown (said (Read tag) setpoints)) tag begin end deliveries
+
 abbrev writeOne : Transaction
-writeOne = writeOf 0 1 (1800 ∷ 45 ∷ []) 1 0 (some 4)
+writeOne = writeOf 0 1 (valueWritten (1800 ∷ 45 ∷ [])) 1 0 (some 4)
 
 abbrev writeBoth : Transaction
-writeBoth = writeOf 0 3 (1800 ∷ 45 ∷ []) 1 0 (some 4)
+writeBoth = writeOf 0 3 (valueWritten (1800 ∷ 45 ∷ [])) 1 0 (some 4)
 
 -- What each of them tells of its list, computed.
 pub record Computed : Type 0 where
   pub acceptedB : open′ 2 2 2 first zeros .answer ≡ Ok
   pub acceptedC : open′ 3 2 2 first zeros .answer ≡ Ok
-  pub openingRow : row (toldBy openingAlways) ≡ readOf 1 3 first 0 5 11 6 ∷ writeOne ∷ []
+  pub openingRow : row (toldBy openingAlways) ≡ readBoth first 0 5 11 6 ∷ writeOne ∷ []
   pub waitingDoing : toldBy waitingForEver .doing 1 ≡ reading 3 5 6
   pub waitingExtra : toldBy waitingForEver .extra ≡ 2
-  pub earlyRow : row (toldBy endingEarly) ≡ writeOne ∷ readOf 1 3 (1800 ∷ 45 ∷ []) 1 5 9 4 ∷ []
+  pub earlyRow : row (toldBy endingEarly) ≡ writeOne ∷ readBoth (1800 ∷ 45 ∷ []) 1 5 9 4 ∷ []
   pub earlyExtra : toldBy endingEarly .extra ≡ 2
   pub inventedTag : toldBy inventing .said 1 ≡ some 2
   pub inventedTags : toldBy inventing .tags ≡ 1
   pub leftThere : contentAt (play (beginning-write 0 1 (1800 ∷ 45 ∷ [])) (open′ 2 2 2 first zeros .tables) .tables) 0 0 ≡ rules.request (keyOf 1 0) 1800
-  pub hastyRow : row (told hurrying 3 hasty) ≡ readOf 1 3 (1200 ∷ 30 ∷ replicate 14 0) 0 5 11 6 ∷ writeBoth ∷ []
-  pub crossingRow : row (told showingLatest 2 crossing) ≡ readOf 1 3 (1800 ∷ 30 ∷ replicate 14 0) 0 0 8 6 ∷ []
-  pub crossingFirst : told showingLatest 2 crossing .initial 0 ≡ 1200
+  pub hastyRow : row (told hurrying 3 hasty) ≡ readBoth (1200 ∷ 30 ∷ replicate 14 0) 0 5 11 6 ∷ writeBoth ∷ []
+  pub crossingRow : row (told showingLatest 2 crossing) ≡ readBoth (1800 ∷ 30 ∷ replicate 14 0) 0 0 8 6 ∷ []
+  pub crossingFirst : told showingLatest 2 crossing .initial 0 ≡ valueOf 1200
 
 pub computed : Computed
 unfolding played told orderly hasty crossing zeros changed readsOf rowTo open′ beginWrite beginRead deliverRequest deliverReply openRefusal writeRefusal readRefusal deliveryRefusal longEnough pressFits turns sound scalarsSound keyInRange serverSound entrySound logSound stateAllowed uses requestSound replySound contentSound linkSound receivedSound clientSound writeSound readSound openSound recordsSound allBelow anyBelow sumBelow linkAt putLink firstFrom lastBelow appended entered begunWrite begunRead onSet onEnter onWhichKeys onGet onGetAll onRequestIn requestDelivered onSetDone onEntered onKeys onGot onAll onReplyIn replyDelivered
@@ -223,7 +228,8 @@ claimBy f d = claim (answering f) 2 orderly d opensB
 
 pub not-opening-always : Demand3 (answering openingAlways) → ⊥
 not-opening-always d =
-    let real : RealTime (readOf 1 3 first 0 5 11 6 ∷ writeOne ∷ []) = subst RealTime (computed .openingRow) (claimBy openingAlways d .realTime) in
+    let real : RealTime (readBoth first 0 5 11 6 ∷ writeOne ∷ [])
+    = subst RealTime (computed .openingRow) (claimBy openingAlways d .realTime) in
     let z : 1 < 0 = real 1 0 4 (omega arith) (omega arith) refl (omega arith) in
     omega arith
 
@@ -237,7 +243,7 @@ pub not-early : Demand3 (answering endingEarly) → ⊥
 unfolding sumBelow
 not-early d =
     let ends = subst (λ (n : ℕ). Each (EndsAt n) (row (toldBy endingEarly))) (computed .earlyExtra) (claimBy endingEarly d .ends) in
-    let each : Each (EndsAt 2) (writeOne ∷ readOf 1 3 (1800 ∷ 45 ∷ []) 1 5 9 4 ∷ []) = subst (Each (EndsAt 2)) (computed .earlyRow) ends in
+    let each : Each (EndsAt 2) (writeOne ∷ readBoth (1800 ∷ 45 ∷ []) 1 5 9 4 ∷ []) = subst (Each (EndsAt 2)) (computed .earlyRow) ends in
     let z : _≡_ {A = ℕ} 4 6 = each .1 .0 refl in
     omega arith
 
@@ -252,13 +258,14 @@ not-unanswered d = subst IsReply (computed .leftThere) (claim unanswering 2 orde
 
 pub not-hurried : Demand3 hurrying → ⊥
 not-hurried d =
-    let real : RealTime (readOf 1 3 (1200 ∷ 30 ∷ replicate 14 0) 0 5 11 6 ∷ writeBoth ∷ []) = subst RealTime (computed .hastyRow) (claim hurrying 3 hasty d opensC .realTime) in
+    let real : RealTime (readBoth (1200 ∷ 30 ∷ replicate 14 0) 0 5 11 6 ∷ writeBoth ∷ [])
+    = subst RealTime (computed .hastyRow) (claim hurrying 3 hasty d opensC .realTime) in
     let z : 1 < 0 = real 1 0 4 (omega arith) (omega arith) refl (omega arith) in
     omega arith
 
 pub not-latest : Demand3 showingLatest → ⊥
 not-latest d =
-    let walk : Walk (told showingLatest 2 crossing .initial) (readOf 1 3 (1800 ∷ 30 ∷ replicate 14 0) 0 0 8 6 ∷ []) =
+    let walk : Walk (told showingLatest 2 crossing .initial) (readBoth (1800 ∷ 30 ∷ replicate 14 0) 0 0 8 6 ∷ []) =
     subst (Walk (told showingLatest 2 crossing .initial)) (computed .crossingRow) (claim showingLatest 2 crossing d opensB .walk) in
-    let z : _≡_ {A = ℕ} 1800 1200 = walk .0 refl 0 refl ∙ computed .crossingFirst in
+    let z : _≡_ {A = ℕ} 1800 1200 = ap (λ (v : Value). v .setpoint) (walk .0 refl 0 refl ∙ computed .crossingFirst) in
     omega arith
