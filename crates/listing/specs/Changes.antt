@@ -12,7 +12,7 @@ use Rattle.ranges.specs.Tests.{by-equal, by-test, not-both}
 use Rattle.ranges.specs.Each.{Each}
 use Rattle.tables.specs.Tables.{Tables}
 use Rattle.soundness.specs.Facts.{Sound}
-use Rattle.listing.specs.Register.{isFinished, placesBelow, inserted, insertedAll, endIn, byEndBelow, register}
+use Rattle.listing.specs.Register.{isFinished, placesBelow, inserted, insertedAll, endIn, byEndBelow, mostLines, register}
 use Rattle.listing.specs.Places.{each-by-end, by-end-more}
 use Rattle.listing.specs.Lengths.{few-lines}
 
@@ -115,5 +115,5 @@ module _ (reads reads′ : List ℕ) where
 
 -- ---- on sound tables
 
-pub register-few : (t : Tables) → Sound t → length (register t) ≤ 510
+pub register-few : (t : Tables) → Sound t → length (register t) ≤ mostLines
 register-few t s = few-lines t (λ place h. s .write place h .tag) (λ place h. s .read place h .tag) (s .scalars .writes) (s .scalars .reads)

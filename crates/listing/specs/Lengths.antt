@@ -11,7 +11,7 @@ use Rattle.ranges.specs.Tests.{by-equal, by-test}
 use Rattle.ranges.specs.Sum.{one, sumBelow, countBelow, sum-same, sum-add, sum-nothing, count-most}
 use Rattle.tables.specs.Layout.{recordWord, tagOfRecord, recordPlaces, countAt, writesField, readsField}
 use Rattle.tables.specs.Tables.{Tables, entriesOf, writesOf, readsOf}
-use Rattle.listing.specs.Register.{isFinished, hasTag, kept, placesBelow, passing, inserted, insertedAll, endIn, write, read, finishedReads, writesOfTag, readsOfTag, listedTo, register}
+use Rattle.listing.specs.Register.{isFinished, hasTag, kept, placesBelow, passing, inserted, insertedAll, endIn, write, read, finishedReads, writesOfTag, readsOfTag, listedTo, mostLines, register}
 use Rattle.listing.specs.Places.{length-kept, passing-append}
 
 -- ---- places
@@ -158,7 +158,6 @@ module _ (t : Tables) where
         sum-same _ _ (readsOf t) (λ i l. rw (le-leb (tagOfRead i) (entriesOf t - 1) (omega (arith, rtag i l))) (ap one (and-true (isFinished (t .reads) i)))) in
         length-listed (entriesOf t - 1) ∙ omega (arith, w, r)
 
-    -- "255 WRITEs", "255 READs": at most 510 lines
-    pub few-lines : writesOf t ≤ recordPlaces → readsOf t ≤ recordPlaces → length (register t) ≤ 510
+    pub few-lines : writesOf t ≤ recordPlaces → readsOf t ≤ recordPlaces → length (register t) ≤ mostLines
     few-lines w r =
         omega (arith, w, r, register-length, count-most (λ place. not (hasTag (t .writes) 0 place)) (writesOf t), count-most (isFinished (t .reads)) (readsOf t))

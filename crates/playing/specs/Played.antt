@@ -21,6 +21,7 @@ use Rattle.printing.specs.declared.Word.{Word}
 use Rattle.printing.specs.declared.Word.the-variants as print
 use Rattle.printing.specs.Texts.{answerText}
 use Rattle.printing.specs.Printed.{Printed}
+use Rattle.printing.specs.Sizes.{answerMost}
 use Rattle.playing.specs.declared.Shown.{Shown}
 
 -- the printed word of each answer
@@ -102,7 +103,7 @@ shownText number s = answerText number (s .word) (s .mask) (s .setpoints)
 -- A line is played: what is printed into the lent space from a place on, and the tables then
 pub record LinePlayed (number : ℕ) (line : List ℕ) (t : Tables) (out : List ℕ) (at next : ℕ) (left : List ℕ) (t′ : Tables) : Type 0 where
   pub printed : Printed out at (shownText number (playedLine line t .shown)) next left
-  pub short : next ≤ at + 300
+  pub short : next ≤ at + answerMost
   pub tables : t′ ≡ playedLine line t .tables
 
 -- the answers of some lines, the first of which has a number

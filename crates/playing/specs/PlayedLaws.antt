@@ -15,6 +15,7 @@ use Rattle.schedule.specs.declared.Step.{Step}
 use Rattle.schedule.specs.Steps.{Named, Names, stepOf}
 use Rattle.printing.specs.declared.Word.{Word}
 use Rattle.printing.specs.Printed.{Printed}
+use Rattle.printing.specs.Sizes.{answerMost}
 use Rattle.playing.specs.declared.Shown.{Shown}
 use Rattle.playing.specs.Played.{arrivalWord, Played, showing, leftPlayed, arrivedPlayed, maskOrZero, played, playedLine, shownText, LinePlayed}
 
@@ -54,7 +55,7 @@ line-played line held left r t h e =
 
 -- who prints what a line shows has played the line
 pub line-printed : (number : ℕ) (line : List ℕ) (t : Tables) (out : List ℕ) (at next : ℕ) (left : List ℕ) {s : Shown} {t′ : Tables} →
-    showing s t′ ≡ playedLine line t → Printed out at (shownText number s) next left × (next ≤ at + 300) → LinePlayed number line t out at next left t′
+    showing s t′ ≡ playedLine line t → Printed out at (shownText number s) next left × (next ≤ at + answerMost) → LinePlayed number line t out at next left t′
 line-printed number line t out at next left {s} {t′} e p =
     record {
       printed = subst (λ (x : Shown). Printed out at (shownText number x) next left) (ap (λ (x : Played). x .shown) e) (p .0);

@@ -8,6 +8,7 @@ ghost use Rattle.rules.specs.Answers.{left, arrived};
 ghost use Rattle.soundness.specs.Facts.{Sound};
 ghost use Rattle.refusals.specs.Steps.{deliverReply};
 ghost use Rattle.printing.specs.Printed.{Printed};
+ghost use Rattle.printing.specs.Sizes.{answerMost};
 ghost use Rattle.playing.specs.Played.{answerWord, arrivalWord, showing, noted, plainly, leftPlayed, arrivedPlayed, maskOrZero, played, playedLine, shownText, LinePlayed};
 ghost use Rattle.playing.specs.Playable.{Playable};
 use printing::Word;
@@ -321,7 +322,7 @@ fn play_named(
     ensures { λ r. ⌜ showing r (tablesOf (now (counts .exit)) (now (clients .exit)) (now (links .exit)) (now (keys .exit)) (now (values .exit)) (now (log .exit)) (now (writes .exit)) (now (reads .exit)))
         ≡ playedLine (now (line .entry)) (tablesOf (now (counts .entry)) (now (clients .entry)) (now (links .entry)) (now (keys .entry)) (now (values .entry)) (now (log .entry)) (now (writes .entry)) (now (reads .entry))) ⌝ }
 {
-    let mut setpoints = [0u32; 97];
+    let mut setpoints = [0u32; schedule::SETPOINTS];
     let reading = schedule::read_step(line, &mut setpoints);
     let step = reading.step;
     let given = reading.setpoints;
@@ -341,8 +342,8 @@ fn play_named(
 
 // The answer of a line, in print.
 fn print_shown(number: u64, shown: Shown, out: &mut [u8], at: usize) -> usize
-    requires { ⌜ at + 300 ≤ length (now out) ⌝ }
-    ensures { λ r. ⌜ Printed (now (out .entry)) at (shownText number shown) r (now (out .exit)) × (r ≤ at + 300) ⌝ }
+    requires { ⌜ at + answerMost ≤ length (now out) ⌝ }
+    ensures { λ r. ⌜ Printed (now (out .entry)) at (shownText number shown) r (now (out .exit)) × (r ≤ at + answerMost) ⌝ }
 {
     let setpoints = shown.setpoints;
     let word = shown.word;
@@ -365,7 +366,7 @@ pub fn play_line(
     at: usize,
 ) -> usize
     requires { ⌜ Playable (tablesOf (now counts) (now clients) (now links) (now keys) (now values) (now log) (now writes) (now reads)) ⌝ }
-    requires { ⌜ at + 300 ≤ length (now out) ⌝ }
+    requires { ⌜ at + answerMost ≤ length (now out) ⌝ }
     ensures { λ r. ⌜ LinePlayed number (now (line .entry)) (tablesOf (now (counts .entry)) (now (clients .entry)) (now (links .entry)) (now (keys .entry)) (now (values .entry)) (now (log .entry)) (now (writes .entry)) (now (reads .entry))) (now (out .entry)) at r (now (out .exit)) (tablesOf (now (counts .exit)) (now (clients .exit)) (now (links .exit)) (now (keys .exit)) (now (values .exit)) (now (log .exit)) (now (writes .exit)) (now (reads .exit))) ⌝ }
 {
     let shown = play_named(

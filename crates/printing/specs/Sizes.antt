@@ -17,9 +17,9 @@ shownMost = 16 * pairMost
 abbrev pub wordMost : ℕ
 wordMost = 5 + spacedMost + shownMost
 
--- its line: a line's number, which has 20 digits, and byte 10 besides; a round number
+-- its line: a line's number, which has 20 digits, and byte 10 besides
 abbrev pub answerMost : ℕ
-answerMost = 300
+answerMost = 20 + wordMost + 1
 
 -- a line of the register: a letter, five numbers and byte 10
 abbrev pub recordMost : ℕ

@@ -7,6 +7,13 @@ ghost use Rattle.printing.specs.Texts.{spaced, pairText, serverText, ser
 ghost use Rattle.printing.specs.Printed.{Printed};
 ghost use Rattle.printing.specs.Sizes.{spacedMost, pairMost, shownMost, wordMost, answerMost, recordMost};
 
+// The longest answer in bytes, made as `Sizes` makes it: the line's number, ` read`, the tag, each station with its setpoint, and byte 10.
+const SPACED: usize = 1 + 10;
+
+const PAIR: usize = 1 + 2 + 1 + 10;
+
+pub const ANSWER: usize = 20 + (5 + SPACED + 16 * PAIR) + 1;
+
 // One byte.
 fn put_byte(byte: u8, out: &mut [u8], at: usize) -> usize
     requires { ⌜ at < length (now out) ⌝ }

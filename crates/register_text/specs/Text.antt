@@ -1,14 +1,13 @@
 -- "then, at the end of the text, the register: `W tag panel count begin end` (`-` unfinished), `R tag panel begin end overlap`"
-use Prim.Native.Nat.{ℕ, zero, suc, _+_, _*_}
+use Prim.Native.Nat.{ℕ, zero, suc, _*_}
 use mathlib.Core.Bool.{cond}
 use mathlib.Core.List.{List, [], _++_, flatMap}
 use lib.Dec.{eqb}
 use lib.ListN.{take, drop, getD}
-use Rattle.tables.specs.Layout.{recordPlaces}
 use Rattle.tables.specs.Tables.{Tables, methodOf}
 use Rattle.printing.specs.Texts.{writeText, readText}
 use Rattle.printing.specs.Sizes.{recordMost}
-use Rattle.listing.specs.Register.{lineWidth, lineWords, register}
+use Rattle.listing.specs.Register.{lineWidth, mostLines, lineWords, register}
 
 -- The line of a row of words, which stand as listing lays them.
 abbrev pub rowText : List ℕ → List ℕ
@@ -31,10 +30,7 @@ rowsText list (suc n) = rowText (take lineWidth list) ++ rowsText (drop lineWidt
 abbrev pub registerText : Tables → List ℕ
 registerText t = flatMap (λ line. rowText (lineWords t line)) (register t)
 
--- as many lines as a register can have, "255 WRITEs" and "255 READs", and their bytes at most
-abbrev pub mostLines : ℕ
-mostLines = recordPlaces + recordPlaces
-
+-- the bytes of the longest register
 abbrev pub registerMost : ℕ
 registerMost = recordMost * mostLines
 

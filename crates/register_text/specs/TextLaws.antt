@@ -15,9 +15,9 @@ use Rattle.printing.specs.Printed.{Printed}
 use Rattle.printing.specs.PrintedLaws.{printed-none, printed-then}
 use Rattle.listing.specs.declared.Listed.{Listed}
 use Rattle.listing.specs.declared.Listed.the-variants.{Rows, Refused}
-use Rattle.listing.specs.Register.{Line, write, read, lineWidth, lineWords, register, registerWords, Listing, listing, listedSound, listRegister}
+use Rattle.listing.specs.Register.{Line, write, read, lineWidth, mostLines, lineWords, register, registerWords, Listing, listing, listedSound, listRegister}
 use Rattle.listing.specs.Changes.{register-few}
-use Rattle.register_text.specs.Text.{rowText, rowsText, registerText, mostLines, registerPrinted}
+use Rattle.register_text.specs.Text.{rowText, rowsText, registerText, registerPrinted}
 
 module _ (row : List ℕ) where
   pub row-write : getD row 0 0 ≡ 0 → rowText row ≡ writeText (getD row 1 0) (getD row 2 0) (getD row 3 0) (getD row 4 0) (getD row 5 0)

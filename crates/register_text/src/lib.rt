@@ -5,16 +5,12 @@ ghost use Rattle.tables.specs.Tables.{tablesOf};
 ghost use Rattle.soundness.specs.Facts.{Sound};
 ghost use Rattle.printing.specs.Printed.{Printed};
 ghost use Rattle.printing.specs.Sizes.{recordMost};
-ghost use Rattle.listing.specs.Register.{lineWidth};
-ghost use Rattle.register_text.specs.Text.{rowText, rowsText, registerText, mostLines, registerMost};
+ghost use Rattle.listing.specs.Register.{lineWidth, mostLines};
+ghost use Rattle.register_text.specs.Text.{rowText, rowsText, registerText, registerMost};
 use listing::Listed;
 
-// The words of a row, the rows of the longest register, and so how many words listing needs at most.
-const WIDTH: usize = 7;
-
-const ROWS: usize = 510;
-
-const LIST: usize = WIDTH * ROWS;
+// How many words listing needs at most.
+const LIST: usize = listing::WIDTH * listing::ROWS;
 
 // The line of a row: kind, tag, client, count or mask, begin, end, overlap.
 fn print_row(row: &[u32], out: &mut [u8], at: usize) -> usize
@@ -36,7 +32,11 @@ fn print_rows(list: &[u32], rows: usize, out: &mut [u8], at: usize) -> usize
     let mut next = at;
     let mut i = 0;
     while i < rows {
-        next = print_row(&list[WIDTH * i..WIDTH * i + WIDTH], out, next);
+        next = print_row(
+            &list[listing::WIDTH * i..listing::WIDTH * i + listing::WIDTH],
+            out,
+            next,
+        );
         i += 1;
     }
     next

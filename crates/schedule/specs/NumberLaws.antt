@@ -14,7 +14,7 @@ use Rattle.schedule.specs.declared.Number.{Number}
 use Rattle.schedule.specs.declared.Number.the-variants.{Value, Not}
 use Rattle.schedule.specs.declared.Numbers.the-variants.{Broken, All}
 use Rattle.schedule.specs.Numbers.{digitOf, digitHead, mayFollow, readOn, numberOf, spacedOf, Read, readThen, numbersBehind, numbersOf, countOf}
-use Rattle.schedule.specs.Steps.{stored}
+use Rattle.schedule.specs.Steps.{lineMost, numbersMost, stored}
 
 -- the digit at a place
 module _ (s : List ℕ) (i : ℕ) where
@@ -185,12 +185,13 @@ few-behind zero (b ∷ rest) h =
 pub numbers-few : (s : List ℕ) → 2 * length (numbersOf s .numbers) ≤ length s
 numbers-few s = omega (arith, few-behind 0 s (omega arith))
 
--- What the loop that reads numbers into a place of 99 keeps: those read stand in front, the rest of the place is as it was, and each took two bytes or more.
+-- What the loop that reads numbers into a place for a whole line keeps: those read stand in front, the rest of the place is as it was,
+-- and each took two bytes or more.
 pub record ReadSoFar (part held numbers : List ℕ) (at count : ℕ) : Type 0 where
   pub read : numbersOf part ≡ before (take count numbers) (numbersOf (drop at part))
   pub rest : drop count numbers ≡ drop count held
   pub size : length numbers ≡ length held
-  pub room : 99 ≤ length held
+  pub room : numbersMost ≤ length held
   pub apart : count + count ≤ at
   pub within : at ≤ length part
 
@@ -198,20 +199,20 @@ pub record ReadSoFar (part held numbers : List ℕ) (at count : ℕ) : Type 0 wh
 pub record NumberFits (total at size count : ℕ) : Type 0 where
   pub some : 1 ≤ size
   pub within : at + 1 + size ≤ total
-  pub room : count < 99
+  pub room : count < numbersMost
 
-pub read-none : (part held : List ℕ) → 99 ≤ length held → ReadSoFar part held held 0 0
+pub read-none : (part held : List ℕ) → numbersMost ≤ length held → ReadSoFar part held held 0 0
 read-none part held h = record { read = refl; rest = refl; size = refl; room = h; apart = omega arith; within = omega arith }
 
 module _ (part held numbers : List ℕ) (at count : ℕ) (so : ReadSoFar part held numbers at count) where
   module _ (h : at < length part) {r : Number} (is : r ≡ spacedOf (drop at part)) {v n : ℕ} (e : r ≡ Value v n) where
-    pub number-fits : length part ≤ 199 → NumberFits (length part) at n count
+    pub number-fits : length part ≤ lineMost - 1 → NumberFits (length part) at n count
     number-fits m =
         let w = spaced-sized (drop at part) is e in
         let l : at + 1 + n ≤ length part = omega (arith, length-drop at part) in
         record { some = w .0; within = l; room = omega (arith, so .apart) }
 
-    pub read-more : length part ≤ 199 → ReadSoFar part held (set numbers count v) (at + 1 + n) (count + 1)
+    pub read-more : length part ≤ lineMost - 1 → ReadSoFar part held (set numbers count v) (at + 1 + n) (count + 1)
     read-more m =
         let fits = number-fits m in
         let f : count < length numbers = omega (arith, so .size, so .room) in
@@ -227,15 +228,15 @@ module _ (part held numbers : List ℕ) (at count : ℕ) (so : ReadSoFar part he
         }
 
   -- where the loop stops, all that was read is stored
-  stored-all : {w : Bool} → numbersOf part ≡ record { whole = w; numbers = take count numbers ++ [] } → count ≤ 99
+  stored-all : {w : Bool} → numbersOf part ≡ record { whole = w; numbers = take count numbers ++ [] } → count ≤ numbersMost
       → (cond w (All count) Broken ≡ countOf (numbersOf part)) × (numbers ≡ stored (numbersOf part .numbers) held)
   stored-all {w} e h =
       let l : length (take count numbers) ≡ count = length-take-le count numbers (omega (arith, so .size, so .room)) in
       (rw (e, append-nil, l), rw (e, append-nil, l, ← so .rest, take-append-drop))
 
-  pub read-broken : at < length part → {r : Number} → r ≡ spacedOf (drop at part) → r ≡ Not → length part ≤ 199
+  pub read-broken : at < length part → {r : Number} → r ≡ spacedOf (drop at part) → r ≡ Not → length part ≤ lineMost - 1
       → (Broken ≡ countOf (numbersOf part)) × (numbers ≡ stored (numbersOf part .numbers) held)
   read-broken h is e m = stored-all (so .read ∙ numbers-broken part at (take count numbers) h is e) (omega (arith, so .apart))
 
-  pub read-all : length part ≤ at → length part ≤ 199 → (All count ≡ countOf (numbersOf part)) × (numbers ≡ stored (numbersOf part .numbers) held)
+  pub read-all : length part ≤ at → length part ≤ lineMost - 1 → (All count ≡ countOf (numbersOf part)) × (numbers ≡ stored (numbersOf part .numbers) held)
   read-all h m = stored-all (so .read ∙ numbers-end part at (take count numbers) h) (omega (arith, so .apart, so .within))

@@ -17,6 +17,7 @@ use Rattle.schedule.specs.Decimal.{glyph, decimal, spacedAll}
 use Rattle.schedule.specs.DecimalLaws.{decimal-one, decimal-more}
 use Rattle.schedule.specs.declared.Step.{Step}
 use Rattle.schedule.specs.declared.Step.the-variants.{Unreadable, Open, BeginWrite, BeginRead, Request, Reply}
+use Rattle.schedule.specs.Steps.{lineMost}
 use Rattle.schedule.specs.Steps.{Named, unreadable, namedOpen, namedWrite, namedPair, named, stepOf, lineByte, lineNumbers, stepText}
 use Rattle.schedule.specs.StepLaws.{step-read}
 use Rattle.schedule.specs.Numbers.{digitOf, digitHead, mayFollow, readOn, numberOf, spacedOf, Read, readThen, numbersBehind, numbersOf}
@@ -104,7 +105,7 @@ numbers-back [] f = none-back
 numbers-back (n ∷ rest) f =
     rw (spaced-cons n rest) (numbers-then n (spacedAll rest) (f .0) (no-digit-first rest) ∙ ap (λ (r : Read). record { whole = r .whole; numbers = n ∷ r .numbers }) (numbers-back rest (f .1)))
 
--- A step that a line can hold: numbers that fit, at most 200 bytes, setpoints only in an opening and in a WRITE.
+-- A step that a line can hold: numbers that fit, no more bytes than a line has, setpoints only in an opening and in a WRITE.
 abbrev HasSetpoints : Step → List ℕ → Type 0
 HasSetpoints Unreadable setpoints = ⊥
 HasSetpoints (Open method servers clients) setpoints = Unit {0}
@@ -115,7 +116,7 @@ HasSetpoints (Reply client target) setpoints = setpoints ≡ []
 
 pub record FitsLine (n : Named) : Type 0 where
   pub numbers : AllFit (lineNumbers (n .step) (n .setpoints))
-  pub size : length (stepText n) ≤ 200
+  pub size : length (stepText n) ≤ lineMost
   pub shape : HasSetpoints (n .step) (n .setpoints)
 
 named-back : (step : Step) (setpoints : List ℕ) → HasSetpoints step setpoints → named (lineByte step) (lineNumbers step setpoints) ≡ record { step = step; setpoints = setpoints }
@@ -237,7 +238,7 @@ pub step-only : (line : List ℕ) → Told line (stepOf line)
 unfolding stepOf
 step-only [] = inl refl
 step-only (byte ∷ rest) =
-    by-test (leb (length (byte ∷ rest)) 200)
+    by-test (leb (length (byte ∷ rest)) lineMost)
     (λ h. rw h (by-test (numbersOf rest .whole)
     (λ e. rw e (rw (← numbers-only rest e) at (told-named byte (numbersOf rest .numbers))))
     (λ e. rw e (inl refl))))

@@ -15,12 +15,13 @@ use borrow.Author.Tests.{eq-eqb, ne-eqb, le-leb, lt-leb, leb-true}
 use Rattle.schedule.specs.NumberLaws.{numbers-few}
 use Rattle.schedule.specs.declared.Step.the-variants.{Open, BeginWrite}
 use Rattle.schedule.specs.Numbers.{Read, numbersOf, countOf}
+use Rattle.schedule.specs.Steps.{lineMost, numbersMost, setpointsMost}
 use Rattle.schedule.specs.Steps.{Named, unreadable, namedOpen, namedWrite, pairNamed, namedPair, named, namedBy, stepOf, readingOf, stored, Names}
 
--- The numbers of a line, at most 99, and a place for its setpoints, at most 97.
+-- The numbers of a line, and a place for its setpoints: as many as a line can have.
 pub record Fits (numbers setpoints : List ℕ) : Type 0 where
-  pub few : length numbers ≤ 99
-  pub room : 97 ≤ length setpoints
+  pub few : length numbers ≤ numbersMost
+  pub room : setpointsMost ≤ length setpoints
 
 -- a line that names no step leaves the place as it was
 pub names-none : {n : Named} {r : Reading} (held : List ℕ) → n ≡ unreadable → r ≡ readingOf unreadable → Names n held r held
@@ -91,7 +92,7 @@ module _ (byte : ℕ) (l held : List ℕ) {r : Reading} where
     names-pair f is = rw (pair byte l d e ∙ pair-two byte l f) (record { reading = is; place = rw (pair-alone byte (getD l 0 0) (getD l 1 0)) })
 
 -- The whole line.
-pub step-read : (byte : ℕ) (rest : List ℕ) → length (byte ∷ rest) ≤ 200 → stepOf (byte ∷ rest) ≡ namedBy byte (numbersOf rest)
+pub step-read : (byte : ℕ) (rest : List ℕ) → length (byte ∷ rest) ≤ lineMost → stepOf (byte ∷ rest) ≡ namedBy byte (numbersOf rest)
 unfolding stepOf
 step-read byte rest h = rw (le-leb _ _ h)
 
@@ -100,42 +101,42 @@ unfolding stepOf
 line-empty [] h = refl
 line-empty (byte ∷ rest) h = let z : ⊥ = omega arith in absurd z
 
-pub line-long : (line : List ℕ) → 200 < length line → stepOf line ≡ unreadable
+pub line-long : (line : List ℕ) → lineMost < length line → stepOf line ≡ unreadable
 unfolding stepOf
 line-long [] h = refl
 line-long (byte ∷ rest) h = rw (lt-leb _ _ h)
 
--- a line has at most 97 setpoints
-few-open : (l : List ℕ) → length l ≤ 99 → length (namedOpen l .setpoints) ≤ 97
+-- how many setpoints a line has at most
+few-open : (l : List ℕ) → length l ≤ numbersMost → length (namedOpen l .setpoints) ≤ setpointsMost
 few-open [] h = omega arith
 few-open (a ∷ []) h = omega arith
 few-open (a ∷ b ∷ []) h = omega arith
 few-open (a ∷ b ∷ d ∷ l) h = omega arith
 
-few-write : (l : List ℕ) → length l ≤ 99 → length (namedWrite l .setpoints) ≤ 97
+few-write : (l : List ℕ) → length l ≤ numbersMost → length (namedWrite l .setpoints) ≤ setpointsMost
 few-write [] h = omega arith
 few-write (a ∷ []) h = omega arith
 few-write (a ∷ b ∷ l) h = omega arith
 
-few-pair : (byte : ℕ) (l : List ℕ) → length (namedPair byte l .setpoints) ≤ 97
+few-pair : (byte : ℕ) (l : List ℕ) → length (namedPair byte l .setpoints) ≤ setpointsMost
 few-pair byte [] = omega arith
 few-pair byte (a ∷ []) = omega arith
 few-pair byte (a ∷ b ∷ []) = rw (pair-alone byte a b) (omega arith)
 few-pair byte (a ∷ b ∷ d ∷ l) = omega arith
 
-few-named : (byte : ℕ) (l : List ℕ) → length l ≤ 99 → length (named byte l .setpoints) ≤ 97
+few-named : (byte : ℕ) (l : List ℕ) → length l ≤ numbersMost → length (named byte l .setpoints) ≤ setpointsMost
 few-named byte l h =
-    either (λ (n : Named). length (n .setpoints) ≤ 97) (eqb byte 79)
+    either (λ (n : Named). length (n .setpoints) ≤ setpointsMost) (eqb byte 79)
     (few-open l h)
-    (either (λ (n : Named). length (n .setpoints) ≤ 97) (eqb byte 87) (few-write l h) (few-pair byte l))
+    (either (λ (n : Named). length (n .setpoints) ≤ setpointsMost) (eqb byte 87) (few-write l h) (few-pair byte l))
 
-pub few-setpoints : (line : List ℕ) → length (stepOf line .setpoints) ≤ 97
+pub few-setpoints : (line : List ℕ) → length (stepOf line .setpoints) ≤ setpointsMost
 unfolding stepOf
 few-setpoints [] = omega arith
 few-setpoints (byte ∷ rest) =
-    by-test (leb (length (byte ∷ rest)) 200)
-    (λ e. rw e (either (λ (n : Named). length (n .setpoints) ≤ 97) (numbersOf rest .whole)
-    (few-named byte (numbersOf rest .numbers) (omega (arith, numbers-few rest, leb-true (length (byte ∷ rest)) 200 e)))
+    by-test (leb (length (byte ∷ rest)) lineMost)
+    (λ e. rw e (either (λ (n : Named). length (n .setpoints) ≤ setpointsMost) (numbersOf rest .whole)
+    (few-named byte (numbersOf rest .numbers) (omega (arith, numbers-few rest, leb-true (length (byte ∷ rest)) lineMost e)))
     (omega arith)))
     (λ e. rw e (omega arith))
 
@@ -153,7 +154,7 @@ count-all read {n} e =
     (λ t. let f : All n ≡ Broken = e ∙ rw t in let z : _≡_ {A = ℕ} 0 1 = cc in let y : ⊥ = omega arith in absurd y)
 
 -- the number reader gets what stands behind the line's first byte
-module _ (line : List ℕ) (h : length line ≡ 0 → ⊥) (k : length line ≤ 200) where
+module _ (line : List ℕ) (h : length line ≡ 0 → ⊥) (k : length line ≤ lineMost) where
   read-behind : stepOf line ≡ namedBy (getD line 0 0) (numbersOf (take (length line - 1) (drop 1 line)))
   read-behind =
       let p : 0 < length line = omega arith in
@@ -180,5 +181,5 @@ module _ (line : List ℕ) (h : length line ≡ 0 → ⊥) (k : length line ≤ 
     pub part-length : count ≡ length (take count numbers)
     part-length = sym (length-take-le count numbers count-within)
 
-    pub part-fits : (held : List ℕ) → length numbers ≡ 99 → 97 ≤ length held → Fits (take count numbers) held
+    pub part-fits : (held : List ℕ) → length numbers ≡ numbersMost → setpointsMost ≤ length held → Fits (take count numbers) held
     part-fits held n h = record { few = omega (arith, length-take count numbers); room = h }

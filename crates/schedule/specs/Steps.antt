@@ -1,5 +1,5 @@
 -- "lines of at most 200 bytes before byte 10: `O method k p setpoints`, `W panel mask setpoints`, `R panel mask`, `> panel target` (request), `< panel target` (reply)"
-use Prim.Native.Nat.{ℕ}
+use Prim.Native.Nat.{ℕ, _-_, _/_}
 use mathlib.Core.Path.{_≡_}
 use mathlib.Core.Bool.{cond}
 use mathlib.Core.List.{List, [], _∷_, _++_}
@@ -10,6 +10,17 @@ use Rattle.schedule.specs.declared.Step.the-variants.{Unreadable, Open, 
 use Rattle.schedule.specs.declared.Reading.{Reading}
 use Rattle.schedule.specs.Decimal.{spacedAll}
 use Rattle.schedule.specs.Numbers.{Read, numbersOf}
+
+-- "lines of at most 200 bytes"; behind a line's first byte each number takes two or more, its space and a digit;
+-- two numbers or more stand before its setpoints
+abbrev pub lineMost : ℕ
+lineMost = 200
+
+abbrev pub numbersMost : ℕ
+numbersMost = (lineMost - 1) / 2
+
+abbrev pub setpointsMost : ℕ
+setpointsMost = numbersMost - 2
 
 -- A step and the setpoints on its line.
 pub record Named : Type 0 where
@@ -58,7 +69,7 @@ namedBy byte read = cond (read .whole) (named byte (read .numbers)) unreadable
 -- the step that a line names
 unfoldable pub stepOf : List ℕ → Named
 stepOf [] = unreadable
-stepOf (byte ∷ rest) = cond (leb (length (byte ∷ rest)) 200) (namedBy byte (numbersOf rest)) unreadable
+stepOf (byte ∷ rest) = cond (leb (length (byte ∷ rest)) lineMost) (namedBy byte (numbersOf rest)) unreadable
 
 -- the answer of the reader: the step, and how many setpoints its line has
 abbrev pub readingOf : Named → Reading

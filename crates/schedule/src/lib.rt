@@ -4,8 +4,16 @@ ghost use Prim.Native.Nat.{_+_, _-_, _≤_, _<_};
 ghost use lib.ListN.{length, drop};
 ghost use Rattle.schedule.specs.Lines.{lineOf, endOf};
 ghost use Rattle.schedule.specs.Numbers.{digitOf, digitHead, numberOf, spacedOf, numbersOf, countOf};
+ghost use Rattle.schedule.specs.Steps.{lineMost, numbersMost, setpointsMost};
 ghost use Rattle.schedule.specs.Steps.{unreadable, named, namedOpen, namedWrite, pairNamed, stepOf, readingOf, stored, Names};
 ghost use Rattle.schedule.specs.StepLaws.{Fits};
+
+// A line's bytes at most; so its numbers, of two bytes or more each behind its first byte; so its setpoints, behind two numbers or more.
+pub const LINE: usize = 200;
+
+const NUMBERS: usize = (LINE - 1) / 2;
+
+pub const SETPOINTS: usize = NUMBERS - 2;
 
 // Where the line that begins at start ends: at its byte 10, or at the end of the text.
 pub fn line_end(text: &[u8], start: usize) -> usize
@@ -109,7 +117,7 @@ pub enum Numbers {
 
 // The numbers of what stands behind a line's first byte, into a place that holds as many as fit a line.
 fn numbers_in(part: &[u8], numbers: &mut [u32]) -> Numbers
-    requires { ⌜ (length (now part) ≤ 199) × (99 ≤ length (now numbers)) ⌝ }
+    requires { ⌜ (length (now part) ≤ lineMost - 1) × (numbersMost ≤ length (now numbers)) ⌝ }
     ensures { λ r. ⌜ (r ≡ countOf (numbersOf (now (part .entry)))) × (now (numbers .exit) ≡ stored (numbersOf (now (part .entry)) .numbers) (now (numbers .entry))) ⌝ }
 {
     let mut at = 0;
@@ -247,18 +255,18 @@ fn name_step(byte: u8, numbers: &[u32], setpoints: &mut [u32]) -> Reading
 }
 
 // The step that a line names. Its setpoints stand in the lent place; behind them, and where the line has none, it holds what it held.
-// No line has more than 97, so that every caller can lend enough.
+// A place for as many as a line can have is enough for every line.
 pub fn read_step(line: &[u8], setpoints: &mut [u32]) -> Reading
-    requires { ⌜ 97 ≤ length (now setpoints) ⌝ }
+    requires { ⌜ setpointsMost ≤ length (now setpoints) ⌝ }
     ensures { λ r. ⌜ Names (stepOf (now (line .entry))) (now (setpoints .entry)) r (now (setpoints .exit)) ⌝ }
 {
     if line.len() == 0 {
         return unreadable();
     }
-    if 200 < line.len() {
+    if LINE < line.len() {
         return unreadable();
     }
-    let mut numbers = [0u32; 99];
+    let mut numbers = [0u32; NUMBERS];
     let read = numbers_in(&line[1..], &mut numbers);
     match read {
         Numbers::Broken => unreadable(),

@@ -7,9 +7,12 @@ use lib.ListN.{length, take, drop}
 use lib.Dec.{eqb, ltb, leb}
 use Rattle.tables.specs.Tables.{Tables}
 use Rattle.schedule.specs.Lines.{lineOf, linesOf}
+use Rattle.schedule.specs.Steps.{lineMost}
 use Rattle.printing.specs.Printed.{Printed}
+use Rattle.printing.specs.Sizes.{answerMost}
 use Rattle.playing.specs.Played.{playedLine, shownText, answersFrom}
 use Rattle.playing.specs.Playable.{Playable}
+use Rattle.streaming.specs.Sizes.{windowSize, printSize, turnsMost}
 use Rattle.streaming.specs.declared.Run.{Run}
 
 -- the bytes of the window that are read and not yet played
@@ -28,17 +31,17 @@ linesLeft skipping text = linesOf (cond skipping (behindLine text) text)
 abbrev pub restOf : Run → List ℕ → Tables → List ℕ
 restOf run text t = answersFrom (run .lines + 1) (linesLeft (run .skipping) text) t
 
--- whether a line of this size, at the front of so many bytes that are held, has neither its end there nor more than 200 bytes
+-- whether a line of this size, at the front of so many bytes that are held, has neither its end there nor more bytes than a step's line can have
 unfoldable pub lacksEnd : ℕ → ℕ → Bool
-lacksEnd size held = leb size 200 && leb held size
+lacksEnd size held = leb size lineMost && leb held size
 
 -- whether the end of the line at the front of what is held must still be read: then the turn reads on, and answers nothing
 abbrev pub wantsMore : Run → List ℕ → Bool
 wantsMore run window = lacksEnd (length (lineOf (heldBy run window))) (run .held - run .from)
 
--- where the answer of a line is printed, in a print of this size: behind the bytes used, or, where fewer than 300 are free there, at its front
+-- where the answer of a line is printed, in a print of this size: behind the bytes used, or, where fewer than the longest answer are free there, at its front
 unfoldable pub roomFrom : ℕ → ℕ → ℕ
-roomFrom used size = cond (ltb (size - 300) used) 0 used
+roomFrom used size = cond (ltb (size - answerMost) used) 0 used
 
 -- the run behind a line of this size at its place: behind its byte 10, or within it where that is not held yet
 unfoldable pub passed : Run → ℕ → ℕ → ℕ → Run
@@ -60,18 +63,18 @@ linesThen run = cond (run .skipping) (run .lines) (run .lines + 1)
 -- A line is answered, unless it is answered already, and passed.
 pub record Answered (run : Run) (line : List ℕ) (t : Tables) (out : List ℕ) (r : Run) (left : List ℕ) (t′ : Tables) : Type 0 where
   pub printed : Printed out (run .used) (lineText run line t) (r .used) left
-  pub short : r .used ≤ run .used + 300
+  pub short : r .used ≤ run .used + answerMost
   pub tables : t′ ≡ lineTables run line t
   pub next : r ≡ passed run (length line) (linesThen run) (r .used)
 
 -- What holds between two turns: the window and the print are of a length, and what is held and used lies within them.
 pub record Going (run : Run) (window out : List ℕ) : Type 0 where
-  pub windowSize : length window ≡ 65536
-  pub outSize : length out ≡ 65536
+  pub windowLength : length window ≡ windowSize
+  pub outLength : length out ≡ printSize
   pub from : run .from ≤ run .held
-  pub held : run .held ≤ 65536
-  pub used : run .used ≤ 65536
-  pub lines : run .lines + run .left ≤ 9223372036854775808
+  pub held : run .held ≤ windowSize
+  pub used : run .used ≤ printSize
+  pub lines : run .lines + run .left ≤ turnsMost
 
 -- A turn: some bytes come in, or a line is answered. Whatever is still unread, what was left to be printed is what the turn prints and what is left then.
 -- "A line ends at byte 10 or at the end of the text": at the end of the text a byte 10 comes in behind a line that has none.

@@ -12,45 +12,46 @@ use Rattle.ranges.specs.Tests.{by-test}
 use Rattle.tables.specs.Tables.{Tables}
 use Rattle.schedule.specs.Lines.{lineOf, linesOf, endOf}
 use Rattle.schedule.specs.LineLaws.{lines-next, line-found, take-line, line-short}
-use Rattle.schedule.specs.Steps.{Named, stepOf, unreadable}
+use Rattle.schedule.specs.Steps.{lineMost, Named, stepOf, unreadable}
+use Rattle.printing.specs.Sizes.{answerMost}
 use Rattle.printing.specs.PrintedLaws.{printed-none}
 use Rattle.playing.specs.Played.{Played, played, playedLine, shownText, LinePlayed, answersFrom}
 use Rattle.streaming.specs.declared.Run.{Run}
 use Rattle.streaming.specs.Stream.{heldBy, behindLine, lacksEnd, roomFrom, restOf, passed, lineText, lineTables, linesThen, Answered}
 
 module _ (size held : ℕ) where
-  pub lacks-short : size ≤ 200 → leb held size ≡ lacksEnd size held
+  pub lacks-short : size ≤ lineMost → leb held size ≡ lacksEnd size held
   unfolding lacksEnd
   lacks-short h = rw (le-leb _ _ h)
 
-  pub ends-long : 200 < size → false ≡ lacksEnd size held
+  pub ends-long : lineMost < size → false ≡ lacksEnd size held
   unfolding lacksEnd
   ends-long h = rw (lt-leb _ _ h)
 
-  pub lacking : lacksEnd size held ≡ true → (size ≤ 200) × (held ≤ size)
+  pub lacking : lacksEnd size held ≡ true → (size ≤ lineMost) × (held ≤ size)
   unfolding lacksEnd
-  lacking e = by-test (leb size 200)
+  lacking e = by-test (leb size lineMost)
       (λ f. (leb-true _ _ f, leb-true held size (rw f at e)))
       (λ f. absurd (true≢false (sym (rw f at e))))
 
-  pub whole-there : lacksEnd size held ≡ false → size ≤ 200 → size < held
+  pub whole-there : lacksEnd size held ≡ false → size ≤ lineMost → size < held
   unfolding lacksEnd
   whole-there e h = leb-false held size (rw (le-leb _ _ h) at e)
 
--- where a print goes on, by whether 300 bytes are free behind what is used; they are free there in any case
+-- where a print goes on, by whether the longest answer has place behind what is used; they are free there in any case
 module _ (used size : ℕ) where
-  pub at-front : size - 300 < used → roomFrom used size ≡ 0
+  pub at-front : size - answerMost < used → roomFrom used size ≡ 0
   unfolding roomFrom
   at-front h = rw (lt-ltb _ _ h)
 
-  pub behind-used : used ≤ size - 300 → roomFrom used size ≡ used
+  pub behind-used : used ≤ size - answerMost → roomFrom used size ≡ used
   unfolding roomFrom
   behind-used h = rw (le-ltb _ _ h)
 
-  pub room-free : 300 ≤ size → roomFrom used size + 300 ≤ size
-  room-free h = by-test (ltb (size - 300) used)
+  pub room-free : answerMost ≤ size → roomFrom used size + answerMost ≤ size
+  room-free h = by-test (ltb (size - answerMost) used)
       (λ e. rw (at-front (ltb-true _ _ e)) h)
-      (λ e. let f : used ≤ size - 300 = ltb-false _ _ e in rw (behind-used f) (omega (arith, f, h)))
+      (λ e. let f : used ≤ size - answerMost = ltb-false _ _ e in rw (behind-used f) (omega (arith, f, h)))
 
 -- a line with no byte 10 behind it goes on in what comes next
 line-open : (part unread : List ℕ) → length part ≤ length (lineOf part) → lineOf (part ++ unread) ≡ part ++ lineOf unread
@@ -94,12 +95,12 @@ module _ (part unread : List ℕ) where
         ∙ ap (λ (l : List ℕ). (part ++ lineOf unread) ∷ linesOf l) behind-open)
 
 -- "A line of any other shape, an empty or longer one too, is no step": all longer ones are played alike
-long-unreadable : (line : List ℕ) → 200 < length line → stepOf line ≡ unreadable
+long-unreadable : (line : List ℕ) → lineMost < length line → stepOf line ≡ unreadable
 unfolding stepOf
 long-unreadable [] h = let z : ⊥ = omega (arith, h) in absurd z
 long-unreadable (byte ∷ rest) h = rw (lt-leb _ _ h)
 
-pub long-played : (line more : List ℕ) (t : Tables) → 200 < length line → playedLine (line ++ more) t ≡ playedLine line t
+pub long-played : (line more : List ℕ) (t : Tables) → lineMost < length line → playedLine (line ++ more) t ≡ playedLine line t
 long-played line more t h =
     ap (λ (n : Named). played (n .step) (n .setpoints) t)
     (long-unreadable (line ++ more) (omega (arith, h, length-append line more)) ∙ sym (long-unreadable line h))
@@ -177,7 +178,7 @@ module _ (run : Run) (window : List ℕ) (within : run .held ≤ length window) 
         (λ e. rw e (ap (λ (l : List ℕ). answersFrom (run .lines + 1) (linesOf l) t) {x = behindLine (part ++ unread)} {y = behindLine part ++ unread} (behind-found part unread found)))
         (λ e. rw e (ap (λ (l : List (List ℕ)). answersFrom (run .lines + 1) l t) (lines-found part unread found))))
 
-    later-open : length part ≤ length line → 200 < length line → run .from ≤ run .held → Later (passed run (length line) (linesThen run) used)
+    later-open : length part ≤ length line → lineMost < length line → run .from ≤ run .held → Later (passed run (length line) (linesThen run) used)
     unfolding answersFrom
     later-open open′ long from =
         let n : run .held ≤ run .from + length line = omega (arith, open′, part-length) in
@@ -192,10 +193,10 @@ module _ (run : Run) (window : List ℕ) (within : run .held ≤ length window) 
         (ap (λ (l : List ℕ). playedLine (l ++ lineOf unread) t) (sym w) ∙ long-played line (lineOf unread) t long))))
 
     -- it is passed where its byte 10 is held, or where it is longer than a step's line can be
-    pub answered-later : (length line ≤ 200 → length line < length part) → run .from ≤ run .held → Later (passed run (length line) (linesThen run) used)
+    pub answered-later : (length line ≤ lineMost → length line < length part) → run .from ≤ run .held → Later (passed run (length line) (linesThen run) used)
     answered-later whole from =
         by-test (ltb (length line) (length part))
         (λ e. later-found (ltb-true _ _ e))
-        (λ e. by-test (leb (length line) 200)
+        (λ e. by-test (leb (length line) lineMost)
         (λ f. later-found (whole (leb-true _ _ f)))
         (λ f. later-open (ltb-false _ _ e) (leb-false _ _ f) from))

@@ -12,11 +12,13 @@ use Rattle.ranges.specs.Tests.{by-test, either, not-both}
 use Rattle.tables.specs.Tables.{Tables}
 use Rattle.schedule.specs.Lines.{lineOf}
 use Rattle.schedule.specs.LineLaws.{line-short}
-use Rattle.schedule.specs.Steps.{stepOf}
+use Rattle.schedule.specs.Steps.{lineMost, stepOf}
 use Rattle.printing.specs.Printed.{Printed}
+use Rattle.printing.specs.Sizes.{answerMost}
 use Rattle.printing.specs.PrintedLaws.{printed-none}
 use Rattle.playing.specs.Played.{playedLine, answersFrom}
 use Rattle.playing.specs.Playable.{Playable, step-playable}
+use Rattle.streaming.specs.Sizes.{turnsMost}
 use Rattle.streaming.specs.declared.Run.{Run}
 use Rattle.streaming.specs.Stream.{heldBy, linesLeft, restOf, lacksEnd, wantsMore, roomFrom, passed, lineText, lineTables, linesThen, Answered, Going, Turned}
 use Rattle.streaming.specs.StreamLaws.{whole-there, room-free, passed-found, passed-open, answered-later}
@@ -46,7 +48,7 @@ module _ (run : Run) (window out : List ℕ) (t : Tables) (going : Going run win
         arith,
         line-short (heldBy run window),
         length-drop (run .from) (take (run .held) window),
-        length-take-le (run .held) window (omega (arith, going .held, going .windowSize)),
+        length-take-le (run .held) window (omega (arith, going .held, going .windowLength)),
       )
 
   -- whether more is wanted, told of the line at the front of what is held
@@ -71,7 +73,7 @@ module _ (run : Run) (window out : List ℕ) (t : Tables) (going : Going run win
         came = k .came;
         text = [];
         printed = subst (λ (b : Bool). Printed out (place b) [] (r .used) out) (sym wanting)
-            (subst (λ (n : ℕ). Printed out (run .used) [] n out) (sym (k .used)) (printed-none out (run .used) (omega (arith, going .used, going .outSize))));
+            (subst (λ (n : ℕ). Printed out (run .used) [] n out) (sym (k .used)) (printed-none out (run .used) (omega (arith, going .used, going .outLength))));
         later = λ unread.
             ap (λ (x : List ℕ). restOf run x t) (sym (append-assoc (heldBy run window) (k .came) unread) ∙ ap (λ (x : List ℕ). x ++ unread) (sym (k .held)))
             ∙ (ap (λ (n : ℕ). answersFrom (n + 1) (linesLeft (run .skipping) (heldBy r window′ ++ unread)) t) (sym (k .lines))
@@ -81,10 +83,10 @@ module _ (run : Run) (window out : List ℕ) (t : Tables) (going : Going run win
         ended = λ e none. k .ended none;
         playable = playable;
         going = record {
-          windowSize = l ∙ going .windowSize;
-          outSize = going .outSize;
+          windowLength = l ∙ going .windowLength;
+          outLength = going .outLength;
           from = omega (arith, k .from);
-          held = omega (arith, k .within, going .windowSize);
+          held = omega (arith, k .within, going .windowLength);
           used = omega (arith, k .used, going .used);
           lines = omega (arith, k .lines, read-less r window′ k, going .lines);
         };
@@ -94,18 +96,18 @@ module _ (run : Run) (window out : List ℕ) (t : Tables) (going : Going run win
   abbrev used : ℕ
   used = roomFrom (run .used) (length out)
 
-  room : used + 300 ≤ length out
-  room = room-free (run .used) (length out) (omega (arith, going .outSize))
+  room : used + answerMost ≤ length out
+  room = room-free (run .used) (length out) (omega (arith, going .outLength))
 
   module _ (line : List ℕ) (is-line : line ≡ lineOf (heldBy run window)) where
     abbrev Rest : List ℕ → Run → List ℕ → Tables → Type 0
     Rest l r unread t′ = restOf run (heldBy run window ++ unread) t ≡ lineText (roomy run used) l t ++ restOf r (heldBy r window ++ unread) t′
 
     all-later : (unread : List ℕ) (r : Run) (t′ : Tables) → run .held ≤ length window → length (heldBy run window) ≡ run .held - run .from →
-        (length line ≤ 200 → length line < run .held - run .from) → r ≡ passed (roomy run used) (length line) (linesThen (roomy run used)) (r .used) → t′ ≡ lineTables (roomy run used) line t →
+        (length line ≤ lineMost → length line < run .held - run .from) → r ≡ passed (roomy run used) (length line) (linesThen (roomy run used)) (r .used) → t′ ≡ lineTables (roomy run used) line t →
         Rest line r unread t′
     all-later unread r t′ held size whole next tables =
-        let later = answered-later (roomy run used) window held t unread (r .used) (subst (λ (l : List ℕ). length l ≤ 200 → length l < length (heldBy run window)) is-line (λ h. omega (arith, size, whole h))) (going .from) in
+        let later = answered-later (roomy run used) window held t unread (r .used) (subst (λ (l : List ℕ). length l ≤ lineMost → length l < length (heldBy run window)) is-line (λ h. omega (arith, size, whole h))) (going .from) in
         subst (λ (x : Tables). Rest line r unread x) (sym tables)
         (subst (λ (x : Run). Rest line x unread (lineTables (roomy run used) line t)) (sym next)
         (subst (λ (l : List ℕ). Rest l (passed (roomy run used) (length l) (linesThen (roomy run used)) (r .used)) unread (lineTables (roomy run used) l t)) (sym is-line) later))
@@ -123,7 +125,7 @@ module _ (run : Run) (window out : List ℕ) (t : Tables) (going : Going run win
         Answered (roomy run used) line t out r out′ t′ → length out′ ≡ length out → Turned run window out t r window out′ t′
     turned-answer whole r out′ t′ a l =
         let enough : wantsMore run window ≡ false = wants line is-line whole in
-        let held : run .held ≤ length window = omega (arith, going .held, going .windowSize) in
+        let held : run .held ≤ length window = omega (arith, going .held, going .windowLength) in
         let size : length (heldBy run window) ≡ run .held - run .from =
         length-drop (run .from) (take (run .held) window) ∙ ap (λ (n : ℕ). n - run .from) (length-take-le (run .held) window held) in
         let fits : run .from + length line ≤ run .held = rw is-line (omega (arith, line-fits, going .from)) in
@@ -138,11 +140,11 @@ module _ (run : Run) (window out : List ℕ) (t : Tables) (going : Going run win
           ended = λ e none. absurd (not-both e enough);
           playable = subst Playable (sym (a .tables)) line-playable;
           going = record {
-            windowSize = going .windowSize;
-            outSize = l ∙ going .outSize;
+            windowLength = going .windowLength;
+            outLength = l ∙ going .outLength;
             from = b .from;
             held = omega (arith, b .held, going .held);
-            used = omega (arith, a .short, room, going .outSize);
+            used = omega (arith, a .short, room, going .outLength);
             lines = omega (arith, b .lines′, b .left, lines-more, some-left, going .lines);
           };
         }
@@ -157,7 +159,7 @@ module _ (run : Run) (window out : List ℕ) (t : Tables) (going : Going run win
           let n : length line ≤ run .held - run .from = rw is-line line-fits in
           (omega (arith, f, h, n, going .from), omega (arith, l, some-left))
 
-      pub ready-room : (made .used + 300 ≤ length out) × (made .lines + made .left ≤ 9223372036854775808)
+      pub ready-room : (made .used + answerMost ≤ length out) × (made .lines + made .left ≤ turnsMost)
       ready-room =
           let u : made .used ≡ used = ap (λ (x : Run). x .used) is-roomy in
           let n : made .lines ≡ run .lines = ap (λ (x : Run). x .lines) is-roomy in

@@ -9,10 +9,42 @@ ghost use Rattle.playing.specs.Playable.{Playable};
 ghost use Rattle.streaming.specs.Stream.{lacksEnd, roomFrom, passed, Answered, Going, Turned};
 ghost use Rattle.streaming.specs.Windows.{Came, ReadOn, roomy};
 ghost use Rattle.printing.specs.Printed.{Printed};
-ghost use Rattle.register_text.specs.Text.{registerPrinted};
+ghost use Rattle.printing.specs.Sizes.{answerMost};
+ghost use Rattle.streaming.specs.Sizes.{turnsMost};
+ghost use Rattle.register_text.specs.Text.{registerMost, registerPrinted};
 use libc::STDIN_FILENO;
 use libc::STDOUT_FILENO;
+use tables::clients;
+use tables::counts;
 use tables::counts::METHOD;
+use tables::links;
+use tables::log;
+use tables::records;
+use tables::versions;
+
+// The sizes of the program's arrays, made as `Sizes` makes them: tables for as many servers and clients as a store can have, the window, the print.
+const MOST_SERVERS: usize = 16;
+
+const MOST_CLIENTS: usize = 16;
+
+const CLIENTS: usize = clients::WIDTH * MOST_CLIENTS;
+
+const LINKS: usize = links::WIDTH * (links::TARGETS * MOST_CLIENTS);
+
+const KEYS: usize = versions::PLACES * MOST_SERVERS;
+
+const VALUES: usize = versions::PLACES * MOST_SERVERS;
+
+const LOG: usize = log::WIDTH * log::PLACES;
+
+const RECORDS: usize = records::WIDTH * records::PLACES;
+
+const WINDOW: usize = 65536;
+
+const PRINT: usize = 65536;
+
+// How many turns a run may have, so that it ends; so many lines cannot come.
+const TURNS: u64 = 9223372036854775808;
 
 // The run between two turns.
 pub struct Run {
@@ -25,7 +57,7 @@ pub struct Run {
     held: usize,
     // bytes of the print that are not yet written out
     used: usize,
-    // within a line that was found longer than 200 bytes, and is answered
+    // within a line that was found too long for a step, and is answered
     skipping: bool,
 }
 
@@ -71,7 +103,7 @@ fn answer_line(
 ) -> Run
     requires { ⌜ Playable (tablesOf (now counts) (now clients) (now links) (now keys) (now values) (now log) (now writes) (now reads)) ⌝ }
     requires { ⌜ (run .from + length (now line) ≤ run .held) × (0 < run .left) ⌝ }
-    requires { ⌜ (run .used + 300 ≤ length (now out)) × (run .lines + run .left ≤ 9223372036854775808) ⌝ }
+    requires { ⌜ (run .used + answerMost ≤ length (now out)) × (run .lines + run .left ≤ turnsMost) ⌝ }
     ensures { λ r. ⌜ Answered run (now (line .entry)) (tablesOf (now (counts .entry)) (now (clients .entry)) (now (links .entry)) (now (keys .entry)) (now (values .entry)) (now (log .entry)) (now (writes .entry)) (now (reads .entry))) (now (out .entry)) r (now (out .exit)) (tablesOf (now (counts .exit)) (now (clients .exit)) (now (links .exit)) (now (keys .exit)) (now (values .exit)) (now (log .exit)) (now (writes .exit)) (now (reads .exit))) ⌝ }
 {
     let size = line.len();
@@ -161,11 +193,11 @@ fn read_on(run: Run, window: &mut [u8]) -> Run
 
 // Writes the print out where it is nearly full.
 fn make_room(run: Run, out: &[u8]) -> Run
-    requires { ⌜ (run .used ≤ length (now out)) × (300 ≤ length (now out)) ⌝ }
+    requires { ⌜ (run .used ≤ length (now out)) × (answerMost ≤ length (now out)) ⌝ }
     ensures { λ r. ⌜ r ≡ roomy run (roomFrom (run .used) (length (now (out .entry)))) ⌝ }
 {
     let mut used = run.used;
-    if out.len() - 300 < used {
+    if out.len() - printing::ANSWER < used {
         io::write_all(STDOUT_FILENO, &out[..used]);
         used = 0;
     }
@@ -179,11 +211,11 @@ fn make_room(run: Run, out: &[u8]) -> Run
     }
 }
 
-// Whether a line of this size, at the front of so many bytes that are held, has neither its end there nor more than 200 bytes.
+// Whether a line of this size, at the front of so many bytes that are held, has neither its end there nor more bytes than a step's line can have.
 fn lacks_end(size: usize, held: usize) -> bool
     ensures { λ r. ⌜ r ≡ lacksEnd size held ⌝ }
 {
-    if size <= 200 {
+    if size <= schedule::LINE {
         return held <= size;
     }
     false
@@ -243,8 +275,8 @@ fn print_end(
     out: &mut [u8],
 ) -> usize
     requires { ⌜ Playable (tablesOf (now counts) (now clients) (now links) (now keys) (now values) (now log) (now writes) (now reads)) ⌝ }
-    requires { ⌜ 29070 ≤ length (now out) ⌝ }
-    ensures { λ r. ⌜ Printed (now (out .entry)) 0 (registerPrinted (tablesOf (now (counts .entry)) (now (clients .entry)) (now (links .entry)) (now (keys .entry)) (now (values .entry)) (now (log .entry)) (now (writes .entry)) (now (reads .entry)))) r (now (out .exit)) × (r ≤ 29070) ⌝ }
+    requires { ⌜ registerMost ≤ length (now out) ⌝ }
+    ensures { λ r. ⌜ Printed (now (out .entry)) 0 (registerPrinted (tablesOf (now (counts .entry)) (now (clients .entry)) (now (links .entry)) (now (keys .entry)) (now (values .entry)) (now (log .entry)) (now (writes .entry)) (now (reads .entry)))) r (now (out .exit)) × (r ≤ registerMost) ⌝ }
 {
     if tables::counts::count_at(counts, METHOD) == 0 {
         return 0;
@@ -266,18 +298,18 @@ fn print_end(
 // Plays standard input to its end, and prints the answers and the register. It is lent nothing and answers nothing, so that no contract is left to state:
 // what the system reads and writes is in none. What it does is in those of `turn` and `print_end`, and that it ends is part of its proof.
 pub fn replay() {
-    let mut counts = [0u32; 23];
-    let mut clients = [0u32; 608];
-    let mut links = [0u32; 816];
-    let mut keys = [0u32; 4096];
-    let mut values = [0u32; 4096];
-    let mut log = [0u32; 512];
-    let mut writes = [0u32; 1275];
-    let mut reads = [0u32; 1275];
-    let mut window = [0u8; 65536];
-    let mut out = [0u8; 65536];
+    let mut counts = [0u32; counts::WORDS];
+    let mut clients = [0u32; CLIENTS];
+    let mut links = [0u32; LINKS];
+    let mut keys = [0u32; KEYS];
+    let mut values = [0u32; VALUES];
+    let mut log = [0u32; LOG];
+    let mut writes = [0u32; RECORDS];
+    let mut reads = [0u32; RECORDS];
+    let mut window = [0u8; WINDOW];
+    let mut out = [0u8; PRINT];
     let mut run = Run {
-        left: 9223372036854775808,
+        left: TURNS,
         lines: 0,
         from: 0,
         held: 0,

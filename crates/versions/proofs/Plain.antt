@@ -16,7 +16,7 @@ use ghost.Atoms.{Atoms}
 use contract.Monad.{Fun}
 use types.Kit.{Given, ‵, _$_, _∵_, !, qed, move, join, frame, done}
 use denote.Laws.{Is}
-use denote.Memory.{pointee}
+use denote.Memory.{pointee, mem}
 use denote.Plain.{uint-makes}
 use denote.Builtin.{u8, usize, bool}
 use denote.Slice.{sliceTy}
@@ -58,8 +58,12 @@ slice = sliceTy (tyRef (named 0) imm (pointee (T.the-row .written)))
 pub within : (i n m : ℕ) → i < n → n ≤ m → i < m
 within i n m l h = omega arith
 
+-- the bytes of a version, as its type says
+abbrev pub versionSize : ℕ
+versionSize = mem T.the-row .size
+
 -- a version's place, in bytes, fits a usize, since the whole slice has room
-pub place-fits : (n i : ℕ) → n * 8 < 2 ^ 63 → i < n → i * 8 < 2 ^ 64
+pub place-fits : (n i : ℕ) → n * versionSize < 2 ^ 63 → i < n → i * versionSize < 2 ^ 64
 place-fits n i r l = omega arith
 
 module _ {M : Type 1} (𝓤 : URA M) (H : Heap 𝓤) (A : Atoms 𝓤) (mem : Memory → SProp 𝓤) (run : Routine → Fun 𝓤) where

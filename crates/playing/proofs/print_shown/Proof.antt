@@ -1,4 +1,4 @@
--- An answer takes at most 300 bytes.
+-- An answer takes at most `answerMost` bytes.
 use borrow.Author.Needs.{needs}
 use Rattle.ranges.specs.Tests.{at-most}
 use Rattle.playing.proofs.print_shown.Statement.{statement}

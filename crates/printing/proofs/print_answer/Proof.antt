@@ -1,4 +1,4 @@
--- Three texts, one behind the other: at most 20, 240 and 1 bytes.
+-- Three texts, one behind the other: a number of at most 20 digits, the answer, and byte 10.
 use mathlib.Core.List.{[], _∷_, _++_}
 use native.Mathlib.Omega.{arith}
 use Rattle.schedule.specs.Decimal.{decimal}

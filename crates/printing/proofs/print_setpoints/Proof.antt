@@ -1,4 +1,4 @@
--- The loop's invariant: the servers passed are printed, each in at most fourteen bytes.
+-- The loop's invariant: the servers passed are printed, each in at most `pairMost` bytes.
 use Prim.Native.Nat.{_+_, _*_, _≤_, _-_}
 use mathlib.Core.Path.{_≡_, _∙_}
 use lib.ListN.{length}

@@ -1,4 +1,4 @@
--- Three texts, one behind the other: at most 45, 11 and 1 bytes.
+-- Three texts, one behind the other: a letter with four numbers, the end, and byte 10.
 use mathlib.Core.List.{[], _∷_, _++_}
 use native.Mathlib.Omega.{arith}
 use Rattle.schedule.specs.Decimal.{spacedAll}

@@ -1,4 +1,4 @@
--- The loop's invariant is ReadSoFar: the numbers read stand in front. Each took two bytes or more, so that 99 places are enough for a line.
+-- The loop's invariant is ReadSoFar: the numbers read stand in front. Each took two bytes or more, so that `numbersMost` places are enough.
 use Prim.Native.Nat.{_-_}
 use lib.ListN.{length}
 use Rattle.schedule.specs.NumberLaws.{ReadSoFar, NumberFits, read-none, number-fits, read-more, read-broken, read-all}

@@ -1,4 +1,4 @@
--- The print is written out where fewer than 300 bytes are left of it.
+-- The print is written out where less is left of it than the longest answer.
 use mathlib.Core.Path.{sym, ap}
 use lib.ListN.{length}
 use lib.Seq.{length-take-le}

@@ -3,8 +3,10 @@ use mathlib.Core.Path.{_≡_, sym, refl}
 use native.Mathlib.Omega.{arith}
 use lib.ListN.{length}
 use lib.Seq.{length-take-le}
+use Rattle.tables.specs.Layout.{countWords}
 use Rattle.tables.specs.Tables.{tablesOf}
 use Rattle.playing.specs.Playable.{Playable, unopened-playable}
+use Rattle.streaming.specs.Sizes.{clientsSize, linksSize, keysSize, valuesSize, logSize, recordsSize}
 use Rattle.streaming.specs.Stream.{Going}
 use Rattle.streaming.specs.Turns.{turned-less}
 use borrow.Author.Needs.{needs}
@@ -14,15 +16,15 @@ use Rattle.streaming.proofs.replay.Tie as tie
 abbrev Inv-loop : tie.InvT-loop
 Inv-loop counts₀ clients₀ links₀ keys₀ values₀ log₀ writes₀ reads₀ window₀ out₀ run₀ counts clients links keys values log writes reads window out run =
     (Playable (tablesOf counts clients links keys values log writes reads) × Going run window out) ×
-    ((23 ≡ length counts) × ((608 ≡ length clients) × ((816 ≡ length links) × ((4096 ≡ length keys) ×
-    ((4096 ≡ length values) × ((512 ≡ length log) × ((1275 ≡ length writes) × (1275 ≡ length reads))))))))
+    ((countWords ≡ length counts) × ((clientsSize ≡ length clients) × ((linksSize ≡ length links) × ((keysSize ≡ length keys) ×
+    ((valuesSize ≡ length values) × ((logSize ≡ length log) × ((recordsSize ≡ length writes) × (recordsSize ≡ length reads))))))))
 
 abbrev μ-loop : tie.MeasureT-loop
 μ-loop counts₀ clients₀ links₀ keys₀ values₀ log₀ writes₀ reads₀ window₀ out₀ run₀ counts clients links keys values log writes reads window out run =
     run .left
 
 loop-holds : tie.Need-loop-holds Inv-loop μ-loop
-loop-holds c = ((unopened-playable _ (search needs) refl, record { windowSize = search needs; outSize = search needs; from = omega arith; held = omega arith; used = omega arith; lines = omega arith }), search needs)
+loop-holds c = ((unopened-playable _ (search needs) refl, record { windowLength = search needs; outLength = search needs; from = omega arith; held = omega arith; used = omega arith; lines = omega arith }), search needs)
 
 turn-requires : tie.Need-turn-requires Inv-loop μ-loop
 turn-requires c κs = let l = c .before .before .before .before .before .before .before .before .before .before .before .before .loop .inv .0 in (l .0, (l .1, c .before .before .before .before .before .before .before .before .before .before .if1 .taken))
@@ -34,16 +36,16 @@ loop-again : tie.Need-loop-again Inv-loop μ-loop
 loop-again c = let e = c .before .before .before .before .before .before .before .before .before .before .turn .ensures in ((e .playable, e .going), search needs)
 
 slice-aggregate-write-all : tie.Need-slice-aggregate-write-all Inv-loop μ-loop
-slice-aggregate-write-all c = let g = c .before .before .before .loop .inv .0 .1 in sym (length-take-le _ _ (omega (arith, g .used, g .outSize)))
+slice-aggregate-write-all c = let g = c .before .before .before .loop .inv .0 .1 in sym (length-take-le _ _ (omega (arith, g .used, g .outLength)))
 
 print-end-requires : tie.Need-print-end-requires Inv-loop μ-loop
-print-end-requires c κs = let l = c .before .before .before .before .before .before .before .before .before .before .before .before .before .loop .inv .0 in (l .0, omega (arith, l .1 .outSize))
+print-end-requires c κs = let l = c .before .before .before .before .before .before .before .before .before .before .before .before .before .loop .inv .0 in (l .0, omega (arith, l .1 .outLength))
 
 array-share-prefix-out-2 : tie.Need-array-share-prefix-out-2 Inv-loop μ-loop
 array-share-prefix-out-2 c = let w = c .before .print-end in omega (arith, w .ensures .1)
 
 slice-aggregate-write-all-2 : tie.Need-slice-aggregate-write-all-2 Inv-loop μ-loop
-slice-aggregate-write-all-2 c = let w = c .before .before .print-end in sym (length-take-le _ _ (omega (arith, w .ensures .1, w .kept .1 .1 .1 .1 .1 .1 .1 .1 .0, c .before .before .before .before .before .before .before .before .before .before .before .before .before .before .before .before .loop .inv .0 .1 .outSize)))
+slice-aggregate-write-all-2 c = let w = c .before .before .print-end in sym (length-take-le _ _ (omega (arith, w .ensures .1, w .kept .1 .1 .1 .1 .1 .1 .1 .1 .0, c .before .before .before .before .before .before .before .before .before .before .before .before .before .before .before .before .loop .inv .0 .1 .outLength)))
 
 pub replay-spec : {M : Type 1} → statement M
 replay-spec =

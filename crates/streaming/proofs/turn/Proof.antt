@@ -10,10 +10,10 @@ use Rattle.streaming.proofs.turn.Statement.{statement}
 use Rattle.streaming.proofs.turn.Tie as tie
 
 slice-aggregate-line-at : tie.Need-slice-aggregate-line-at
-slice-aggregate-line-at c = let g = c .before .before .before .before .before .before .before .before .before .before .before .pre .1 .0 in sym (length-take-le _ _ (omega (arith, g .held, g .windowSize)))
+slice-aggregate-line-at c = let g = c .before .before .before .before .before .before .before .before .before .before .before .pre .1 .0 in sym (length-take-le _ _ (omega (arith, g .held, g .windowLength)))
 
 read-on-requires : tie.Need-read-on-requires
-read-on-requires c κs = let p = c .before .before .before .before .before .before .before .before .before .before .before .before .before .before .before .pre in let g = p .1 .0 in let e = lacking _ _ (sym (c .before .before .lacks-end .ensures) ∙ c .before .if1 .taken) in ((g .from, (omega (arith, g .held, g .windowSize), omega (arith, e .0, e .1, g .windowSize))), p .1 .1)
+read-on-requires c κs = let p = c .before .before .before .before .before .before .before .before .before .before .before .before .before .before .before .pre in let g = p .1 .0 in let e = lacking _ _ (sym (c .before .before .lacks-end .ensures) ∙ c .before .if1 .taken) in ((g .from, (omega (arith, g .held, g .windowLength), omega (arith, e .0, e .1, g .windowLength))), p .1 .1)
 
 returns : tie.Need-returns
 returns c =

@@ -46,7 +46,7 @@ use Rattle.versions.specs.declared.Version.{Version}
 use Rattle.versions.specs.Table.{appendNumber, appendTable}
 use Rattle.versions.specs.Cases.{done-place, done-table, refused-table}
 use Rattle.versions.proofs.Steps.{holds, fails, calls-plain, spent, spare}
-use Rattle.versions.proofs.Plain.{vals, Number, number-answers, place-fits}
+use Rattle.versions.proofs.Plain.{vals, versionSize, Number, number-answers, place-fits}
 use Rattle.versions.proofs.Version as T
 use Rattle.versions.proofs.Version.Laws as T′
 use Rattle.versions.proofs.append_number.Symbol as number-def
@@ -115,7 +115,7 @@ module _ {M : Type 1} (𝓤 : URA M) (H : Heap 𝓤) (A : Atoms 𝓤) (W : Given
         -- versions[held] = version;
         assigns ! (bin ! (load ! (from ! (stop !)) (look ! 18 refl)) (lit ! tt) (record { fits = place-fits (length ys) i (room .1) l })) (from ! (stop !)) (init ! 8 refl (tt, record { fits = place-fits (length ys) i (room .1) l })) $
         assigns ! (bin ! (load ! (from ! (fld ! refl (stop !))) (look-in ! 20 (sub ! 0 refl (whole !)))) (load ! (from ! (stop !)) (look ! 8 refl)) tt) (from ! (stop !)) (init ! 6 refl (tt, tt)) $
-        rewrite ! 6 (λ (p : ℕ). ‵ (fat fullShare tyPtr l₈ 0 (vptr b p))) (sym (place-is 8 o i)) refl $
+        rewrite ! 6 (λ (p : ℕ). ‵ (fat fullShare tyPtr l₈ 0 (vptr b p))) (sym (place-is versionSize o i)) refl $
         opens-slice ! tt T.the-row ys b o $ elem-out ! T.the-row (Is T.the-row) (shows 𝓤 H A T.the-row) vals (LL.tells T.the-type T′.the-laws) fullShare ys i v b o l (λ _.
         -- [versions[held]; what it owns; the others; the open borrow; obs; auth; true; versions' fact; held's and version's; _8; …; down to _0; …]
         assigns-last ! (of-opd ! (load ! (from ! (stop !)) (look ! 19 refl))) (from ! (hop ! (look ! 9 refl) (stop !))) (store-raw ! 0 refl (LL.lawful T.the-type T′.the-laws 𝓤 H A W .typed v (mach ∷ []) gv .0)) $

@@ -56,7 +56,7 @@ use Rattle.versions.specs.Table.{appendNumber, appendTable, heldAfter, r
 use Rattle.versions.specs.Cases.{append-length, trial-is, trial-filled}
 use Rattle.versions.proofs.Lent.{array-lies, array-room, big-lit}
 use Rattle.versions.proofs.Steps.{calls-lent, calls-plain, spent}
-use Rattle.versions.proofs.Plain.{vals, After, after-answers, Made, made-answers}
+use Rattle.versions.proofs.Plain.{vals, versionSize, After, after-answers, Made, made-answers}
 use Rattle.versions.proofs.Shared.{Now, now-answers, Find, find-answers, Setpoint, setpoint-answers}
 use Rattle.versions.proofs.Version as T
 use Rattle.versions.proofs.Version.Laws as T′
@@ -101,7 +101,7 @@ mach = LL.val T.the-type T′.the-laws
 count-fits : (m : ℕ) → m ≡ 4096 → m < 2 ^ 64
 count-fits m e = omega arith
 
-bytes-fit : (m : ℕ) → m ≡ 4096 → m * 8 < 2 ^ 63
+bytes-fit : (m : ℕ) → m ≡ 4096 → m * versionSize < 2 ^ 63
 bytes-fit m e = omega arith
 
 -- the types of the references to the array

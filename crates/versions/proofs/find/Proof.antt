@@ -54,7 +54,7 @@ use Rattle.versions.specs.declared.Version.{Version}
 use Rattle.versions.specs.Table.{noVersion, versionAt, readable, bearsAt, firstBearing}
 use Rattle.versions.specs.Cases.{readable-within}
 use Rattle.versions.proofs.Steps.{holds, fails, calls-plain, spent, spare}
-use Rattle.versions.proofs.Plain.{vals, slice, within, place-fits, Readable, readable-answers, Bears, bears-answers}
+use Rattle.versions.proofs.Plain.{vals, slice, versionSize, within, place-fits, Readable, readable-answers, Bears, bears-answers}
 use Rattle.versions.proofs.Version as T
 use Rattle.versions.proofs.Version.Laws as T′
 use Rattle.versions.proofs.readable_of.Symbol as readable-def
@@ -174,7 +174,7 @@ module _ {M : Type 1} (𝓤 : URA M) (H : Heap 𝓤) (A : Atoms 𝓤) (W : Given
         stays ! (load ! (from ! (stop !)) (look ! 14 refl)) $
         assigns ! (bin ! (load ! (from ! (stop !)) (look ! 18 refl)) (lit ! tt) (record { fits = place-fits (length ys) i (room .1) l′ })) (from ! (stop !)) (init ! 10 refl (tt, record { fits = place-fits (length ys) i (room .1) l′ })) $
         assigns ! (bin ! (load ! (from ! (fld ! refl (stop !))) (look-in ! 26 (sub ! 0 refl (whole !)))) (load ! (from ! (stop !)) (look ! 10 refl)) tt) (from ! (stop !)) (init ! 8 refl (tt, tt)) $
-        rewrite ! 8 (λ (p′ : ℕ). ‵ (fat fullShare tyPtr l₁₀ 0 (vptr b p′))) (sym (place-is 8 o i)) refl $
+        rewrite ! 8 (λ (p′ : ℕ). ‵ (fat fullShare tyPtr l₁₀ 0 (vptr b p′))) (sym (place-is versionSize o i)) refl $
         looks-slice ! tt T.the-row (Is T.the-row) (shows 𝓤 H A T.the-row) vals (LL.tells T.the-type T′.the-laws) (LL.copy T.the-type T′.the-copy 𝓤 H A W) ys b o (λ q′. elem-out ! T.the-row (Is T.the-row) (shows 𝓤 H A T.the-row) vals (LL.tells T.the-type T′.the-laws) q′ ys i noVersion b o l′ (λ g.
         -- [versions[place]; what it owns; the others; what shuts; the shared borrow; true; res; versions' fact; held's and key's; _11; …; down to _0; …]
         assigns ! (of-opd ! (load ! (from ! (hop ! (look ! 11 refl) (stop !))) (look-raw ! 0 refl))) (from ! (stop !)) (init ! 9 refl (LL.lawful T.the-type T′.the-laws 𝓤 H A W .typed (versionAt ys i) (vals (versionAt ys i)) g .0)) $

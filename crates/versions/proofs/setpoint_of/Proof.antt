@@ -47,7 +47,7 @@ use Rattle.versions.specs.declared.Reading.{Reading}
 use Rattle.versions.specs.Table.{noVersion, versionAt, readable, firstBearing, foundAt, notHeld, readingOf}
 use Rattle.versions.specs.Cases.{readable-within, reading-found, reading-missing}
 use Rattle.versions.proofs.Steps.{holds, fails, calls-lent, calls-plain, spent, spare}
-use Rattle.versions.proofs.Plain.{vals, slice, within, place-fits, Readable, readable-answers, Found, found-answers, Missing, missing-answers}
+use Rattle.versions.proofs.Plain.{vals, slice, versionSize, within, place-fits, Readable, readable-answers, Found, found-answers, Missing, missing-answers}
 use Rattle.versions.proofs.Shared.{Find, find-answers}
 use Rattle.versions.proofs.Version as T
 use Rattle.versions.proofs.Version.Laws as T′
@@ -146,7 +146,7 @@ module _ {M : Type 1} (𝓤 : URA M) (H : Heap 𝓤) (A : Atoms 𝓤) (W : Given
         -- versions[place]
         assigns ! (bin ! (load ! (from ! (stop !)) (look ! 15 refl)) (lit ! tt) (record { fits = place-fits (length ys) found (room .1) l′ })) (from ! (stop !)) (init ! 7 refl (tt, record { fits = place-fits (length ys) found (room .1) l′ })) $
         assigns ! (bin ! (load ! (from ! (fld ! refl (stop !))) (look-in ! 21 (sub ! 0 refl (whole !)))) (load ! (from ! (stop !)) (look ! 7 refl)) tt) (from ! (stop !)) (init ! 5 refl (tt, tt)) $
-        rewrite ! 5 (λ (p : ℕ). ‵ (fat fullShare tyPtr l₉ 0 (vptr b p))) (sym (place-is 8 o found)) refl $
+        rewrite ! 5 (λ (p : ℕ). ‵ (fat fullShare tyPtr l₉ 0 (vptr b p))) (sym (place-is versionSize o found)) refl $
         split ! $ move ! (2 ∷ []) $ fsplit ! $ move ! (1 ∷ []) $ fsplit ! $ move ! (1 ∷ 3 ∷ []) $
         -- [the shared borrow; the token; res; versions' fact; true; held's and key's; _10; …; down to _0; …]
         looks-slice ! tt T.the-row (Is T.the-row) (shows 𝓤 H A T.the-row) vals (LL.tells T.the-type T′.the-laws) (LL.copy T.the-type T′.the-copy 𝓤 H A W) ys b o (λ q′. elem-out ! T.the-row (Is T.the-row) (shows 𝓤 H A T.the-row) vals (LL.tells T.the-type T′.the-laws) q′ ys found noVersion b o l′ (λ g.
