@@ -1,6 +1,6 @@
 -- A line that is answered already is only passed.
 use Rattle.tables.specs.Tables.{tablesOf}
-use Rattle.streaming.specs.StreamLaws.{skipped, newly-answered}
+use Rattle.turn.specs.Answers.{skipped, newly-answered}
 use native.Mathlib.Omega.{arith}
 use borrow.Author.Needs.{needs}
 use Rattle.streaming.proofs.answer_line.Statement.{statement}

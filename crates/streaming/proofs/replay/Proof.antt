@@ -7,8 +7,8 @@ use Rattle.tables.specs.Layout.{countWords}
 use Rattle.tables.specs.Tables.{tablesOf}
 use Rattle.playing.specs.Playable.{Playable, unopened-playable}
 use Rattle.streaming.specs.Sizes.{clientsSize, linksSize, keysSize, valuesSize, logSize, recordsSize}
-use Rattle.streaming.specs.Stream.{Going}
-use Rattle.streaming.specs.Turns.{turned-less}
+use Rattle.window.specs.Window.{Going}
+use Rattle.turn.specs.Turns.{turned-less}
 use borrow.Author.Needs.{needs}
 use Rattle.streaming.proofs.replay.Statement.{statement}
 use Rattle.streaming.proofs.replay.Tie as tie

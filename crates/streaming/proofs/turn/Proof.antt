@@ -3,8 +3,8 @@ use native.Mathlib.Omega.{arith}
 use mathlib.Core.Path.{sym, _∙_}
 use lib.Seq.{length-take-le}
 use Rattle.tables.specs.Tables.{tablesOf}
-use Rattle.streaming.specs.StreamLaws.{lacking}
-use Rattle.streaming.specs.Turns.{turned-read, ready-fits, ready-room, turned-made}
+use Rattle.window.specs.WindowLaws.{lacking, ready-fits, ready-room}
+use Rattle.turn.specs.Turns.{turned-read, turned-made}
 use borrow.Author.Needs.{needs}
 use Rattle.streaming.proofs.turn.Statement.{statement}
 use Rattle.streaming.proofs.turn.Tie as tie
@@ -34,8 +34,12 @@ answer-line-requires c κs =
     let a = start .args in
     let p = start .pre in
     let m = at-make-room .make-room in
-    let t = tablesOf (a .counts .now) (a .clients .now) (a .links .now) (a .keys .now) (a .values .now) (a .log .now) (a .writes .now) (a .reads .now) in
-    (p .0, (ready-fits (a .run) (a .window .now) (a .out .now) t (p .1 .0) (p .0) (p .1 .1) _ (at-line-at .line-at .ensures) (m .result) (m .ensures), ready-room (a .run) (a .window .now) (a .out .now) t (p .1 .0) (p .0) (p .1 .1) _ (at-line-at .line-at .ensures) (m .result) (m .ensures)))
+    let line = at-line-at .line-at .ensures in
+    let window = a .window .now in
+    let out = a .out .now in
+    let fits = ready-fits (a .run) window out (p .1 .0) (p .1 .1) _ line (m .result) (m .ensures) in
+    let room = ready-room (a .run) window out (p .1 .0) (p .1 .1) _ line (m .result) (m .ensures) in
+    (p .0, (fits, room))
 
 returns-2 : tie.Need-returns-2
 returns-2 c =

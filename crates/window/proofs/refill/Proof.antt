@@ -2,10 +2,10 @@
 use lib.ListN.{length-set}
 use native.Mathlib.Omega.{arith}
 use mathlib.Core.Path.{_∙_}
-use Rattle.streaming.specs.Windows.{came-none, came-end, came-more}
+use Rattle.window.specs.Refills.{came-none, came-end, came-more}
 use borrow.Author.Needs.{needs}
-use Rattle.streaming.proofs.refill.Statement.{statement}
-use Rattle.streaming.proofs.refill.Tie as tie
+use Rattle.window.proofs.refill.Statement.{statement}
+use Rattle.window.proofs.refill.Tie as tie
 
 returns : tie.Need-returns
 returns c =

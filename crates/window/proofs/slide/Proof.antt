@@ -2,13 +2,13 @@
 use native.Mathlib.Omega.{arith}
 use native.Mathlib.Nat.{le-antisymm}
 use lib.Seq.{paste, paste-zero}
-use Rattle.streaming.specs.Windows.{slid-more}
+use Rattle.window.specs.Refills.{slid-more}
 use borrow.Author.Needs.{needs}
 use Prim.Native.Nat.{_≤_, _-_}
 use mathlib.Core.Path.{_≡_, _∙_, ap}
 use lib.ListN.{length, drop, length-drop}
-use Rattle.streaming.proofs.slide.Statement.{statement}
-use Rattle.streaming.proofs.slide.Tie as tie
+use Rattle.window.proofs.slide.Statement.{statement}
+use Rattle.window.proofs.slide.Tie as tie
 
 abbrev Inv-loop : tie.InvT-loop
 Inv-loop window₀ from held n i₀ window i = (window ≡ paste window₀ 0 (drop from window₀) i) × ((i ≤ n) × (length window ≡ length window₀))

@@ -1,4 +1,4 @@
--- How the window is refilled: what was held stands at its front, and what came stands behind it.
+-- Why the window holds what it held and what came, where it is slid and read into.
 use Prim.Native.Nat.{ℕ, suc, _+_, _-_, _≤_, _<_}
 use mathlib.Core.Path.{_≡_, refl, sym, ap, _∙_}
 use mathlib.Core.Bool.{Bool, cond}
@@ -9,46 +9,24 @@ use lib.ListN.{length, take, drop, getD, set, length-drop}
 use lib.Seq.{paste, paste-suc, drop-paste, getD-drop, take-at, drop-at, take-add, take-suc-set, length-take-le}
 use lib.Dec.{eqb}
 use borrow.Author.Tests.{eq-eqb, ne-eqb}
-use Rattle.streaming.specs.declared.Run.{Run}
-use Rattle.streaming.specs.Stream.{heldBy}
-
--- the same run, where so many bytes of the print are not written out
-abbrev pub roomy : Run → ℕ → Run
-roomy run used = record { left = run .left; lines = run .lines; from = run .from; held = run .held; used = used; skipping = run .skipping }
-
--- The bytes from..held of the window, and behind them those that came, stand at the front of the window then.
-pub record Came (window : List ℕ) (from held now : ℕ) (left : List ℕ) : Type 0 where
-  pub within : now ≤ length window
-  pub came : List ℕ
-  pub front : take now left ≡ drop from (take held window) ++ came
-  -- nothing is held then only where nothing was held and nothing came
-  pub none : eqb (length came) 0 ≡ eqb now 0
-  pub ended : came ≡ [] → held ≤ from
-
--- The run reads on: what is held then is what was held and what came.
-pub record ReadOn (run : Run) (window : List ℕ) (r : Run) (window′ : List ℕ) : Type 0 where
-  pub came : List ℕ
-  pub held : heldBy r window′ ≡ heldBy run window ++ came
-  pub within : r .held ≤ length window
-  pub from : r .from ≡ 0
-  pub left : r .left ≡ cond (eqb (length came) 0) 0 (run .left - 1)
-  pub ended : came ≡ [] → run .held ≤ run .from
-  pub lines : r .lines ≡ run .lines
-  pub used : r .used ≡ run .used
-  pub skipping : r .skipping ≡ run .skipping
+use Rattle.window.specs.Window.{Came}
 
 -- one turn of the slide: what is read was not yet written
-pub slid-more : (old window : List ℕ) (from i : ℕ) → window ≡ paste old 0 (drop from old) i → from + i < length old → i < length (drop from old) →
+pub slid-more : (old window : List ℕ) (from i : ℕ) → window ≡ paste old 0 (drop from old) i → from + i < length old →
+    i < length (drop from old) →
     set window i (getD window (from + i) 0) ≡ paste old 0 (drop from old) (i + 1)
 slid-more old window from i e h k =
     let z : 0 + i ≡ i = omega arith in
     let s : from + i ≡ i + from = omega arith in
-    let q : drop (0 + i) (paste old 0 (drop from old) i) ≡ drop (0 + i) old = drop-paste old 0 (drop from old) i (omega arith) (omega arith) in
-    let q′ : drop i window ≡ drop i old = ap (λ (l : List ℕ). drop i l) e ∙ ap (λ (n : ℕ). drop n (paste old 0 (drop from old) i)) (sym z) ∙ q ∙ ap (λ (n : ℕ). drop n old) z in
+    let q : drop (0 + i) (paste old 0 (drop from old) i) ≡ drop (0 + i) old =
+    drop-paste old 0 (drop from old) i (omega arith) (omega arith) in
+    let q′ : drop i window ≡ drop i old =
+    ap (λ (l : List ℕ). drop i l) e ∙ ap (λ (n : ℕ). drop n (paste old 0 (drop from old) i)) (sym z) ∙ q ∙ ap (λ (n : ℕ). drop n old) z in
     let g : getD window (from + i) 0 ≡ getD (drop from old) i 0 =
     ap (λ (n : ℕ). getD window n 0) s ∙ sym (getD-drop i window from 0) ∙ ap (λ (l : List ℕ). getD l from 0) q′ ∙ getD-drop i old from 0
     ∙ ap (λ (n : ℕ). getD old n 0) (sym s) ∙ sym (getD-drop from old i 0) in
-    let p : set (paste old 0 (drop from old) i) (0 + i) (getD (drop from old) i 0) ≡ paste old 0 (drop from old) (suc i) = paste-suc old 0 (drop from old) i 0 (omega arith) k in
+    let p : set (paste old 0 (drop from old) i) (0 + i) (getD (drop from old) i 0) ≡ paste old 0 (drop from old) (suc i) =
+    paste-suc old 0 (drop from old) i 0 (omega arith) k in
     let p′ : set (paste old 0 (drop from old) i) i (getD (drop from old) i 0) ≡ paste old 0 (drop from old) (suc i) =
     ap (λ (n : ℕ). set (paste old 0 (drop from old) i) n (getD (drop from old) i 0)) (sym z) ∙ p in
     rw (g, e, add-one i) p′
@@ -78,7 +56,8 @@ module _ (window : List ℕ) (from held : ℕ) (h : from ≤ held) (k : held ≤
       (length-take-le (held - from) (drop from window) (omega (arith, h, k, length-drop from window)))
       ∙ sym (drop-take window from held h k))
 
-  module _ (rest came : ℕ) (slid left : List ℕ) (r : rest ≡ held - from) (e : slid ≡ paste window 0 (drop from window) (held - from)) (f : take rest left ≡ take rest slid)
+  module _ (rest came : ℕ) (slid left : List ℕ) (r : rest ≡ held - from)
+      (e : slid ≡ paste window 0 (drop from window) (held - from)) (f : take rest left ≡ take rest slid)
       (long : length left ≡ length window) where
     front : take rest left ≡ part
     front = f ∙ (ap (λ (n : ℕ). take n slid) r ∙ slid-front slid e)
@@ -87,26 +66,35 @@ module _ (window : List ℕ) (from held : ℕ) (h : from ≤ held) (k : held ≤
     part-size = ap length (sym front) ∙ length-take-le rest left (omega (arith, r, long, k))
 
     pub came-none : rest ≡ 0 → Came window from held 0 left
-    came-none z = record { within = omega arith; came = []; front = sym (append-nil part ∙ empty part (part-size ∙ z)); none = refl; ended = λ e. omega (arith, r, z) }
+    came-none z = record {
+      within = omega arith;
+      came = [];
+      front = sym (append-nil part ∙ empty part (part-size ∙ z));
+      none = refl;
+      ended = λ e. omega (arith, r, z);
+    }
 
     pub came-end : rest < length window → Came window from held (rest + 1) (set left rest 10)
     came-end l =
         record {
           within = omega (arith, l);
           came = 10 ∷ [];
-          front = ap (λ (n : ℕ). take n (set left rest 10)) (add-one rest) ∙ (take-suc-set left rest 10 (omega (arith, l, long)) ∙ ap (λ (x : List ℕ). x ++ (10 ∷ [])) front);
+          front = ap (λ (n : ℕ). take n (set left rest 10)) (add-one rest)
+              ∙ (take-suc-set left rest 10 (omega (arith, l, long)) ∙ ap (λ (x : List ℕ). x ++ (10 ∷ [])) front);
           none = sym (ne-eqb (rest + 1) 0 (λ e. let z : ⊥ = omega (arith, e) in z));
           ended = λ e. let z : ⊥ = omega (arith, ap length e) in absurd z;
         }
 
     pub came-more : rest + came ≤ length window → 0 < came → Came window from held (rest + came) left
     came-more l c =
-        let size : length (take came (drop rest left)) ≡ came = length-take-le came (drop rest left) (omega (arith, l, long, length-drop rest left)) in
+        let size : length (take came (drop rest left)) ≡ came =
+        length-take-le came (drop rest left) (omega (arith, l, long, length-drop rest left)) in
         record {
           within = l;
           came = take came (drop rest left);
           front = take-add rest came left ∙ ap (λ (x : List ℕ). x ++ take came (drop rest left)) front;
-          none = ne-eqb (length (take came (drop rest left))) 0 (λ e. let z : ⊥ = omega (arith, e, size, c) in z) ∙ sym (ne-eqb (rest + came) 0 (λ e. let z : ⊥ = omega (arith, e, c) in z));
+          none = ne-eqb (length (take came (drop rest left))) 0 (λ e. let z : ⊥ = omega (arith, e, size, c) in z)
+              ∙ sym (ne-eqb (rest + came) 0 (λ e. let z : ⊥ = omega (arith, e, c) in z));
           ended = λ e. let z : ⊥ = omega (arith, ap length e, size, c) in absurd z;
         }
 

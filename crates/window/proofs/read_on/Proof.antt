@@ -1,9 +1,9 @@
 -- The run ends where nothing is held then: no byte came, and none was left.
 use mathlib.Core.Path.{refl}
-use Rattle.streaming.specs.Windows.{goes-on, at-end}
+use Rattle.window.specs.Refills.{goes-on, at-end}
 use borrow.Author.Needs.{needs}
-use Rattle.streaming.proofs.read_on.Statement.{statement}
-use Rattle.streaming.proofs.read_on.Tie as tie
+use Rattle.window.proofs.read_on.Statement.{statement}
+use Rattle.window.proofs.read_on.Tie as tie
 
 returns : tie.Need-returns
 returns c = let k = c .before .before .before .before .refill .ensures in record { came = k .came; held = k .front; within = k .within; from = refl; left = goes-on k _ (c .before .if1 .taken); ended = k .ended; lines = refl; used = refl; skipping = refl }

@@ -2,11 +2,11 @@
 use mathlib.Core.Path.{sym, ap}
 use lib.ListN.{length}
 use lib.Seq.{length-take-le}
-use Rattle.streaming.specs.Windows.{roomy}
-use Rattle.streaming.specs.StreamLaws.{at-front, behind-used}
+use Rattle.window.specs.Window.{roomy}
+use Rattle.window.specs.WindowLaws.{at-front, behind-used}
 use borrow.Author.Needs.{needs}
-use Rattle.streaming.proofs.make_room.Statement.{statement}
-use Rattle.streaming.proofs.make_room.Tie as tie
+use Rattle.window.proofs.make_room.Statement.{statement}
+use Rattle.window.proofs.make_room.Tie as tie
 
 slice-aggregate-write-all : tie.Need-slice-aggregate-write-all
 slice-aggregate-write-all c = let a = c .before .before .before .args in sym (length-take-le (a .run .used) (a .out .now) (search needs))

@@ -1,7 +1,7 @@
 -- Two tests, one by one.
-use Rattle.streaming.specs.StreamLaws.{lacks-short, ends-long}
-use Rattle.streaming.proofs.lacks_end.Statement.{statement}
-use Rattle.streaming.proofs.lacks_end.Tie as tie
+use Rattle.window.specs.WindowLaws.{lacks-short, ends-long}
+use Rattle.window.proofs.lacks_end.Statement.{statement}
+use Rattle.window.proofs.lacks_end.Tie as tie
 
 returns : tie.Need-returns
 returns c = lacks-short (c .before .args .size) (c .before .args .held) (c .if1 .taken)

@@ -2,8 +2,8 @@
 use lib.ListN.{take}
 use lib.Seq.{take-at, length-take-le}
 use borrow.Author.Needs.{needs}
-use Rattle.streaming.proofs.read_behind.Statement.{statement}
-use Rattle.streaming.proofs.read_behind.Tie as tie
+use Rattle.window.proofs.read_behind.Statement.{statement}
+use Rattle.window.proofs.read_behind.Tie as tie
 
 sub-space : tie.Need-sub-space
 sub-space c = search needs

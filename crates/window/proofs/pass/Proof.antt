@@ -1,9 +1,9 @@
 -- By whether the byte 10 of the line is held.
 use mathlib.Core.Path.{sym}
-use Rattle.streaming.specs.StreamLaws.{passed-found, passed-open}
+use Rattle.window.specs.WindowLaws.{passed-found, passed-open}
 use borrow.Author.Needs.{needs}
-use Rattle.streaming.proofs.pass.Statement.{statement}
-use Rattle.streaming.proofs.pass.Tie as tie
+use Rattle.window.proofs.pass.Statement.{statement}
+use Rattle.window.proofs.pass.Tie as tie
 
 returns : tie.Need-returns
 returns c = let a = c .before .before .before .before .args in sym (passed-found (a .run) (a .size) (a .lines) (a .used) (search needs))
