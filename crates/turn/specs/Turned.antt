@@ -1,4 +1,5 @@
--- A turn of the program. What one turn prints and what the rest will print is what was to be printed, whatever is still to come.
+-- A turn of the program. What one turn prints and what the rest will print is what was to be printed, whatever is still to come;
+-- and its tables are those that the line leaves.
 use Prim.Native.Nat.{ℕ, _+_, _-_, _≤_}
 use mathlib.Core.Path.{_≡_}
 use mathlib.Core.Bool.{Bool, true, false, cond, _&&_}
@@ -6,6 +7,7 @@ use mathlib.Core.List.{List, [], _++_}
 use lib.ListN.{length}
 use lib.Dec.{eqb}
 use Rattle.tables.specs.Tables.{Tables}
+use Rattle.schedule.specs.Lines.{lineOf}
 use Rattle.printing.specs.Printed.{Printed}
 use Rattle.printing.specs.Sizes.{answerMost}
 use Rattle.playing.specs.Played.{playedLine, shownText, answersFrom}
@@ -35,6 +37,8 @@ pub record Answered (run : Run) (line : List ℕ) (t : Tables) (out : List ℕ) 
 -- and what is left then.
 -- "A line ends at byte 10 or at the end of the text": at the end of the text a byte 10 comes in behind a line that has none.
 pub record Turned (run : Run) (window out : List ℕ) (t : Tables) (r : Run) (window′ out′ : List ℕ) (t′ : Tables) : Type 0 where
+  -- a turn that reads leaves the tables, and one that answers a line leaves those that the line does
+  pub tables : t′ ≡ cond (wantsMore run window) t (lineTables run (lineOf (heldBy run window)) t)
   pub came : List ℕ
   pub text : List ℕ
   pub printed : Printed out (cond (wantsMore run window) (run .used) (roomFrom (run .used) (length out))) text (r .used) out′

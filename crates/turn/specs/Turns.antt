@@ -26,6 +26,10 @@ module _ (run : Run) (window out : List ℕ) (t : Tables)
   abbrev place : Bool → ℕ
   place wanting = cond wanting (run .used) (roomFrom (run .used) (length out))
 
+  -- the tables that it leaves
+  abbrev tablesBy : Bool → Tables
+  tablesBy wanting = cond wanting t (lineTables run (lineOf (heldBy run window)) t)
+
   -- how many turns are left behind this one
   abbrev leftBy : Bool → List ℕ → ℕ
   leftBy wanting came = cond (wanting && eqb (length came) 0) 0 (run .left - 1)
@@ -48,6 +52,7 @@ module _ (run : Run) (window out : List ℕ) (t : Tables)
         comes = λ e. absurd (not-both wanting e);
         left = subst (λ (b : Bool). r .left ≡ leftBy b (k .came)) (sym wanting) (k .left);
         ended = λ e none. k .ended none;
+        tables = sym (ap tablesBy wanting);
         playable = playable;
         going = going-read run window out going some-left r window′ k l;
       }
@@ -90,6 +95,7 @@ module _ (run : Run) (window out : List ℕ) (t : Tables)
         let held = held-within run window out going some-left in
         let behind = line-behind run window out going some-left line is-line r (a .next) in
         record {
+          tables = a .tables ∙ (ap (λ (l : List ℕ). lineTables run l t) is-line ∙ sym (ap tablesBy enough));
           came = [];
           text = lineText (roomy run used) line t;
           printed = subst (λ (b : Bool). Printed out (place b) (lineText (roomy run used) line t) (r .used) out′) (sym enough) (a .printed);
