@@ -5,9 +5,9 @@ use mathlib.Core.Bool.{true}
 use mathlib.Core.List.{List}
 use native.Mathlib.Omega.{arith}
 use lib.ListN.{length, set, replicate, length-set}
-use lib.Dec.{ltb}
-use borrow.Author.Tests.{lt-ltb, le-ltb, eq-eqb, ne-eqb, ltb-true, ltb-false}
-use Rattle.ranges.specs.Tests.{by-test, both-right}
+use lib.Dec.{ltb, leb}
+use borrow.Author.Tests.{lt-ltb, le-ltb, le-leb, lt-leb, eq-eqb, ne-eqb, ltb-true, ltb-false, leb-true}
+use Rattle.ranges.specs.Tests.{by-test, both-left, both-right}
 use Rattle.keys.specs.declared.Key.{Key}
 use Rattle.tables.specs.Layout.{serverPlaces}
 use Rattle.versions.specs.declared.Version.{Version}
@@ -37,17 +37,17 @@ pub readable-within : (held places : ℕ) → readable held places ≤ places
 readable-within held places = omega (arith, lesser-most held (lesser places serverPlaces) .1, lesser-most places serverPlaces .0)
 
 module _ (held places : ℕ) where
-  pub number-done : held < serverPlaces → held < places → 0 ≡ appendNumber held places
+  pub number-short : places < serverPlaces → 2 ≡ appendNumber held places
   unfolding appendNumber
-  number-done g h = rw (lt-ltb held serverPlaces g, lt-ltb held places h)
+  number-short g = rw (lt-leb serverPlaces places g)
 
-  pub number-short : held < serverPlaces → places ≤ held → 8 ≡ appendNumber held places
+  pub number-done : serverPlaces ≤ places → held < serverPlaces → 0 ≡ appendNumber held places
   unfolding appendNumber
-  number-short g h = rw (lt-ltb held serverPlaces g, le-ltb held places h)
+  number-done g h = rw (le-leb serverPlaces places g, lt-ltb held serverPlaces h)
 
-  pub number-full : serverPlaces ≤ held → 8 ≡ appendNumber held places
+  pub number-full : serverPlaces ≤ places → serverPlaces ≤ held → 8 ≡ appendNumber held places
   unfolding appendNumber
-  number-full g = rw (le-ltb held serverPlaces g)
+  number-full g h = rw (le-leb serverPlaces places g, le-ltb held serverPlaces h)
 
 module _ (held number : ℕ) where
   pub after-done : number ≡ 0 → held < serverPlaces → held + 1 ≡ heldAfter held number
@@ -64,20 +64,33 @@ module _ (held number : ℕ) where
 
 -- an append that answers 0 has its place, and stores there; one that does not, changes nothing
 module _ (versions : List Version) (held : ℕ) (version : Version) where
-  room-true : appendNumber held (length versions) ≡ 0 → roomFor held (length versions) ≡ true
+  -- it answers 0 exactly where there is room
+  number-room : appendNumber held (length versions) ≡ 0 → roomFor held (length versions) ≡ true
   unfolding appendNumber
-  room-true e = by-test (roomFor held (length versions)) (λ b. b) (λ b. let z : 8 ≡ 0 = rw b at e in let w : ⊥ = omega arith in absurd w)
+  number-room e =
+      by-test (leb serverPlaces (length versions))
+      (λ b. by-test (ltb held serverPlaces)
+      (λ d. rw (b, d))
+      (λ d. let z : 8 ≡ 0 = rw (b, d) at e in let w : ⊥ = omega arith in absurd w))
+      (λ b. let z : 2 ≡ 0 = rw b at e in let w : ⊥ = omega arith in absurd w)
+
+  room-number : roomFor held (length versions) ≡ true → appendNumber held (length versions) ≡ 0
+  unfolding appendNumber
+  room-number e = rw (both-left (leb serverPlaces (length versions)) _ e, both-right (leb serverPlaces (length versions)) _ e)
 
   pub done-place : appendNumber held (length versions) ≡ 0 → held < length versions
-  done-place e = ltb-true _ _ (both-right (ltb held serverPlaces) (ltb held (length versions)) (room-true e))
+  done-place e =
+      let enough = leb-true serverPlaces (length versions) (both-left _ _ (number-room e)) in
+      let free = ltb-true held serverPlaces (both-right (leb serverPlaces (length versions)) _ (number-room e)) in
+      omega (arith, enough, free)
 
   pub done-table : appendNumber held (length versions) ≡ 0 → set versions held version ≡ appendTable versions held version
   unfolding appendTable
-  done-table e = rw (room-true e)
+  done-table e = rw (number-room e)
 
   pub refused-table : (appendNumber held (length versions) ≡ 0 → ⊥) → versions ≡ appendTable versions held version
-  unfolding appendTable appendNumber
-  refused-table d = by-test (roomFor held (length versions)) (λ b. absurd (d (rw b))) (λ b. rw b)
+  unfolding appendTable
+  refused-table d = by-test (roomFor held (length versions)) (λ b. absurd (d (room-number b))) (λ b. rw b)
 
   pub append-length : length (appendTable versions held version) ≡ length versions
   unfolding appendTable

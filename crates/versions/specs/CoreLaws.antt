@@ -6,8 +6,8 @@ use mathlib.Core.List.{List}
 use native.Mathlib.Omega.{arith}
 use lib.ListN.{length, set, replicate, length-set, length-replicate, getD-replicate}
 use lib.Seq.{getD-set-same, getD-set-other}
-use lib.Dec.{ltb, eqb}
-use borrow.Author.Tests.{lt-ltb, eq-eqb, ne-eqb, ltb-true}
+use lib.Dec.{ltb, leb, eqb}
+use borrow.Author.Tests.{le-leb, eq-eqb, ne-eqb, ltb-true}
 use Rattle.ranges.specs.Tests.{by-test, by-equal, not-both}
 use Rattle.ranges.specs.First.{firstBelow, first-same}
 use Rattle.keys.specs.declared.Key.{Key}
@@ -67,9 +67,9 @@ module _ (counts keys values : List ℕ) (i : ℕ) (room : Room counts keys valu
   abbrev after : Appended
   after = appended counts keys values i key setpoint
 
-  -- a place that the core has, the table has
-  has-place : n < serverPlaces → ltb n (length versions) ≡ true
-  has-place l = lt-ltb n (length versions) (omega (arith, same .places))
+  -- the table is long enough
+  enough : leb serverPlaces (length versions) ≡ true
+  enough = le-leb serverPlaces (length versions) (same .places)
 
   -- one more version is put into both
   put-same : n < serverPlaces → SameTable (set versions n (versionOf key setpoint)) (putVersionWord keys i n (keyWord key)) (putVersionWord values i n setpoint) i
@@ -94,21 +94,21 @@ module _ (counts keys values : List ℕ) (i : ℕ) (room : Room counts keys valu
   unfolding appendNumber appended
   number-same =
       by-test (ltb n serverPlaces)
-      (λ e. rw (e, has-place (ltb-true n serverPlaces e)))
-      (λ e. rw e)
+      (λ e. rw (enough, e))
+      (λ e. rw (enough, e))
 
   -- the table that is left says the same as the slices that are left
   pub append-same : SameTable (appendTable versions n (versionOf key setpoint)) (after .keys) (after .values) i
   unfolding appendTable appended
   append-same =
       by-test (ltb n serverPlaces)
-      (λ e. let l = ltb-true n serverPlaces e in rw (e, has-place l) (put-same l))
-      (λ e. rw e same)
+      (λ e. rw (enough, e) (put-same (ltb-true n serverPlaces e)))
+      (λ e. rw (enough, e) same)
 
   -- and as many are held
   pub after-same : heldAfter n (appendNumber n (length versions)) ≡ heldBy (after .counts) i
   unfolding heldAfter appended appendNumber
   after-same =
       by-test (ltb n serverPlaces)
-      (λ e. rw (e, has-place (ltb-true n serverPlaces e)) (sym (getD-set-same counts (heldField + i) (n + 1) 0 (omega (arith, room .counted, room .server)))))
-      (λ e. rw e)
+      (λ e. rw (enough, e) (sym (getD-set-same counts (heldField + i) (n + 1) 0 (omega (arith, room .counted, room .server)))))
+      (λ e. rw (enough, e))

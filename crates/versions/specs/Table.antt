@@ -3,7 +3,7 @@ use Prim.Native.Nat.{ℕ, _+_}
 use mathlib.Core.Bool.{Bool, cond, _&&_}
 use mathlib.Core.List.{List}
 use lib.ListN.{length, set, getD, replicate}
-use lib.Dec.{ltb, eqb}
+use lib.Dec.{ltb, leb, eqb}
 use Rattle.ranges.specs.First.{firstBelow}
 use Rattle.keys.specs.declared.Key.{Key}
 use Rattle.keys.specs.Keys.{opening, sameKey}
@@ -19,13 +19,14 @@ noVersion = record { key = opening; setpoint = 0 }
 abbrev pub versionAt : List Version → ℕ → Version
 versionAt versions place = getD versions place noVersion
 
--- a table of this many places that holds this many versions takes one more
+-- a table of this many places is long enough, and takes one more where it holds this many versions
 abbrev pub roomFor : ℕ → ℕ → Bool
-roomFor held places = ltb held serverPlaces && ltb held places
+roomFor held places = leb serverPlaces places && ltb held serverPlaces
 
--- "A request delivered there appends (key, setpoint)." Number 8: "a set … request finds 256 versions"; here a table that is too short gives it, too.
+-- "A request delivered there appends (key, setpoint)." Number 2 where the table has not the 256 places of a server, as tables that are not
+-- long enough are not sound; then 8: "a set … request finds 256 versions".
 unfoldable pub appendNumber : ℕ → ℕ → ℕ
-appendNumber held places = cond (roomFor held places) 0 8
+appendNumber held places = cond (leb serverPlaces places) (cond (ltb held serverPlaces) 0 8) 2
 
 unfoldable pub appendTable : List Version → ℕ → Version → List Version
 appendTable versions held version = cond (roomFor held (length versions)) (set versions held version) versions

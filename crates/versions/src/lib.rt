@@ -20,7 +20,8 @@ pub struct Reading {
     pub setpoint: u32,
 }
 
-// Appends a version behind those held. Where 256 are held or the lent table is too short, nothing changes and the answer is 8.
+// Appends a version behind those held, and answers 0. Where the lent table has fewer than 256 places it answers 2, then where 256 are held 8,
+// and nothing changes.
 pub fn append(versions: &mut [Version], held: usize, version: Version) -> u8
     ensures { λ r. ⌜ (r ≡ appendNumber held (length (now (versions .entry)))) × (now (versions .exit) ≡ appendTable (now (versions .entry)) held version) ⌝ }
 {
@@ -94,14 +95,15 @@ fn lesser_of(one: usize, other: usize) -> usize
     other
 }
 
-// The number that an append answers: 0 where it is done, 8 where there is no place left.
+// The number that an append answers: 2 where the table is too short for a server, 8 where no place is left, 0 where it is done.
 fn append_number(held: usize, places: usize) -> u8
     ensures { λ r. ⌜ r ≡ appendNumber held places ⌝ }
 {
+    if places < PLACES {
+        return 2;
+    }
     if held < PLACES {
-        if held < places {
-            return 0;
-        }
+        return 0;
     }
     8
 }
