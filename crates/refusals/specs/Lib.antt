@@ -1,5 +1,6 @@
 -- The refusals in their order, and the five public steps as definitions.
 pub mod Refusals
+pub mod Order
 pub mod Steps
 pub mod Either
 pub mod Cases

@@ -6,3 +6,4 @@ pub mod Begin
 pub mod Request
 pub mod Choice
 pub mod Reply
+pub mod Examples
