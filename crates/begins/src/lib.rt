@@ -10,12 +10,14 @@ ghost use Rattle.tables.specs.Rows.{HasRow};
 ghost use Rattle.tables.specs.Layout.{clientWidth, entryWidth, countWords, countAt, methodField, serversField, readsField};
 ghost use Rattle.tables.specs.Links.{linkWidth, linkRow, HasLinks, putLink};
 ghost use Rattle.rules.specs.Common.{startedClient, request};
-ghost use Rattle.rules.specs.Begin.{storedSetpoints, sentSets, sentGets, sentAsks, sendGet, begunWrite, asking, askingByA, askingByB, askingByC, askingBy, begunRead};
+ghost use Rattle.rules.specs.Begin.{sentSets, sentGets, sentAsks, sendGet, begunWrite};
+ghost use Rattle.rules.specs.Begin.{asking, askingByA, askingByB, askingByC, askingBy, begunRead};
 ghost use Rattle.history.specs.Ready.{BeginReady};
 ghost use Rattle.begins.specs.Ready.{AskReady, WriteReady};
 ghost use Rattle.begins.specs.Cases.{startedWrite};
 use keys::Key;
 use rules::states;
+use rules::words;
 use tables::clients;
 use tables::counts;
 use tables::links;
@@ -29,23 +31,6 @@ pub fn start_client(clients: &mut [u32], client: usize, state: u32, mask: u32, p
     clients::put_client_word(clients, client, clients::STATE, state);
     clients::put_client_word(clients, client, clients::MASK, mask);
     clients::put_client_word(clients, client, clients::RECORD, place);
-}
-
-// A WRITE stores its setpoints, one for each server.
-fn store_setpoints(clients: &mut [u32], client: usize, setpoints: &[u32])
-    requires { ⌜ (HasRow clientWidth (now clients) client) × (length (now setpoints) ≤ 16) ⌝ }
-    ensures { λ _. ⌜ now (clients .exit) ≡ storedSetpoints client (now (setpoints .entry)) (length (now (setpoints .entry))) (now (clients .entry)) ⌝ }
-{
-    let mut server = 0;
-    while server < setpoints.len() {
-        clients::put_client_word(
-            clients,
-            client,
-            clients::SETPOINTS + server,
-            setpoints[server],
-        );
-        server += 1;
-    }
 }
 
 // A request with a key and a number.
@@ -147,7 +132,14 @@ fn start_write(
 {
     start_client(clients, client, states::WRITING, mask, place);
     clients::put_client_word(clients, client, clients::COUNT, count);
-    store_setpoints(clients, client, setpoints);
+    words::keep_words(
+        clients,
+        client,
+        clients::SETPOINTS,
+        words::EVERY,
+        setpoints.len(),
+        setpoints,
+    );
 }
 
 // Begins a WRITE: the next count, a request to each masked server, the record.

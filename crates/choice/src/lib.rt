@@ -6,17 +6,17 @@ ghost use lib.ListN.{length};
 ghost use Rattle.tables.specs.Rows.{HasRow};
 ghost use mathlib.Core.Bool.{true, cond};
 ghost use Rattle.ranges.specs.Picked.{picked};
-ghost use Rattle.ranges.specs.Turns.{turns};
 ghost use Rattle.keys.specs.Masks.{hasServer};
 ghost use Rattle.tables.specs.Layout.{clientWidth, entryWidth, serverPlaces, entryKey, entryMask};
-ghost use Rattle.tables.specs.Links.{targets};
 ghost use Rattle.rules.specs.Choice.{holdsKey, hasVersion, serves, qualifies, chosenTag, chosenSetpoint};
-ghost use Rattle.rules.specs.Reply.{receivedIn, keepSetpoint, keptSetpoints, forget, concludedRow};
+ghost use Rattle.rules.specs.Reply.{receivedIn, forgotten, concludedRow};
+ghost use Rattle.rules.specs.Words.{laidWords};
 ghost use Rattle.choice.specs.Ready.{Received, ChoiceReady};
 ghost use Rattle.keys.specs.Bits.{without, addServer, gathered};
 ghost use Rattle.choice.specs.Holders.{slots, tabled, slotOf, marked, markVersions, markServers, Marked};
 ghost use Rattle.choice.specs.Walk.{holdersOf, lackingAfter};
 use keys::Key;
+use rules::words;
 use tables::clients;
 use tables::links;
 use tables::log;
@@ -376,47 +376,31 @@ pub fn chosen_tag(
     greatest_tag(clients, keys, log, client, wanted, servers, entries)
 }
 
-// The setpoint of a server at a tag goes into the client's row, if the mask has the server.
-fn keep_setpoint(
-    clients: &mut [u32],
+// The setpoint of a server at a tag, as the versions received have it.
+fn chosen_setpoint(
+    clients: &[u32],
     keys: &[u32],
     values: &[u32],
     log: &[u32],
     client: usize,
-    mask: u32,
     tag: usize,
     server: usize,
-)
+) -> u32
     requires { ⌜ Received (now clients) (now keys) client server ⌝ }
     requires { ⌜ (HasRow entryWidth (now log) tag) × (HasRow serverPlaces (now values) server) ⌝ }
-    requires { ⌜ (hasServer mask server ≡ true → hasVersion (now keys) (now log) (receivedIn (now clients) client) tag server ≡ true) ⌝ }
-    ensures { λ _. ⌜ now (clients .exit) ≡ picked (hasServer mask)
-        (keepSetpoint (chosenSetpoint (now (keys .entry)) (now (values .entry)) (now (log .entry)) (receivedIn (now (clients .entry)) client) tag) client) server (now (clients .entry)) ⌝ }
+    requires { ⌜ hasVersion (now keys) (now log) (receivedIn (now clients) client) tag server ≡ true ⌝ }
+    ensures { λ r. ⌜ r ≡ chosenSetpoint (now (keys .entry)) (now (values .entry)) (now (log .entry))
+        (receivedIn (now (clients .entry)) client) tag server ⌝ }
 {
-    if keys::has_server(mask, server) {
-        let received = clients::client_word(clients, client, clients::RECEIVED + server) as usize;
-        let key = coordinator::latest_key(log, server, tag);
-        let place = server::find(keys, server, received, key);
-        let setpoint = versions::version_setpoint(values, server, place);
-        clients::put_client_word(clients, client, clients::SETPOINTS + server, setpoint);
-    }
+    let received = clients::client_word(clients, client, clients::RECEIVED + server) as usize;
+    let key = coordinator::latest_key(log, server, tag);
+    let place = server::find(keys, server, received, key);
+    versions::version_setpoint(values, server, place)
 }
 
-// The n received are forgotten.
-fn forget_received(clients: &mut [u32], client: usize)
-    requires { ⌜ HasRow clientWidth (now clients) client ⌝ }
-    ensures { λ _. ⌜ now (clients .exit) ≡ turns (forget client) targets (now (clients .entry)) ⌝ }
-{
-    let mut target = 0;
-    while target < links::TARGETS {
-        clients::put_client_word(clients, client, clients::RECEIVED + target, 0);
-        target += 1;
-    }
-}
-
-// The setpoints of the masked servers at a tag that qualifies.
-fn keep_setpoints(
-    clients: &mut [u32],
+// The setpoints of the masked servers at a tag that qualifies, 0 elsewhere.
+fn chosen_setpoints(
+    clients: &[u32],
     keys: &[u32],
     values: &[u32],
     log: &[u32],
@@ -424,17 +408,39 @@ fn keep_setpoints(
     mask: u32,
     servers: usize,
     tag: usize,
-)
+) -> [u32; 16]
     requires { ⌜ ChoiceReady (now clients) (now keys) (now values) client servers ⌝ }
     requires { ⌜ HasRow entryWidth (now log) tag ⌝ }
     requires { ⌜ qualifies (now keys) (now log) mask (receivedIn (now clients) client) servers tag ≡ true ⌝ }
-    ensures { λ _. ⌜ now (clients .exit) ≡ keptSetpoints (chosenSetpoint (now (keys .entry)) (now (values .entry)) (now (log .entry)) (receivedIn (now (clients .entry)) client) tag) client mask servers (now (clients .entry)) ⌝ }
+    ensures { λ r. ⌜ r ≡ laidWords (hasServer mask)
+        (chosenSetpoint (now (keys .entry)) (now (values .entry)) (now (log .entry))
+        (receivedIn (now (clients .entry)) client) tag) servers ⌝ }
 {
+    let mut setpoints = [0u32; 16];
     let mut server = 0;
     while server < servers {
-        keep_setpoint(clients, keys, values, log, client, mask, tag, server);
+        if keys::has_server(mask, server) {
+            setpoints[server] = chosen_setpoint(clients, keys, values, log, client, tag, server);
+        }
         server += 1;
     }
+    setpoints
+}
+
+// The n received are forgotten.
+fn forget_received(clients: &mut [u32], client: usize)
+    requires { ⌜ HasRow clientWidth (now clients) client ⌝ }
+    ensures { λ _. ⌜ now (clients .exit) ≡ forgotten client (now (clients .entry)) ⌝ }
+{
+    let none = [0u32; links::TARGETS];
+    words::keep_words(
+        clients,
+        client,
+        clients::RECEIVED,
+        words::EVERY,
+        links::TARGETS,
+        &none,
+    );
 }
 
 // The client's row at the end of a READ under C: the setpoints at the tag, the n forgotten, the tag.
@@ -454,8 +460,8 @@ pub fn conclude(
     ensures { λ _. ⌜ now (clients .exit)
         ≡ concludedRow (chosenSetpoint (now (keys .entry)) (now (values .entry)) (now (log .entry)) (receivedIn (now (clients .entry)) client) tag) tag client mask servers (now (clients .entry)) ⌝ }
 {
-    keep_setpoints(
-        clients,
+    let setpoints = chosen_setpoints(
+        &*clients,
         keys,
         values,
         log,
@@ -463,6 +469,14 @@ pub fn conclude(
         mask,
         servers,
         tag as usize,
+    );
+    words::keep_words(
+        clients,
+        client,
+        clients::SETPOINTS,
+        mask,
+        servers,
+        &setpoints,
     );
     forget_received(clients, client);
     clients::put_client_word(clients, client, clients::TAG, tag);

@@ -15,6 +15,8 @@ use Rattle.tables.specs.Layout.{writesField, readsField, clientWidth, clientWor
 use Rattle.tables.specs.Links.{targets, HasLinks, linkWidth, contentWords}
 use Rattle.tables.specs.declared.links.Content.{Content}
 use Rattle.tables.specs.Tables.{Tables, tablesOf, methodOf, serversOf, clientsOf, stepOf, writesOf, readsOf, stateOf, countOf, maskOf, recordOf, receivedOf}
+use Rattle.rules.specs.Words.{every}
+use Rattle.rules.specs.WordsLaws.{kept-other, kept-length}
 use Rattle.rules.specs.Common.{writing, request, begunCounts, begunRecords}
 use Rattle.rules.specs.Begin.{nextCount, storedSetpoints, sentSets, begunWrite}
 use Rattle.soundness.specs.Sound.{isWriting, isReading, uses}
@@ -26,7 +28,7 @@ use Rattle.keeping.specs.States.{masked-below, key-own, not-all, receive
 use Rattle.keeping.specs.Frame.{Kept, write-kept, read-kept}
 use Rattle.keeping.specs.Moves.{Moves, moves-numbers, same-entries, moved-kept}
 use Rattle.keeping.specs.Records.{begun-word, begun-here, begun-places, records-begun, records-idle}
-use Rattle.keeping.specs.Rows.{put, Put, putAll, lastPut, put-read, put-before, put-elsewhere, put-length, loop-other, loop-length}
+use Rattle.keeping.specs.Rows.{put, Put, putAll, lastPut, put-read, put-before, put-elsewhere, put-length}
 use Rattle.keeping.specs.Rounds.{Sent, sent-client, idle-empty, sent-there, sent-not, sent-others, sent-length}
 use Rattle.keeping.specs.Begins.{begun-other, begun-more, begun-step, begun-length}
 
@@ -109,7 +111,9 @@ module _ (q mask : ℕ) (setpoints : List ℕ) (t : Tables) (s : Sound t) (b : B
   links-room = client-links t s q (b .client)
 
   spared : (p g : ℕ) → g < clientWidth → ((p ≡ q) × (setpointsField ≤ g) × (g < setpointsField + serversOf t) → ⊥) → clientWord (after .clients) p g ≡ clientWord (putAll puts q (t .clients)) p g
-  spared p g h d = loop-other q setpointsField (serversOf t) (omega (arith, setpoints-room)) (λ i. true) (λ i. getD setpoints i 0) (putAll puts q (t .clients)) p g h d
+  spared p g h d =
+      kept-other setpointsField every (λ i. getD setpoints i 0) q (serversOf t) (omega (arith, setpoints-room))
+      (putAll puts q (t .clients)) p g h d
 
   word : (g : ℕ) → g < setpointsField → clientWord (after .clients) q g ≡ lastPut puts (clientWord (t .clients) q g) g
   word g h = spared q g (omega arith) (λ y. omega (arith, y .1)) ∙ put-read q puts (t .clients) g (clientWord (t .clients) q g) (client-row t s q (b .client)) refl (omega arith) refl
@@ -141,7 +145,10 @@ module _ (q mask : ℕ) (setpoints : List ℕ) (t : Tables) (s : Sound t) (b : B
         link = λ p i f d h g. sent-others q (serversOf t) (hasServer mask) set (t .links) servers-few links-room f g p i d h;
         lengths = record {
           counts = begun-length writesField (t .counts) (s .long .counts) (omega arith) (λ z. omega arith);
-          clients = loop-length q setpointsField (serversOf t) (omega (arith, setpoints-room)) (λ i. true) (λ i. getD setpoints i 0) (putAll puts q (t .clients)) ∙ put-length q puts (t .clients);
+          clients =
+              kept-length setpointsField every (λ i. getD setpoints i 0) q (serversOf t) (omega (arith, setpoints-room))
+              (putAll puts q (t .clients))
+              ∙ put-length q puts (t .clients);
           links = sent-length q (serversOf t) (hasServer mask) set (t .links) servers-few links-room;
           keys = refl;
           values = refl;

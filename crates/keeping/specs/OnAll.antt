@@ -8,8 +8,6 @@ use lib.ListN.{length}
 use lib.Dec.{eqb, ltb}
 use borrow.Author.Tests.{eq-eqb, lt-ltb}
 use Rattle.ranges.specs.Tests.{by-test, by-equal, both}
-use Rattle.ranges.specs.Turns.{turns}
-use Rattle.ranges.specs.Picked.{picked}
 use Rattle.ranges.specs.Last.{last-below}
 use Rattle.keys.specs.Masks.{hasServer}
 use Rattle.tables.specs.Rows.{word-same}
@@ -17,9 +15,11 @@ use Rattle.tables.specs.Layout.{clientWidth, clientWord, setpointsField, receiv
 use Rattle.tables.specs.Links.{targets, isEmpty, contentsOf}
 use Rattle.tables.specs.Tables.{Tables, serversOf, entriesOf, stateOf, maskOf, receivedOf, contentAt}
 use Rattle.tables.specs.declared.links.Contents.{Contents}
+use Rattle.rules.specs.Words.{every}
+use Rattle.rules.specs.WordsLaws.{kept-other, kept-there, kept-length}
 use Rattle.rules.specs.Common.{idle, askingAll, coordinator, pending}
 use Rattle.rules.specs.Choice.{qualifies}
-use Rattle.rules.specs.Reply.{emptied, receivedIn, setpointAt, keepSetpoint, forget, tagChosen, endedByC, onAll}
+use Rattle.rules.specs.Reply.{emptied, receivedIn, setpointAt, keptSetpoints, forgotten, tagChosen, endedByC, onAll}
 use Rattle.soundness.specs.Sound.{uses, holding, keyOn}
 use Rattle.soundness.specs.Facts.{Between}
 use Rattle.soundness.specs.Room.{few-servers}
@@ -27,7 +27,7 @@ use Rattle.keeping.specs.Links.{kindOn, numberOn, kind-empty, none-pendi
 use Rattle.keeping.specs.States.{holding-log, arrived, received-some, some-received, uses-all, all-told}
 use Rattle.keeping.specs.Frame.{Kept}
 use Rattle.keeping.specs.Moves.{moves-numbers, same-entries, same-holding}
-use Rattle.keeping.specs.Rows.{put, Put, putAll, lastPut, put-read, put-before, put-skip, put-elsewhere, put-length, loop-other, loop-there, loop-length}
+use Rattle.keeping.specs.Rows.{put, Put, putAll, lastPut, put-read, put-before, put-skip, put-elsewhere, put-length}
 use Rattle.keeping.specs.Rounds.{idle-client}
 use Rattle.keeping.specs.Replied.{repliedTables, Moving, going-moves, finished-moves, ended-read-kept}
 use Rattle.keeping.specs.Came.{Came, facts, asks, used, row-room, gone, beside, kinds, elsewhere, rest-long, waiting-kept}
@@ -108,46 +108,56 @@ module _ (q i : ℕ) (t : Tables) (a : Came q i t) (state : stateOf t q ≡ aski
 
     -- the row: setpoints stored, the n forgotten, then tag and state
     abbrev shown : List ℕ
-    shown = turns (picked (hasServer (maskOf t q)) (keepSetpoint (setpointAt chosen row q t) q)) (serversOf t) row
+    shown = keptSetpoints (setpointAt chosen row q t) q (maskOf t q) (serversOf t) row
 
-    abbrev forgotten : List ℕ
-    forgotten = turns (forget q) targets shown
+    abbrev forgot : List ℕ
+    forgot = forgotten q shown
 
     abbrev putsEnd : List Put
     putsEnd = put tagField chosen ∷ put stateField idle ∷ []
 
     abbrev endRow : List ℕ
-    endRow = putAll putsEnd q forgotten
+    endRow = putAll putsEnd q forgot
 
     shown-other : (p f : ℕ) → f < clientWidth → ((p ≡ q) × (setpointsField ≤ f) × (f < setpointsField + serversOf t) → ⊥) → clientWord shown p f ≡ clientWord row p f
-    shown-other p f h e = loop-other q setpointsField (serversOf t) setpoints-room (hasServer (maskOf t q)) (setpointAt chosen row q t) row p f h e
+    shown-other p f h e =
+        kept-other setpointsField (hasServer (maskOf t q)) (setpointAt chosen row q t) q (serversOf t) setpoints-room row p f h e
 
-    forgotten-other : (p f : ℕ) → f < clientWidth → ((p ≡ q) × (receivedField ≤ f) × (f < receivedField + targets) → ⊥) → clientWord forgotten p f ≡ clientWord shown p f
-    forgotten-other p f h e = loop-other q receivedField targets (omega arith) (λ j. true) (λ j. 0) shown p f h e
+    forgot-other : (p f : ℕ) → f < clientWidth → ((p ≡ q) × (receivedField ≤ f) × (f < receivedField + targets) → ⊥) →
+        clientWord forgot p f ≡ clientWord shown p f
+    forgot-other p f h e = kept-other receivedField every (λ j. 0) q targets (omega arith) shown p f h e
 
     shown-long : length shown ≡ length (t .clients)
-    shown-long = loop-length q setpointsField (serversOf t) setpoints-room (hasServer (maskOf t q)) (setpointAt chosen row q t) row ∙ put-length q gotN (t .clients)
+    shown-long =
+        kept-length setpointsField (hasServer (maskOf t q)) (setpointAt chosen row q t) q (serversOf t) setpoints-room row
+        ∙ put-length q gotN (t .clients)
 
-    forgotten-long : length forgotten ≡ length (t .clients)
-    forgotten-long = loop-length q receivedField targets (omega arith) (λ j. true) (λ j. 0) shown ∙ shown-long
+    forgot-long : length forgot ≡ length (t .clients)
+    forgot-long = kept-length receivedField every (λ j. 0) q targets (omega arith) shown ∙ shown-long
 
     end-moving : Moving q endRow rest t
     end-moving =
         record {
-          row = λ p f e h. put-elsewhere q putsEnd forgotten p f refl h e ∙ (forgotten-other p f h (λ z. e (z .0)) ∙ (shown-other p f h (λ z. e (z .0)) ∙ n-moving .row p f e h));
+          row = λ p f e h.
+              put-elsewhere q putsEnd forgot p f refl h e
+              ∙ (forgot-other p f h (λ z. e (z .0)) ∙ (shown-other p f h (λ z. e (z .0)) ∙ n-moving .row p f e h));
           link = elsewhere a;
-          clients = put-length q putsEnd forgotten ∙ forgotten-long;
+          clients = put-length q putsEnd forgot ∙ forgot-long;
           links = rest-long a;
         }
 
-    end-word : (g : ℕ) → g < clientWidth → clientWord endRow q g ≡ lastPut putsEnd (clientWord forgotten q g) g
-    end-word g h = put-read q putsEnd forgotten g (clientWord forgotten q g) (rw forgotten-long (row-room a)) refl h refl
+    end-word : (g : ℕ) → g < clientWidth → clientWord endRow q g ≡ lastPut putsEnd (clientWord forgot q g) g
+    end-word g h = put-read q putsEnd forgot g (clientWord forgot q g) (rw forgot-long (row-room a)) refl h refl
 
-    low-word : (g : ℕ) → g < setpointsField → clientWord forgotten q g ≡ clientWord (t .clients) q g
-    low-word g h = forgotten-other q g (omega arith) (λ z. omega (arith, z .1)) ∙ (shown-other q g (omega arith) (λ z. omega (arith, z .1)) ∙ n-low g (omega arith))
+    low-word : (g : ℕ) → g < setpointsField → clientWord forgot q g ≡ clientWord (t .clients) q g
+    low-word g h =
+        forgot-other q g (omega arith) (λ z. omega (arith, z .1))
+        ∙ (shown-other q g (omega arith) (λ z. omega (arith, z .1)) ∙ n-low g (omega arith))
 
     end-received : (j : ℕ) → j < targets → receivedIn endRow q j ≡ 0
-    end-received j h = put-before q putsEnd forgotten setpointsField (receivedField + j) refl (omega arith) ∙ loop-there q receivedField targets (omega arith) (λ x. true) (λ x. 0) shown j (rw shown-long (row-room a)) h refl
+    end-received j h =
+        put-before q putsEnd forgot setpointsField (receivedField + j) refl (omega arith)
+        ∙ kept-there receivedField every (λ x. 0) q targets (omega arith) shown j (rw shown-long (row-room a)) h refl
 
     all-ends : Kept q t (endedByC chosen row q rest t .tables)
     all-ends =

@@ -1,4 +1,4 @@
--- The words of a client's row after several puts, and after a loop over its setpoints or its n.
+-- The words of a client's row after several puts.
 use Prim.Native.Nat.{ℕ, _+_, _*_, _≤_, _<_}
 use mathlib.Core.Path.{_≡_, refl, _∙_}
 use mathlib.Core.Bool.{Bool, true, cond, _&&_}
@@ -8,9 +8,7 @@ use lib.ListN.{length, length-set}
 use lib.Seq.{getD-set-other}
 use lib.Dec.{eqb, ltb}
 use borrow.Author.Tests.{eq-eqb, ne-eqb, ltb-true}
-use Rattle.ranges.specs.Tests.{by-equal, both-left, both-right, either}
-use Rattle.ranges.specs.Turns.{turns, turns-keep-below}
-use Rattle.ranges.specs.Picked.{picked, is-picked}
+use Rattle.ranges.specs.Tests.{by-equal, both-left, both-right}
 use Rattle.tables.specs.Rows.{HasRow, word-same, word-other}
 use Rattle.tables.specs.Layout.{clientWidth, clientWord, putClientWord}
 
@@ -82,30 +80,3 @@ module _ (q : ℕ) where
   pub put-length : (puts : List Put) (clients : List ℕ) → length (putAll puts q clients) ≡ length clients
   put-length [] clients = refl
   put-length (x ∷ puts) clients = put-length puts (putClientWord clients q (x .field) (x .value)) ∙ length-set clients (clientWidth * q + x .field) (x .value)
-
--- A loop over a part of the row, from a field on, of n words: what stands elsewhere stays.
-module _ (q from n : ℕ) (within : from + n ≤ clientWidth) (p : ℕ → Bool) (value : ℕ → ℕ) where
-  abbrev turn : ℕ → List ℕ → List ℕ
-  turn = picked p (λ i clients. putClientWord clients q (from + i) (value i))
-
-  pub loop-other : (clients : List ℕ) (r g : ℕ) → g < clientWidth → ((r ≡ q) × (from ≤ g) × (g < from + n) → ⊥) → clientWord (turns turn n clients) r g ≡ clientWord clients r g
-  loop-other clients r g k d =
-      turns-keep-below turn (λ xs. clientWord xs r g ≡ clientWord clients r g) n
-      (λ i l xs e. either (λ ys. clientWord ys r g ≡ clientWord clients r g) (p i)
-      (word-other clientWidth xs q (from + i) (value i) r g (omega arith) k (λ y. d (y .0, omega (arith, y .1), omega (arith, y .1))) ∙ e) e)
-      clients refl
-
-  pub loop-length : (clients : List ℕ) → length (turns turn n clients) ≡ length clients
-  loop-length clients =
-      turns-keep-below turn (λ xs. length xs ≡ length clients) n
-      (λ i l xs e. either (λ ys. length ys ≡ length clients) (p i) (length-set xs (clientWidth * q + (from + i)) (value i) ∙ e) e)
-      clients refl
-
-  -- and what the loop reaches holds its new value
-  pub loop-there : (clients : List ℕ) (i : ℕ) → HasRow clientWidth clients q → i < n → p i ≡ true → clientWord (turns turn n clients) q (from + i) ≡ value i
-  loop-there clients i h l e =
-      is-picked (λ xs j. clientWord xs q (from + j)) (λ j xs. putClientWord xs q (from + j) (value j)) value (λ xs. HasRow clientWidth xs q) n
-      (λ j xs r. rw (length-set xs (clientWidth * q + (from + j)) (value j)) r)
-      (λ j xs m r. word-same clientWidth xs q (from + j) (value j) r (omega arith))
-      (λ j k xs m d. getD-set-other xs (clientWidth * q + (from + j)) (clientWidth * q + (from + k)) (value j) 0 (λ z. d (omega arith)))
-      p clients h n i (omega arith) l e

@@ -10,6 +10,8 @@ use lib.Dec.{eqb}
 use Rattle.ranges.specs.Tests.{either}
 use Rattle.tables.specs.Layout.{clientWidth, clientWord, stateField, countField, maskField, tagField, recordField, setpointsField, entriesField, writesField, readsField, putBegun}
 use Rattle.tables.specs.Tables.{Tables, methodOf, serversOf, clientsOf, stepOf, entriesOf, writesOf, readsOf}
+use Rattle.rules.specs.Words.{every}
+use Rattle.rules.specs.WordsLaws.{kept-other}
 use Rattle.rules.specs.Common.{askingKeys, askingSetpoints, askingAll}
 use Rattle.rules.specs.Common as rules
 use Rattle.rules.specs.Begin.{nextCount, begunWrite, Asking, askingBy, lastTag, begunRead}
@@ -20,7 +22,7 @@ use Rattle.keeping.specs.Accepted.{Writable, Readable}
 use Rattle.keeping.specs.Begins.{begun-other, begun-more, begun-step}
 use Rattle.keeping.specs.BeginWrite.{begunWrite-kept}
 use Rattle.keeping.specs.BeginRead.{begunRead-kept}
-use Rattle.keeping.specs.Rows.{Put, put, putAll, lastPut, inRow, put-read, loop-other}
+use Rattle.keeping.specs.Rows.{Put, put, putAll, lastPut, inRow, put-read}
 use Rattle.serial.specs.Steps.{begun-write, begun-read}
 use Rattle.serial.specs.History.{writing, reading, History, begun, after}
 use Rattle.register_order.specs.Agreement.{Agrees}
@@ -43,7 +45,8 @@ module _ (t : Tables) (h : History) (numbers : List ℕ) (a : Agrees t h numbers
     written : (f : ℕ) → f < setpointsField → clientWord (begunWrite q mask setpoints t .clients) q f ≡ lastPut puts (clientWord (t .clients) q f) f
     unfolding begunWrite
     written f l =
-        loop-other q setpointsField (serversOf t) (omega (arith, few-servers t (a .sound))) (λ i. true) (λ i. getD setpoints i 0) (putAll puts q (t .clients)) q f (omega arith) (λ z. omega (arith, z .1))
+        kept-other setpointsField every (λ i. getD setpoints i 0) q (serversOf t) (omega (arith, few-servers t (a .sound)))
+        (putAll puts q (t .clients)) q f (omega arith) (λ z. omega (arith, z .1))
         ∙ put-read q puts (t .clients) f _ (client-row t (a .sound) q client) refl (omega arith) refl
 
     write-counts : Counts t (begunWrite q mask setpoints t) (entriesOf t) (writesOf t + 1) (readsOf t)

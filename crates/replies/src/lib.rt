@@ -10,7 +10,7 @@ ghost use Rattle.tables.specs.Layout.{stateField, countField, maskField, record
 ghost use Rattle.keys.specs.Keys.{keyOf};
 ghost use Rattle.rules.specs.Answers.{arrived};
 ghost use Rattle.rules.specs.Common.{entering, coordinator, request};
-ghost use Rattle.rules.specs.Reply.{shownSetpoints, onSetDone, onEntered, onKeys, onGot, onAll, onReplyIn, replyDelivered};
+ghost use Rattle.rules.specs.Reply.{onSetDone, onEntered, onKeys, onGot, onAll, onReplyIn, replyDelivered};
 ghost use Rattle.replies.specs.Ready.{Settled, CountFits, GotReady, KeysReady, Finished, Concludable, FinishedByC, AllReady, Brings, ReplyReady};
 ghost use Rattle.choice.specs.Ready.{ChoiceReady};
 ghost use Rattle.requests.specs.Ready.{Answerable};
@@ -18,6 +18,7 @@ use keys::Key;
 use rules::Arrival;
 use rules::Delivered;
 use rules::states;
+use rules::words;
 use tables::clients;
 use tables::counts;
 use tables::links;
@@ -40,22 +41,6 @@ fn settle(counts: &mut [u32], links: &mut [u32], client: usize, target: usize) -
     let step = counts::count_at(counts, counts::STEP) + 1;
     counts::put_count(counts, counts::STEP, step);
     step
-}
-
-// The setpoints that a READ of a mask shows, 0 elsewhere.
-fn shown_setpoints(clients: &[u32], client: usize, mask: u32) -> [u32; 16]
-    requires { ⌜ HasRow clientWidth (now clients) client ⌝ }
-    ensures { λ r. ⌜ r ≡ shownSetpoints (now (clients .entry)) client mask ⌝ }
-{
-    let mut shown = [0u32; 16];
-    let mut server = 0;
-    while server < 16 {
-        if keys::has_server(mask, server) {
-            shown[server] = clients::client_word(clients, client, clients::SETPOINTS + server);
-        }
-        server += 1;
-    }
-    shown
 }
 
 // The second round of a WRITE: its key and mask go to the coordinator.
@@ -165,7 +150,7 @@ fn finish(
     requires { ⌜ (HasRow clientWidth (now clients) client) × (HasRow recordWidth (now reads) place) ⌝ }
     ensures { λ r. ⌜ Finished (now (clients .entry)) (now (reads .entry)) client mask place tag step r (now (clients .exit)) (now (reads .exit)) ⌝ }
 {
-    let shown = shown_setpoints(&*clients, client, mask);
+    let shown = words::shown_words(&*clients, client, clients::SETPOINTS, mask);
     clients::put_client_word(clients, client, clients::STATE, states::IDLE);
     history::end_read(reads, place as usize, tag, step);
     Delivered {

@@ -13,14 +13,12 @@ use Rattle.coordinator.specs.Latest.{latestKey}
 use Rattle.tables.specs.Layout.{writesField, readsField, countField, tagField, setpointsField, putClientWord}
 use Rattle.tables.specs.Links.{putLink}
 use Rattle.tables.specs.Tables.{Tables, tablesOf, methodOf, serversOf, entriesOf, writesOf, readsOf, countOf}
+use Rattle.rules.specs.Words.{every, keptWords}
 use Rattle.rules.specs.Common.{writing, askingKeys, askingSetpoints, askingAll, coordinator, request, begunCounts, begunRecords, startedClient}
 
 -- "a WRITE also [stores] its k setpoints"
-abbrev pub storeSetpoint : ℕ → List ℕ → ℕ → List ℕ → List ℕ
-storeSetpoint q setpoints i clients = putClientWord clients q (setpointsField + i) (getD setpoints i 0)
-
 abbrev pub storedSetpoints : ℕ → List ℕ → ℕ → List ℕ → List ℕ
-storedSetpoints q setpoints k clients = turns (storeSetpoint q setpoints) k clients
+storedSetpoints q setpoints k clients = keptWords setpointsField every (λ i. getD setpoints i 0) q k clients
 
 -- "a request to each masked station"
 abbrev pub sendSet : ℕ → Key → List ℕ → ℕ → List ℕ → List ℕ

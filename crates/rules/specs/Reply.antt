@@ -2,10 +2,7 @@
 use Prim.Native.Nat.{ℕ, _+_, _-_}
 use mathlib.Core.Bool.{cond}
 use mathlib.Core.List.{List}
-use lib.ListN.{set, replicate}
 use lib.Dec.{eqb}
-use Rattle.ranges.specs.Turns.{turns}
-use Rattle.ranges.specs.Picked.{picked}
 use Rattle.keys.specs.Keys.{keyOf}
 use Rattle.keys.specs.Masks.{hasServer}
 use Rattle.tables.specs.Layout.{putClientWord, clientWord, stateField, tagField, setpointsField, receivedField}
@@ -18,6 +15,7 @@ use Rattle.rules.specs.declared.Arrival.{Arrival}
 use Rattle.rules.specs.declared.Arrival.the-variants.{Wait, Next, Write, Read, Refused}
 use Rattle.rules.specs.declared.Delivered.{Delivered}
 use Rattle.rules.specs.Answers.{Arrived, arrived, nothingShown}
+use Rattle.rules.specs.Words.{every, keptWords, shownWords}
 use Rattle.rules.specs.Common.{idle, writing, entering, askingKeys, askingSetpoints, coordinator, request, nextStep, counted, pending, endedRecord, taggedRecord}
 use Rattle.rules.specs.Begin.{sentGets}
 use Rattle.rules.specs.Choice.{chosenTag, chosenSetpoint}
@@ -34,11 +32,8 @@ abbrev pub emptied : ℕ → ℕ → Tables → List ℕ
 emptied q i t = putLink (t .links) q i Nothing
 
 -- a READ shows the setpoints of its masked stations
-abbrev pub showSetpoint : List ℕ → ℕ → ℕ → List ℕ → List ℕ
-showSetpoint clients q i shown = set shown i (clientWord clients q (setpointsField + i))
-
 abbrev pub shownSetpoints : List ℕ → ℕ → ℕ → List ℕ
-shownSetpoints clients q mask = turns (picked (hasServer mask) (showSetpoint clients q)) 16 (replicate 16 0)
+shownSetpoints clients q mask = shownWords setpointsField clients q mask
 
 abbrev pub readShown : ℕ → List ℕ → ℕ → ℕ → Delivered
 readShown tag clients q mask = record { arrival = Read tag; setpoints = shownSetpoints clients q mask }
@@ -98,19 +93,16 @@ abbrev pub tagChosen : List ℕ → ℕ → Tables → ℕ
 tagChosen clients q t = tagFrom clients (t .keys) (t .log) q (maskOf t q) (serversOf t)
 
 -- and the setpoint of each masked station at that tag is stored
-abbrev pub keepSetpoint : (ℕ → ℕ) → ℕ → ℕ → List ℕ → List ℕ
-keepSetpoint setpoint q i clients = putClientWord clients q (setpointsField + i) (setpoint i)
-
 abbrev pub keptSetpoints : (ℕ → ℕ) → ℕ → ℕ → ℕ → List ℕ → List ℕ
-keptSetpoints setpoint q mask k clients = turns (picked (hasServer mask) (keepSetpoint setpoint q)) k clients
+keptSetpoints setpoint q mask k clients = keptWords setpointsField (hasServer mask) setpoint q k clients
 
 -- "an end sets state 0 and n to 0"
-abbrev pub forget : ℕ → ℕ → List ℕ → List ℕ
-forget q i clients = putReceived clients q i 0
+abbrev pub forgotten : ℕ → List ℕ → List ℕ
+forgotten q clients = keptWords receivedField every (λ i. 0) q targets clients
 
 -- the client's row at the end: the setpoints at the tag, the n forgotten, the tag
 abbrev pub concludedRow : (ℕ → ℕ) → ℕ → ℕ → ℕ → ℕ → List ℕ → List ℕ
-concludedRow setpoint tag q mask k clients = putClientWord (turns (forget q) targets (keptSetpoints setpoint q mask k clients)) q tagField tag
+concludedRow setpoint tag q mask k clients = putClientWord (forgotten q (keptSetpoints setpoint q mask k clients)) q tagField tag
 
 abbrev pub setpointAt : ℕ → List ℕ → ℕ → Tables → ℕ → ℕ
 setpointAt tag clients q t = chosenSetpoint (t .keys) (t .values) (t .log) (receivedIn clients q) tag

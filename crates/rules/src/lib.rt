@@ -5,6 +5,7 @@ ghost use Rattle.rules.specs.Answers.{nothingShown};
 ghost use Rattle.rules.specs.Common.{pending};
 
 pub mod states;
+pub mod words;
 
 use tables::links;
 

@@ -19,19 +19,21 @@ use Rattle.tables.specs.Tables.{Tables, methodOf, serversOf, clientsOf, stepOf,
 use Rattle.tables.specs.declared.links.Content.{Content}
 use Rattle.tables.specs.declared.links.Content.the-variants.{Nothing}
 use Rattle.rules.specs.Answers.{left}
+use Rattle.rules.specs.Words.{every}
+use Rattle.rules.specs.WordsLaws.{kept-other}
 use Rattle.rules.specs.Common.{idle, askingKeys, askingSetpoints, askingAll, coordinator, request, begunCounts, startedClient}
 use Rattle.rules.specs.Common as rules
 use Rattle.rules.specs.Begin.{storedSetpoints, nextCount, begunWrite, sentGets, sendAsk, sentAsks, asking, lastTag, askingByA, askingByB, askingByC, begunReadWith, begunRead}
 use Rattle.rules.specs.declared.Answer.the-variants.{Ok}
 use Rattle.keeping.specs.Accepted.{Beginnable, Writable, Readable}
 use Rattle.keeping.specs.States.{masked-below}
-use Rattle.keeping.specs.Rows.{Put, put, putAll, put-read, put-elsewhere, put-length, loop-other}
+use Rattle.keeping.specs.Rows.{Put, put, putAll, put-read, put-elsewhere, put-length}
 use Rattle.keeping.specs.Rounds.{sent-length}
 use Rattle.serial.specs.Steps.{Event, begun-write, begun-read}
 use Rattle.serial.specs.History.{changed, History, extraOf}
 use Rattle.serial.proofs.Press.{Shared, renumbered, Client, clientOf, Press, pressOf, stateIn, countIn, rowOf, linksOf, sharedOf, view, sends, world}
 use Rattle.serial.proofs.View.{within-at, within-same, row-put-other, link-put, link-put-other, view-is, sharedIn, shared-step, shared-writes, shared-reads}
-use Rattle.serial.proofs.Loops.{sent-links, sent-others, loop-rows}
+use Rattle.serial.proofs.Loops.{sent-links, sent-others, kept-rows}
 use Rattle.serial.proofs.Ready.{Ready, few, in-range, has-row, has-link, has-links, row-at, link-at}
 use Rattle.serial.proofs.Invariant.{Idle, Tied}
 use Rattle.serial.proofs.Kept.{Kept, resting}
@@ -141,7 +143,7 @@ module _ (floor : ℕ → ℕ) (t : Tables) (h : History) (s : Standing floor t 
     begun-word : (f : ℕ) → f < setpointsField → rowOf clients′ q f ≡ clientWord begunClients q f
     begun-word f l =
         within-at clientWidth 0 (clientWord clients′ q) f (omega arith)
-        ∙ loop-other q setpointsField (serversOf t) room (λ i. true) value begunClients q f (omega arith) (λ e. omega (arith, e .1))
+        ∙ kept-other setpointsField every value q (serversOf t) room begunClients q f (omega arith) (λ e. omega (arith, e .1))
 
     other-word : (f : ℕ) → f < setpointsField → (f ≡ countField → ⊥) → rowOf clients′ q f ≡ clientWord (startedClient rules.writing mask (writesOf t) q (t .clients)) q f
     other-word f l d = begun-word f l ∙ word-other clientWidth (startedClient rules.writing mask (writesOf t) q (t .clients)) q countField (nextCount t q) q f (omega arith) (omega arith) (λ e. d (e .1))
@@ -169,7 +171,7 @@ module _ (floor : ℕ → ℕ) (t : Tables) (h : History) (s : Standing floor t 
     seen =
         view-is t (begunWrite q mask setpoints t) q writes-shared refl
         (sent-links q (sets (nextCount t q)) fits mask (serversOf t) small bound (t .links) long empty ∙ ap (λ (n : ℕ). sends mask (sets n)) next-count)
-        (λ r d. loop-rows q setpointsField (serversOf t) room (λ i. true) value begunClients r d
+        (λ r d. kept-rows setpointsField every value q (serversOf t) room begunClients r d
         ∙ row-put-other (startedClient rules.writing mask (writesOf t) q (t .clients)) q countField (nextCount t q) (omega arith) r d
         ∙ started-others rules.writing mask (writesOf t) q (t .clients) (has-row t q ready) r d)
         (λ r d. sent-others q (sets (nextCount t q)) fits mask (serversOf t) small bound (t .links) long empty r d)

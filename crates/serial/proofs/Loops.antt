@@ -12,13 +12,14 @@ use Rattle.ranges.specs.Sum.{sum-nothing}
 use Rattle.ranges.specs.Turns.{turns, turns-keep-below}
 use Rattle.ranges.specs.Picked.{picked, is-picked, not-picked}
 use Rattle.keys.specs.Masks.{hasServer}
-use Rattle.tables.specs.Layout.{clientWidth, clientWord, putClientWord}
+use Rattle.tables.specs.Layout.{clientWidth, clientWord}
 use Rattle.tables.specs.Links.{targets, HasLinks, putLink, isEmpty, ContentFits, link-same, link-other, link-length}
 use Rattle.tables.specs.declared.links.Content.{Content}
 use Rattle.tables.specs.declared.links.Content.the-variants.{Nothing, Request, Reply}
 use Rattle.tables.specs.declared.links.Link.{Link}
+use Rattle.rules.specs.Words.{keptWords}
+use Rattle.rules.specs.WordsLaws.{kept-other}
 use Rattle.rules.specs.Common.{pending}
-use Rattle.keeping.specs.Rows.{loop-other}
 use Rattle.serial.proofs.Press.{within, rowOf, contentIn, linksOf, weight, toCome, sends}
 use Rattle.serial.proofs.View.{within-at, within-past, within-same, link-put-other}
 use Rattle.serial.proofs.Links.{come-some, sends-masked, sends-other}
@@ -65,12 +66,12 @@ module _ (q : ℕ) (w : ℕ → Content) (fits : (i : ℕ) → ContentFits (w i)
       (λ b. rw b (link-put-other xs q i (w i) (omega arith) r d ∙ e))
       (λ b. rw b e)) links refl
 
--- Words put into a client's row by a loop leave the other clients' rows.
-pub loop-rows : (q from n : ℕ) (within : from + n ≤ clientWidth) (p : ℕ → Bool) (value : ℕ → ℕ) (clients : List ℕ) (r : ℕ) → (r ≡ q → ⊥) →
-    rowOf (turns (picked p (λ i xs. putClientWord xs q (from + i) (value i))) n clients) r ≡ rowOf clients r
-loop-rows q from n within p value clients r d =
-    within-same clientWidth 0 (clientWord (turns (picked p (λ i xs. putClientWord xs q (from + i) (value i))) n clients) r) (clientWord clients r)
-    (λ g l. loop-other q from n within p value clients r g l (λ e. d (e .0)))
+-- Words kept in a client's row leave the other clients' rows.
+pub kept-rows : (field : ℕ) (wanted : ℕ → Bool) (word : ℕ → ℕ) (q k : ℕ) (within : field + k ≤ clientWidth) (clients : List ℕ) (r : ℕ) →
+    (r ≡ q → ⊥) → rowOf (keptWords field wanted word q k clients) r ≡ rowOf clients r
+kept-rows field wanted word q k within clients r d =
+    within-same clientWidth 0 (clientWord (keptWords field wanted word q k clients) r) (clientWord clients r)
+    (λ g l. kept-other field wanted word q k within clients r g l (λ e. d (e .0)))
 
 -- Whether anything is pending is whether anything is to come.
 empty-weight : (l : Content) → isEmpty l ≡ true → weight l ≡ 0

@@ -5,11 +5,8 @@ use mathlib.Core.Bool.{true, false}
 use mathlib.Core.List.{List}
 use native.Mathlib.Omega.{arith}
 use native.Mathlib.Numerals.{add-one}
-use lib.ListN.{getD, length, length-set, replicate}
-use lib.Seq.{getD-set-same, getD-set-other}
+use lib.ListN.{getD, length}
 use Rattle.ranges.specs.Tests.{by-equal, by-test}
-use Rattle.ranges.specs.Turns.{turns}
-use Rattle.ranges.specs.Picked.{picked, is-picked}
 use Rattle.keys.specs.Keys.{keyOf, FitsByte, at-word-fits}
 use Rattle.keys.specs.Masks.{hasServer}
 use Rattle.coordinator.specs.Latest.{latestKey}
@@ -21,14 +18,17 @@ use Rattle.tables.specs.declared.links.Contents.{Contents}
 use Rattle.tables.specs.declared.links.Content.{Content}
 use Rattle.tables.specs.declared.links.Content.the-variants.{Nothing, Request, Reply}
 use Rattle.rules.specs.Answers.{Arrived, arrived, nothingShown}
+use Rattle.rules.specs.Words.{every}
+use Rattle.rules.specs.WordsLaws.{kept-other, kept-length, kept-there, shown-at}
 use Rattle.rules.specs.Common.{idle, entering, askingKeys, askingSetpoints, askingAll, coordinator, request, counted, nextStep, pending, endedRecord, taggedRecord}
 use Rattle.rules.specs.Common as rules
 use Rattle.rules.specs.Begin.{sentGets}
-use Rattle.rules.specs.Reply.{said, emptied, showSetpoint, shownSetpoints, readShown, onSetDone, onEntered, onKeys, gotSetpoint, onGot, gotNumber, receivedIn, setpointAt, keepSetpoint, forget, tagChosen, concluded, onAll, onReplyIn, onReply, replyDelivered}
+use Rattle.rules.specs.Reply.{said, emptied, shownSetpoints, readShown, onSetDone, onEntered, onKeys, gotSetpoint, onGot, gotNumber}
+use Rattle.rules.specs.Reply.{receivedIn, setpointAt, keptSetpoints, forgotten, tagChosen, concluded, onAll}
+use Rattle.rules.specs.Reply.{onReplyIn, onReply, replyDelivered}
 use Rattle.rules.specs.declared.Delivered.{Delivered}
 use Rattle.rules.specs.declared.Arrival.the-variants as arrival
 use Rattle.keeping.specs.Accepted.{Deliverable, target-below}
-use Rattle.keeping.specs.Rows.{loop-other, loop-length, loop-there}
 use Rattle.serial.specs.Steps.{replied}
 use Rattle.serial.specs.History.{changed, History}
 use Rattle.serial.specs.Consequences.{numberOfArrival, countedArrival}
@@ -39,7 +39,7 @@ use Rattle.serial.proofs.Links.{come-changed, all-empty, no-coordinator
 use Rattle.serial.proofs.Budget.{Budget, no-rest}
 use Rattle.serial.proofs.Spending.{further, done-budget, last-budget}
 use Rattle.serial.proofs.Fair.{Standing, Fair}
-use Rattle.serial.proofs.Loops.{sent-links, sent-others, loop-rows, pending-come, none-come}
+use Rattle.serial.proofs.Loops.{sent-links, sent-others, kept-rows, pending-come, none-come}
 use Rattle.serial.proofs.Ready.{Ready, few, in-range, has-row, has-link, has-links, row-at, link-at, not-empty, at-coordinator}
 use Rattle.serial.proofs.Invariant.{Writing, Entering, AskingKeys, Getting, AskingAll, Activity, at-rest, at-writing, at-entering, at-keys, at-getting, at-all, Tied}
 use Rattle.serial.proofs.Kept.{Kept, Does, passed-tied}
@@ -48,15 +48,6 @@ use Rattle.serial.proofs.Replies.{done-wait-kept, done-next-kept, got-w
 -- what the delivery answers and leaves is fair
 abbrev pub FairReply : (ℕ → ℕ) → History → ℕ → ℕ → ℕ → Arrived → Type 0
 FairReply floor h n q i x = Fair floor h n (record { event = replied q i (x .delivered); tables = x .tables })
-
--- the setpoints shown are the words of the client's row
-pub shown-at : (clients : List ℕ) (q mask j : ℕ) → j < 16 → hasServer mask j ≡ true → getD (shownSetpoints clients q mask) j 0 ≡ clientWord clients q (setpointsField + j)
-shown-at clients q mask j l e =
-    is-picked (λ xs i. getD xs i 0) (showSetpoint clients q) (λ i. clientWord clients q (setpointsField + i)) (λ xs. 16 ≤ length xs) 16
-    (λ i xs r. rw (length-set xs i (clientWord clients q (setpointsField + i))) r)
-    (λ i xs m r. getD-set-same xs i (clientWord clients q (setpointsField + i)) 0 (omega arith))
-    (λ i u xs m d. getD-set-other xs i u (clientWord clients q (setpointsField + i)) 0 d)
-    (hasServer mask) (replicate 16 0) (omega arith) 16 j (omega arith) l e
 
 module _ (floor : ℕ → ℕ) (t : Tables) (h : History) (s : Standing floor t h) (q i : ℕ) where
   pub refused-reply : (n : ℕ) → (n ≡ 8 → ⊥) → FairReply floor h (stepOf t) q i (said (arrival.Refused n) t)
@@ -276,7 +267,7 @@ module _ (floor : ℕ → ℕ) (t : Tables) (h : History) (s : Standing floor t 
         shows : (j : ℕ) → hasServer (maskIn c) j ≡ true → getD (shownSetpoints (gotSetpoint w q i t) q (maskOf t q)) j 0 ≡ ended (setpointsField + j)
         shows j m =
             let l : j < 16 = omega (arith, a .bound j m, few t q ready) in
-            shown-at (gotSetpoint w q i t) q (maskOf t q) j l (rw mask-at at m)
+            shown-at setpointsField (gotSetpoint w q i t) q (maskOf t q) j l (rw mask-at at m)
             ∙ sym (within-at clientWidth 0 (clientWord (gotSetpoint w q i t) q) (setpointsField + j) (omega arith))
             ∙ ap (λ (f : ℕ → ℕ). f (setpointsField + j)) (one-word (setpointsField + i) (w .number) (omega arith))
             ∙ sym (changed-other row stateField idle (setpointsField + j) (λ e. omega arith))
@@ -331,10 +322,10 @@ module _ (floor : ℕ → ℕ) (t : Tables) (h : History) (s : Standing floor t 
 
         -- the row at the end: setpoints at the tag, then the n forgotten, then the tag and the state
         kept : List ℕ
-        kept = turns (picked (hasServer (maskOf t q)) (keepSetpoint value q)) (serversOf t) told
+        kept = keptSetpoints value q (maskOf t q) (serversOf t) told
 
-        forgotten : List ℕ
-        forgotten = turns (forget q) targets kept
+        forgot : List ℕ
+        forgot = forgotten q kept
 
         room : setpointsField + serversOf t ≤ clientWidth
         room = omega (arith, few t q ready)
@@ -343,20 +334,20 @@ module _ (floor : ℕ → ℕ) (t : Tables) (h : History) (s : Standing floor t 
         told-has = rw (word-length clientWidth (t .clients) q (receivedField + i) (w .number)) (has-row t q ready)
 
         kept-has : HasRow clientWidth kept q
-        kept-has = rw (loop-length q setpointsField (serversOf t) room (hasServer (maskOf t q)) value told) told-has
+        kept-has = rw (kept-length setpointsField (hasServer (maskOf t q)) value q (serversOf t) room told) told-has
 
-        forgotten-has : HasRow clientWidth forgotten q
-        forgotten-has = rw (loop-length q receivedField targets (omega arith) (λ j. true) (λ j. 0) kept) kept-has
+        forgot-has : HasRow clientWidth forgot q
+        forgot-has = rw (kept-length receivedField every (λ j. 0) q targets (omega arith) kept) kept-has
 
         concluded-has : HasRow clientWidth (concluded tag told q t) q
-        concluded-has = rw (word-length clientWidth forgotten q tagField tag) forgotten-has
+        concluded-has = rw (word-length clientWidth forgot q tagField tag) forgot-has
 
         ended-others : (r : ℕ) → (r ≡ q → ⊥) → rowOf (putClientWord (concluded tag told q t) q stateField idle) r ≡ rowOf (t .clients) r
         ended-others r d =
             row-put-other (concluded tag told q t) q stateField idle (omega arith) r d
-            ∙ row-put-other forgotten q tagField tag (omega arith) r d
-            ∙ loop-rows q receivedField targets (omega arith) (λ j. true) (λ j. 0) kept r d
-            ∙ loop-rows q setpointsField (serversOf t) room (hasServer (maskOf t q)) value told r d
+            ∙ row-put-other forgot q tagField tag (omega arith) r d
+            ∙ kept-rows receivedField every (λ j. 0) q targets (omega arith) kept r d
+            ∙ kept-rows setpointsField (hasServer (maskOf t q)) value q (serversOf t) room told r d
             ∙ one-others (receivedField + i) (w .number) (omega arith) r d
 
         ended-state : rowOf (putClientWord (concluded tag told q t) q stateField idle) q stateField ≡ idle
@@ -365,24 +356,25 @@ module _ (floor : ℕ → ℕ) (t : Tables) (h : History) (s : Standing floor t 
         -- a word of the row but for the tag and the n
         concluded-word : (f : ℕ) → f < receivedField → (f ≡ tagField → ⊥) → clientWord (concluded tag told q t) q f ≡ clientWord kept q f
         concluded-word f l d =
-            word-other clientWidth forgotten q tagField tag q f (omega arith) (omega arith) (λ e. d (e .1))
-            ∙ loop-other q receivedField targets (omega arith) (λ j. true) (λ j. 0) kept q f (omega arith) (λ e. omega (arith, e .1))
+            word-other clientWidth forgot q tagField tag q f (omega arith) (omega arith) (λ e. d (e .1))
+            ∙ kept-other receivedField every (λ j. 0) q targets (omega arith) kept q f (omega arith) (λ e. omega (arith, e .1))
 
         ended-count : rowOf (putClientWord (concluded tag told q t) q stateField idle) q countField ≡ countIn c
         ended-count =
             within-at clientWidth 0 (clientWord (putClientWord (concluded tag told q t) q stateField idle) q) countField (omega arith)
             ∙ word-other clientWidth (concluded tag told q t) q stateField idle q countField (omega arith) (omega arith) (λ e. omega (arith, e .1))
             ∙ concluded-word countField (omega arith) (λ e. omega arith)
-            ∙ loop-other q setpointsField (serversOf t) room (hasServer (maskOf t q)) value told q countField (omega arith) (λ e. omega (arith, e .1))
+            ∙ kept-other setpointsField (hasServer (maskOf t q)) value q (serversOf t) room told q countField
+            (omega arith) (λ e. omega (arith, e .1))
             ∙ word-other clientWidth (t .clients) q (receivedField + i) (w .number) q countField (omega arith) (omega arith) (λ e. omega (arith, e .1))
             ∙ sym (row-at t q countField (omega arith))
 
         shows : (j : ℕ) → hasServer (maskIn c) j ≡ true → getD (shownSetpoints (concluded tag told q t) q (maskOf t q)) j 0 ≡ value j
         shows j m =
             let l : j < serversOf t = a .bound j m in
-            shown-at (concluded tag told q t) q (maskOf t q) j (omega (arith, few t q ready)) (rw mask-at at m)
+            shown-at setpointsField (concluded tag told q t) q (maskOf t q) j (omega (arith, few t q ready)) (rw mask-at at m)
             ∙ concluded-word (setpointsField + j) (omega (arith, few t q ready)) (λ e. omega arith)
-            ∙ loop-there q setpointsField (serversOf t) room (hasServer (maskOf t q)) value told j told-has l (rw mask-at at m)
+            ∙ kept-there setpointsField (hasServer (maskOf t q)) value q (serversOf t) room told j told-has l (rw mask-at at m)
 
     in-activity : Does floor (view t) h q Activity → Okay (replyDelivered q i t)
     unfolding onReplyIn

@@ -1,10 +1,21 @@
 -- `begins::start_write` meets its contract: its three calls put one after another.
+use native.Mathlib.Omega.{arith}
+use lib.ListN.{length, getD}
+use Rattle.tables.specs.Layout.{setpointsField}
+use Rattle.rules.specs.WordsLaws.{kept-every}
 use borrow.Author.Needs.{needs}
 use Rattle.begins.proofs.start_write.Statement.{statement}
 use Rattle.begins.proofs.start_write.Tie as tie
 
 returns : tie.Need-returns
-returns c = rw (c .before .before .store-setpoints .ensures, c .before .before .before .before .before .before .put-client-word .ensures, c .before .before .before .before .before .before .before .before .before .before .start-client .ensures)
+returns c =
+    let at-keep-words = c .before .before in
+    let at-put-client-word = at-keep-words .before .before .before .before in
+    let at-start-client = at-put-client-word .before .before .before .before in
+    let start = at-start-client .before .before .before .before in
+    let words = start .args .setpoints .now in
+    let all = kept-every setpointsField (λ i. getD words i 0) (start .args .client) (length words) _ (omega (arith, start .pre .1)) in
+    rw (at-keep-words .keep-words .ensures, at-put-client-word .put-client-word .ensures, at-start-client .start-client .ensures) all
 
 pub start-write-spec : {M : Type 1} → statement M
 start-write-spec =

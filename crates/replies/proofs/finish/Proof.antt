@@ -4,7 +4,15 @@ use Rattle.replies.proofs.finish.Statement.{statement}
 use Rattle.replies.proofs.finish.Tie as tie
 
 returns : tie.Need-returns
-returns c = record { shown = rw (c .before .before .before .before .before .before .before .before .shown-setpoints .ensures); idled = c .before .before .before .before .before .before .put-client-word .ensures; recorded = c .before .before .end-read .ensures }
+returns c =
+    let at-end-read = c .before .before in
+    let at-put-client-word = at-end-read .before .before .before .before in
+    let at-shown-words = at-put-client-word .before .before in
+    record {
+      shown = rw (at-shown-words .shown-words .ensures);
+      idled = at-put-client-word .put-client-word .ensures;
+      recorded = at-end-read .end-read .ensures;
+    }
 
 pub finish-spec : {M : Type 1} → statement M
 finish-spec =

@@ -1,0 +1,90 @@
+-- Laws of `Words`, over every field: which words a client's row has after words were kept, and which a row of 16 shows.
+use Prim.Native.Nat.{ℕ, zero, suc, _+_, _*_, _≤_, _<_}
+use mathlib.Core.Path.{_≡_, refl, _∙_}
+use mathlib.Core.Bool.{Bool, true, false, cond}
+use mathlib.Core.List.{List}
+use native.Mathlib.Omega.{arith}
+use lib.ListN.{getD, length, replicate, length-set}
+use lib.Seq.{getD-set-same, getD-set-other}
+use Rattle.ranges.specs.Tests.{either}
+use Rattle.ranges.specs.All.{allBelow, all-at}
+use Rattle.ranges.specs.Turns.{turns, turns-keep-below}
+use Rattle.ranges.specs.Picked.{is-picked}
+use Rattle.keys.specs.Masks.{hasServer}
+use Rattle.tables.specs.Rows.{HasRow, word-same, word-other}
+use Rattle.tables.specs.Layout.{clientWidth, clientWord}
+use Rattle.rules.specs.Words.{every, keepWord, keptWords, layWord, laidWords, shownWords}
+
+-- Words kept for some of k servers, from a field on.
+module _ (field : ℕ) (wanted : ℕ → Bool) (word : ℕ → ℕ) (q k : ℕ) (within : field + k ≤ clientWidth) where
+  -- what stands elsewhere stays
+  pub kept-other : (clients : List ℕ) (r g : ℕ) → g < clientWidth → ((r ≡ q) × (field ≤ g) × (g < field + k) → ⊥) →
+      clientWord (keptWords field wanted word q k clients) r g ≡ clientWord clients r g
+  kept-other clients r g l d =
+      let Stays : List ℕ → Type 0 = λ xs. clientWord xs r g ≡ clientWord clients r g in
+      turns-keep-below _ Stays k
+      (λ i b xs e. either Stays (wanted i)
+      (word-other clientWidth xs q (field + i) (word i) r g (omega arith) l (λ y. d (y .0, omega (arith, y .1), omega (arith, y .1))) ∙ e)
+      e)
+      clients refl
+
+  pub kept-length : (clients : List ℕ) → length (keptWords field wanted word q k clients) ≡ length clients
+  kept-length clients =
+      let Long : List ℕ → Type 0 = λ xs. length xs ≡ length clients in
+      turns-keep-below _ Long k
+      (λ i b xs e. either Long (wanted i) (length-set xs (clientWidth * q + (field + i)) (word i) ∙ e) e)
+      clients refl
+
+  -- a wanted server's word is the one kept
+  pub kept-there : (clients : List ℕ) (i : ℕ) → HasRow clientWidth clients q → i < k → wanted i ≡ true →
+      clientWord (keptWords field wanted word q k clients) q (field + i) ≡ word i
+  kept-there clients i h l e =
+      is-picked (λ xs j. clientWord xs q (field + j)) (keepWord field word q) word (λ xs. HasRow clientWidth xs q) k
+      (λ j xs r. rw (length-set xs (clientWidth * q + (field + j)) (word j)) r)
+      (λ j xs m r. word-same clientWidth xs q (field + j) (word j) r (omega arith))
+      (λ j n xs m d. getD-set-other xs (clientWidth * q + (field + j)) (clientWidth * q + (field + n)) (word j) 0 (λ z. d (omega arith)))
+      wanted clients h k i (omega arith) l e
+
+-- the same servers wanted, and of those the same words, below k: the same row
+module _ (field q : ℕ) (wanted wanted′ : ℕ → Bool) (word word′ : ℕ → ℕ) (clients : List ℕ) where
+  same-turn : (b : Bool) (i : ℕ) {xs ys : List ℕ} → (b ≡ true → word i ≡ word′ i) → xs ≡ ys →
+      cond b (keepWord field word q i xs) xs ≡ cond b (keepWord field word′ q i ys) ys
+  same-turn true i f s = rw (s, f refl)
+  same-turn false i f s = s
+
+  pub kept-same : (k : ℕ) → ((i : ℕ) → i < k → wanted i ≡ wanted′ i) → ((i : ℕ) → i < k → wanted′ i ≡ true → word i ≡ word′ i) →
+      keptWords field wanted word q k clients ≡ keptWords field wanted′ word′ q k clients
+  unfolding turns
+  kept-same zero e f = refl
+  kept-same (suc k) e f =
+      rw (e k (omega arith))
+      (same-turn (wanted′ k) k (f k (omega arith)) (kept-same k (λ i l. e i (omega arith)) (λ i l. f i (omega arith))))
+
+-- the word of a wanted server in a row of 16
+pub laid-at : (wanted : ℕ → Bool) (word : ℕ → ℕ) (k i : ℕ) → k ≤ 16 → i < k → wanted i ≡ true → getD (laidWords wanted word k) i 0 ≡ word i
+laid-at wanted word k i h l e =
+    is-picked (λ xs j. getD xs j 0) (layWord word) word (λ xs. 16 ≤ length xs) 16
+    (λ j xs r. rw (length-set xs j (word j)) r)
+    (λ j xs m r. getD-set-same xs j (word j) 0 (omega arith))
+    (λ j n xs m d. getD-set-other xs j n (word j) 0 d)
+    wanted (replicate 16 0) (omega arith) k i h l e
+
+pub shown-at : (field : ℕ) (clients : List ℕ) (q mask i : ℕ) → i < 16 → hasServer mask i ≡ true →
+    getD (shownWords field clients q mask) i 0 ≡ clientWord clients q (field + i)
+shown-at field clients q mask i l e = laid-at (hasServer mask) (λ j. clientWord clients q (field + j)) 16 i (omega arith) l e
+
+-- words laid into a row of 16 first, and kept from there, are the words themselves
+pub kept-laid : (field : ℕ) (wanted : ℕ → Bool) (word : ℕ → ℕ) (q k : ℕ) (clients : List ℕ) → k ≤ 16 →
+    keptWords field wanted (λ i. getD (laidWords wanted word k) i 0) q k clients ≡ keptWords field wanted word q k clients
+kept-laid field wanted word q k clients h =
+    kept-same field q wanted wanted _ word clients k (λ i l. refl) (λ i l e. laid-at wanted word k i h l e)
+
+-- a mask of 32 ones has every server
+pub has-every : (i : ℕ) → i < 32 → hasServer 4294967295 i ≡ true
+unfolding allBelow
+has-every i l = all-at (hasServer 4294967295) 32 refl i l
+
+pub kept-every : (field : ℕ) (word : ℕ → ℕ) (q k : ℕ) (clients : List ℕ) → k ≤ 32 →
+    keptWords field (hasServer 4294967295) word q k clients ≡ keptWords field every word q k clients
+kept-every field word q k clients h =
+    kept-same field q (hasServer 4294967295) every word word clients k (λ i l. has-every i (omega arith)) (λ i l e. refl)
