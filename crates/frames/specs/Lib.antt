@@ -7,3 +7,5 @@ pub mod MessageLaws
 pub mod Good
 pub mod RoundTrip
 pub mod Answers
+pub mod Meanings
+pub mod MeaningLaws

@@ -9,3 +9,4 @@ pub mod Lengths
 pub mod Cases
 pub mod Changes
 pub mod Records
+pub mod ListedLaws

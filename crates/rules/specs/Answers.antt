@@ -18,38 +18,40 @@ pub record Said : Type 0 where
   pub word : Word
   pub numbers : List ℕ
 
-abbrev said : Word → List ℕ → Said
-said w ns = record { word = w; numbers = ns }
+abbrev pub saying : Word → List ℕ → Said
+saying w ns = record { word = w; numbers = ns }
 
 -- "Other accepted steps answer *ok*", "`no` and the number when refused"
 abbrev pub answerSaid : Answer → Said
-answerSaid answer.Ok = said ok []
-answerSaid (answer.Refused n) = said no′ (n ∷ [])
+answerSaid answer.Ok = saying ok []
+answerSaid (answer.Refused n) = saying no′ (n ∷ [])
 
 -- "A delivered reply answers *wait*, *next* (second round sent), *write* with tag, or *read* with tag and setpoints."
 abbrev pub arrivalSaid : Arrival → Said
-arrivalSaid arrival.Wait = said wait []
-arrivalSaid arrival.Next = said next []
-arrivalSaid (arrival.Write tag) = said write (tag ∷ [])
-arrivalSaid (arrival.Read tag) = said read (tag ∷ [])
-arrivalSaid (arrival.Refused n) = said no′ (n ∷ [])
+arrivalSaid arrival.Wait = saying wait []
+arrivalSaid arrival.Next = saying next []
+arrivalSaid (arrival.Write tag) = saying write (tag ∷ [])
+arrivalSaid (arrival.Read tag) = saying read (tag ∷ [])
+arrivalSaid (arrival.Refused n) = saying no′ (n ∷ [])
 
 -- an answer that shows no setpoint
 abbrev pub nothingShown : Arrival → Delivered
 nothingShown a = record { arrival = a; setpoints = replicate 16 0 }
 
--- what a step leaves: its answer and the tables
+-- what a step leaves: its answer, what that says in document 01's words, and the tables
 pub record Left : Type 0 where
   pub answer : Answer
+  pub said : Said
   pub tables : Tables
 
 abbrev pub left : Answer → Tables → Left
-left a t = record { answer = a; tables = t }
+left a t = record { answer = a; said = answerSaid a; tables = t }
 
 -- the same of a delivered reply
 pub record Arrived : Type 0 where
   pub delivered : Delivered
+  pub said : Said
   pub tables : Tables
 
 abbrev pub arrived : Delivered → Tables → Arrived
-arrived d t = record { delivered = d; tables = t }
+arrived d t = record { delivered = d; said = arrivalSaid (d .arrival); tables = t }

@@ -1,5 +1,6 @@
 -- The rules of the steps, in document 01's order. These definitions say what is right; the crates above are proved equal to them.
 pub mod Answers
+pub mod AnswersLaws
 pub mod Words
 pub mod WordsLaws
 pub mod Common

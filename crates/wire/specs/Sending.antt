@@ -9,16 +9,18 @@ use Rattle.soundness.specs.Sound.{sound}
 use Rattle.refusals.specs.Refusals.{isTarget}
 use Rattle.frames.specs.declared.Written.{Written}
 use Rattle.frames.specs.declared.Written.the-variants.{Length, Refused}
+use Rattle.frames.specs.Meanings.{Meaning, writtenMeaning}
 use Rattle.frames.specs.Frames.{frameOf, fits}
 use Rattle.wire.specs.OnLink.{OnLink, empty, carries, onLink}
 
--- the answer, and the lent bytes afterwards
+-- the answer, what it means in document 01's numbers, and the lent bytes afterwards
 pub record Sent : Type 0 where
   pub answer : Written
+  pub meaning : Meaning
   pub bytes : List ℕ
 
 abbrev pub sent : Written → List ℕ → Sent
-sent answer bytes = record { answer = answer; bytes = bytes }
+sent answer bytes = record { answer = answer; meaning = writtenMeaning answer; bytes = bytes }
 
 abbrev pub refused : ℕ → List ℕ → Sent
 refused n bytes = sent (Refused n) bytes
