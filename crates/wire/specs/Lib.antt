@@ -9,3 +9,4 @@ pub mod Cases
 pub mod Answers
 pub mod Trip
 pub mod Examples
+pub mod Kinds

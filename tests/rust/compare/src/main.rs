@@ -4,6 +4,7 @@
 //!     compare schedules PROGRAM [ARGUMENT...] [--cases N] [--seed S]
 //!     compare tables [--cases N] [--seed S]
 //!     compare frames [--cases N] [--seed S]
+//!     compare wire [--cases N] [--seed S]
 
 mod arguments;
 mod damage;
@@ -11,8 +12,10 @@ mod frames_run;
 mod messages;
 mod reached;
 mod schedules_run;
+mod stores;
 mod tables_run;
 mod tally;
+mod wire_run;
 
 use arguments::Arguments;
 use std::process::ExitCode;
@@ -23,7 +26,7 @@ pub type Report = Result<String, String>;
 fn main() -> ExitCode {
     let given: Vec<String> = std::env::args().skip(1).collect();
     let Some(arguments) = Arguments::parse(&given) else {
-        eprintln!("usage: compare schedules PROGRAM [ARGUMENT...] | tables | frames, each with [--cases N] [--seed S]");
+        eprintln!("usage: compare schedules PROGRAM [ARGUMENT...] | tables | frames | wire, each with [--cases N] [--seed S]");
         return ExitCode::from(2);
     };
     let started = std::time::Instant::now();
@@ -31,6 +34,7 @@ fn main() -> ExitCode {
         "schedules" => schedules_run::compare(&arguments),
         "tables" => tables_run::compare(&arguments),
         "frames" => frames_run::compare(&arguments),
+        "wire" => wire_run::compare(&arguments),
         other => Err(format!("no such comparison: {other}")),
     };
     let seconds = started.elapsed().as_secs_f32();

@@ -2,6 +2,7 @@
 
 mod bits;
 pub mod lent;
+pub mod link;
 pub mod message;
 mod reader;
 mod writer;

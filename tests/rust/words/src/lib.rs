@@ -2,6 +2,7 @@
 
 pub mod layout;
 mod reading;
+pub mod register;
 pub mod sound;
 mod writing;
 

@@ -1,0 +1,65 @@
+//! Tables to compare on: those of random runs, and damaged copies of them.
+
+use crate::damage::damage;
+use model::Step;
+use schedules::{Generator, Random};
+use words::Tables;
+
+/// Opens a store in tables that hold anything and lets it go on by its own steps. All of these tables, and damaged copies,
+/// are visited, each with a step; the visitor takes the step on them.
+pub fn visit_store(seed: u64, visit: &mut impl FnMut(&mut Tables, &Step) -> Result<(), String>) -> Result<(), String> {
+    let mut generator = Generator::new(seed);
+    let mut random = Random::new(!seed);
+    let opening = generator.opening();
+    let mut tables = fresh_tables(&opening, &mut random);
+    for step in [generator.wrong_step(), opening.clone()] {
+        visit(&mut tables, &step)?;
+    }
+    let _ = generator.player.take(&opening);
+    for _ in 0..random.within(1, 120) {
+        let step = generator.likely_step();
+        let _ = generator.player.take(&step);
+        visit(&mut tables, &step)?;
+        for _ in 0..3 {
+            let mut odd = tables.clone();
+            damage(&mut odd, &mut random);
+            let step = match random.below(8) {
+                0 | 1 => generator.wrong_step(),
+                2 => generator.opening(),
+                _ => generator.likely_step(),
+            };
+            visit(&mut odd, &step)?;
+        }
+    }
+    Ok(())
+}
+
+/// Tables for an opening: just long enough or longer, full of one word.
+fn fresh_tables(opening: &Step, random: &mut Random) -> Tables {
+    let Step::Open { servers, clients, .. } = opening else {
+        unreachable!("openings open");
+    };
+    let word = random.word();
+    let mut tables = Tables::filled(*servers as usize, *clients as usize, word);
+    if random.chance(1, 3) {
+        for table in tables.all_mut() {
+            table.resize(table.len() + random.below(60), random.word());
+        }
+    }
+    tables
+}
+
+/// The tables for a report, without their long unused ends.
+pub fn shown(tables: &Tables) -> String {
+    let first = |table: &[u32], words: usize| format!("{:?}", &table[..table.len().min(words)]);
+    format!(
+        "lengths {:?} counts {} clients {} links {} log {} writes {} reads {}",
+        tables.lengths(),
+        first(&tables.counts, 23),
+        first(&tables.clients, 152),
+        first(&tables.links, 204),
+        first(&tables.log, 40),
+        first(&tables.writes, 50),
+        first(&tables.reads, 50)
+    )
+}

@@ -1,0 +1,148 @@
+//! Frames of links and the register's listing, from any tables: answers, bytes and rows as the model has them.
+
+use crate::arguments::Arguments;
+use crate::stores::{shown, visit_store};
+use crate::tally::Tally;
+use crate::Report;
+use ffi::WireLibrary;
+use frames::link::message_on;
+use model::{Refusal, COORDINATOR};
+use schedules::Random;
+use words::layout::{CLIENTS, LINKS_OF_CLIENT, LINK_WORDS, NOTHING};
+use words::register::{list_register, LINE_WORDS};
+use words::Tables;
+
+/// In a run of so many tables each of the answers below is to occur.
+const MANY: usize = 100_000;
+const DUE_FRAMES: [&str; 16] = [
+    "kind 1", "kind 2", "kind 3", "kind 4", "kind 5", "kind 6", "kind 7", "kind 8", "kind 9", "kind 10", "kind 11", "kind 12",
+    "no 2", "no 3", "no 9", "no 12",
+];
+const DUE_LISTS: [&str; 3] = ["listed", "no 2", "no 12"];
+
+/// Room for the longest frame, of 256 versions, and for the longest register.
+const LONGEST_FRAME: usize = 1411;
+const MOST_LINES: usize = 510;
+
+/// What was compared so far.
+#[derive(Default)]
+struct Counts {
+    tables: usize,
+    sound: usize,
+    frames: Tally,
+    lists: Tally,
+}
+
+/// Looks at `cases` tables, in each at one link and at the register.
+pub fn compare(arguments: &Arguments) -> Report {
+    let library = WireLibrary::linked().ok_or("libwire_exports.a is not linked: run tests/rust/build-store")?;
+    let mut counts = Counts::default();
+    let mut stores = 0;
+    while counts.tables < arguments.cases {
+        let seed = arguments.seed_of(stores);
+        let mut random = Random::new(seed.rotate_left(32));
+        let visited = visit_store(seed, &mut |tables, step| {
+            compare_link(library, tables, &mut random, &mut counts)?;
+            compare_list(library, tables, &mut random, &mut counts)?;
+            counts.tables += 1;
+            counts.sound += usize::from(words::sound(tables));
+            let _ = words::take(tables, step);
+            Ok(())
+        });
+        visited.map_err(|difference| format!("store {seed}: {difference}"))?;
+        stores += 1;
+    }
+    if arguments.cases >= MANY {
+        counts.frames.require(&DUE_FRAMES)?;
+        counts.lists.require(&DUE_LISTS)?;
+    }
+    let Counts { tables, sound, frames, lists } = counts;
+    Ok(format!("{tables} tables, {sound} of them sound, {stores} stores; links: {frames}; registers: {lists}"))
+}
+
+/// A link, most often one that holds something, and sometimes one that is not there.
+fn some_link(tables: &Tables, random: &mut Random) -> (u32, u32) {
+    if random.chance(1, 12) {
+        return (random.word(), random.word());
+    }
+    let clients = tables.counts.get(CLIENTS).map_or(1, |&clients| clients.clamp(1, 16)) as usize;
+    let busy = |link: &usize| tables.links.get(LINK_WORDS * link).is_some_and(|&kind| kind != NOTHING);
+    let waiting: Vec<usize> = (0..LINKS_OF_CLIENT * clients).filter(busy).collect();
+    let link =
+        if waiting.is_empty() || random.chance(1, 6) { random.below(LINKS_OF_CLIENT * clients) } else { random.pick(&waiting) };
+    ((link / LINKS_OF_CLIENT) as u32, (link % LINKS_OF_CLIENT) as u32)
+}
+
+/// The frame that a link's message has: 2, 3, then 9. What stands on a link of sound tables can be written.
+fn frame_of(tables: &Tables, client: u32, target: u32) -> Result<Vec<u8>, Refusal> {
+    if !words::sound(tables) {
+        return Err(Refusal::Unsound);
+    }
+    let store = words::store_of(tables);
+    let (place, toward) = (client as usize, target as usize);
+    let there = place < store.clients.len() && (toward < store.servers.len() || toward == COORDINATOR);
+    if !there {
+        return Err(Refusal::NoSuchPlace);
+    }
+    let message = message_on(&store.clients[place].links[toward], client as u8, target as u8).ok_or(Refusal::NothingThere)?;
+    Ok(frames::write(&message).expect("what stands on a link can be written"))
+}
+
+/// Enough room, or just enough, or too little, or none.
+fn room(needed: usize, longest: usize, random: &mut Random) -> usize {
+    match random.below(6) {
+        0 => needed,
+        1 => needed.saturating_sub(1),
+        2 => random.below(needed + 1),
+        _ => longest + random.below(3),
+    }
+}
+
+/// One link: the answer, and every lent byte afterwards.
+fn compare_link(library: WireLibrary, tables: &Tables, random: &mut Random, counts: &mut Counts) -> Result<(), String> {
+    let (client, target) = some_link(tables, random);
+    let frame = frame_of(tables, client, target);
+    let filler = random.word() as u8;
+    let mut expected_bytes = vec![filler; room(frame.as_ref().map_or(0, Vec::len), LONGEST_FRAME, random)];
+    let mut bytes = expected_bytes.clone();
+    let expected = frame.and_then(|frame| {
+        let front = expected_bytes.get_mut(..frame.len()).ok_or(Refusal::NoRoom)?;
+        front.copy_from_slice(&frame);
+        Ok(frame.len())
+    });
+    let found = library.write_link_frame(tables, client, target, &mut bytes);
+    let link = || format!("the link ({client}, {target}), {} bytes lent", bytes.len());
+    if found != expected {
+        return Err(format!("{} answers {found:?}, the model {expected:?}; {}", link(), shown(tables)));
+    }
+    if bytes != expected_bytes {
+        return Err(format!("{} leaves {bytes:x?}, the model {expected_bytes:x?}; {}", link(), shown(tables)));
+    }
+    counts.frames.count(&match expected {
+        Ok(_) => format!("kind {}", bytes[0] >> 4),
+        Err(refusal) => refusal.to_string(),
+    });
+    Ok(())
+}
+
+/// The register: the answer, and every word of the lent list afterwards.
+fn compare_list(library: WireLibrary, tables: &Tables, random: &mut Random, counts: &mut Counts) -> Result<(), String> {
+    let mut whole = vec![0; LINE_WORDS * MOST_LINES];
+    let lines = list_register(tables, &mut whole).unwrap_or(0);
+    let mut expected_list = vec![random.word(); room(LINE_WORDS * lines, LINE_WORDS * MOST_LINES, random)];
+    let mut list = expected_list.clone();
+    let expected = list_register(tables, &mut expected_list);
+    let found = library.list_register(tables, &mut list);
+    if found != expected {
+        return Err(format!("the register answers {found:?}, the model {expected:?}; {}", shown(tables)));
+    }
+    if list != expected_list {
+        let place = (0..list.len()).find(|&place| list[place] != expected_list[place]).expect("they differ");
+        return Err(format!("word {place} is {}, the model's {}; {}", list[place], expected_list[place], shown(tables)));
+    }
+    counts.lists.count(&match expected {
+        Ok(_) => "listed".into(),
+        Err(refusal) => refusal.to_string(),
+    });
+    Ok(())
+}

@@ -1,0 +1,73 @@
+//! The frame of a link and the register's listing, of crates `wire` and `listing`.
+
+use model::Refusal;
+use words::Tables;
+
+/// A handle that exists only where the library is linked.
+#[derive(Clone, Copy, Debug)]
+pub struct WireLibrary(());
+
+#[cfg(not(wire_exports))]
+impl WireLibrary {
+    pub fn linked() -> Option<WireLibrary> {
+        None
+    }
+
+    pub fn write_link_frame(self, _tables: &Tables, _client: u32, _target: u32, _bytes: &mut [u8]) -> Result<usize, Refusal> {
+        unreachable!("no handle without the library")
+    }
+
+    pub fn list_register(self, _tables: &Tables, _list: &mut [u32]) -> Result<usize, Refusal> {
+        unreachable!("no handle without the library")
+    }
+}
+
+#[cfg(wire_exports)]
+impl WireLibrary {
+    pub fn linked() -> Option<WireLibrary> {
+        Some(WireLibrary(()))
+    }
+
+    /// Writes the frame of a link to the front of the bytes: its length.
+    pub fn write_link_frame(self, tables: &Tables, client: u32, target: u32, bytes: &mut [u8]) -> Result<usize, Refusal> {
+        // The library was proved to stay within the slices that it is lent.
+        linked::answer(unsafe { linked::wire_write_link_frame(tables, client, target, bytes.as_mut_ptr(), bytes.len()) })
+    }
+
+    /// Lists the register at the front of the list: how many rows it has.
+    pub fn list_register(self, tables: &Tables, list: &mut [u32]) -> Result<usize, Refusal> {
+        // As above.
+        linked::answer(unsafe { linked::wire_list_register(tables, list.as_mut_ptr(), list.len()) })
+    }
+}
+
+#[cfg(wire_exports)]
+mod linked {
+    use model::Refusal;
+    use words::Tables;
+
+    /// Rust functions by the names of exported ones that are lent the eight tables to read.
+    /// Nothing checks these declarations against crates/wire_exports/src/lib.rt.
+    macro_rules! exported {
+        ($name:ident, [$($table:ident),*] ($($more:ident: $type:ty),*)) => {
+            pub unsafe fn $name(t: &Tables $(, $more: $type)*) -> u64 {
+                // Within this block the name is the exported function's.
+                extern "C" {
+                    fn $name($($table: *const u32, _: usize,)* $($more: $type),*) -> u64;
+                }
+                $name($(t.$table.as_ptr(), t.$table.len(),)* $($more),*)
+            }
+        };
+    }
+
+    exported!(wire_write_link_frame, [counts, clients, links, keys, setpoints, log, writes, reads]
+        (client: u32, target: u32, bytes: *mut u8, bytes_length: usize));
+    exported!(wire_list_register, [counts, clients, links, keys, setpoints, log, writes, reads]
+        (list: *mut u32, list_length: usize));
+
+    /// A refusal is 2^64 - 1 less its number; any other number is the answer.
+    pub fn answer(number: u64) -> Result<usize, Refusal> {
+        let refusal = u32::try_from(u64::MAX - number).ok().and_then(Refusal::from_number);
+        refusal.map_or(Ok(number as usize), Err)
+    }
+}

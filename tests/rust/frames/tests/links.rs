@@ -1,0 +1,40 @@
+//! The frames of links, worked out by hand: client 2 and server 1, so that client, server and 0 are all different.
+
+use frames::link::message_on;
+use frames::write;
+use model::{Entry, Key, Link, Reply, Request, Version};
+
+const OWN: Key = Key { count: 1, client: 2 };
+
+fn frame(link: Link, target: u8) -> Vec<u8> {
+    write(&message_on(&link, 2, target).expect("the link holds something")).expect("it can be written")
+}
+
+#[test]
+fn an_empty_link_has_no_message() {
+    assert_eq!(message_on(&Link::Nothing, 2, 1), None);
+}
+
+#[test]
+fn requests() {
+    assert_eq!(frame(Link::Request(Request::Set { key: OWN, setpoint: 45 }), 1), [0x12, 0x08, 0x09, 0, 0, 0, 0x16, 0x80]);
+    assert_eq!(frame(Link::Request(Request::Enter { key: OWN, mask: 2 }), 16), [0x32, 0x80, 0x09, 0, 0x01, 0]);
+    assert_eq!(frame(Link::Request(Request::WhichKeys), 16), [0x52, 0x80]);
+    assert_eq!(frame(Link::Request(Request::Get { key: OWN }), 1), [0x72, 0x08, 0x09, 0]);
+    assert_eq!(frame(Link::Request(Request::GetAll), 1), [0x92, 0x08]);
+    assert_eq!(frame(Link::Request(Request::GetLog), 16), [0xB2, 0x80]);
+}
+
+#[test]
+fn replies() {
+    let keys = vec![Key::OPENING, OWN];
+    let versions = vec![Version { key: Key::OPENING, setpoint: 30 }, Version { key: OWN, setpoint: 45 }];
+    let entries = vec![Entry { key: Key::OPENING, mask: 3 }, Entry { key: OWN, mask: 2 }];
+    assert_eq!(frame(Link::Reply(Reply::SetDone), 1), [0x22, 0x08]);
+    assert_eq!(frame(Link::Reply(Reply::Entered { tag: 1 }), 16), [0x42, 0x80, 0x08]);
+    assert_eq!(frame(Link::Reply(Reply::Keys { tag: 1, keys }), 16), [0x62, 0x80, 0x08, 0x80, 0, 0x04, 0x80]);
+    assert_eq!(frame(Link::Reply(Reply::Got { setpoint: 45 }), 1), [0x82, 0x08, 0, 0, 0x01, 0x68]);
+    let all = [0xA2, 0x08, 0x08, 0, 0, 0, 0, 0x0F, 0, 0x90, 0, 0, 0x01, 0x68];
+    assert_eq!(frame(Link::Reply(Reply::All { versions }), 1), all);
+    assert_eq!(frame(Link::Reply(Reply::Log { entries }), 16), [0xC2, 0x80, 0x08, 0, 0, 0x01, 0x80, 0x90, 0, 0x10]);
+}
