@@ -5,14 +5,8 @@ use lib.Dec.{leb, eqb}
 use Rattle.formats.specs.declared.state.Field.{Field}
 use Rattle.formats.specs.declared.state.State.{State}
 use Rattle.formats.specs.Grammar.{Grammar, end, field}
-use Rattle.formats.specs.Table.{manyPlace, entryPlace, numberPlace, fixedFields, entryFields, sortAt, bitsOf, leastOf, mostOf, mostEntries, entriesIn, valuesFor}
-
--- the most values that a frame can have, and the bits that they can have at most
-abbrev pub mostValues : ℕ
-mostValues = valuesFor mostEntries
-
-abbrev pub mostBits : ℕ
-mostBits = 32 * mostValues
+use Rattle.formats.specs.Table.{manyPlace, entryPlace, numberPlace, fixedFields, entryFields, sortAt, bitsOf, leastOf, mostOf}
+use Rattle.formats.specs.Table.{entriesIn}
 
 abbrev pub sortOf : State → ℕ
 sortOf st = sortAt (st .kind) (st .place)

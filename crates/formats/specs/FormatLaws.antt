@@ -1,5 +1,5 @@
 -- Laws of the format: the cases of what comes next, as the code meets them; and the grammar as one that gives, field by field, what comes next.
-use mathlib.Core.Path.{_≡_, refl, sym, ap, ap₂, _∙_}
+use mathlib.Core.Path.{_≡_, refl, sym, ap, _∙_}
 use Prim.Native.Nat.{ℕ, zero, suc, _+_, _-_, _*_, _≤_, _<_}
 use native.Mathlib.Omega.{arith}
 use mathlib.Core.Bool.{true, cond}
@@ -10,9 +10,11 @@ use borrow.Author.Tests.{eq-eqb, ne-eqb, lt-ltb, le-ltb, ltb-true, ltb-false, le
 use Rattle.ranges.specs.Tests.{by-equal, by-test, both-left, both-right}
 use Rattle.formats.specs.declared.state.State.{State}
 use Rattle.formats.specs.Grammar.{Grammar, end}
-use Rattle.formats.specs.Table.{manyPlace, entryPlace, numberPlace, entryFields, kinds, sorts, sortAt, bitsOf, leastOf, mostOf, mostEntries, entriesIn}
-use Rattle.formats.specs.TableLaws.{rowOf, row-first, row-at, sort-small, entries-most, few-entries}
-use Rattle.formats.specs.Format.{mostValues, sortOf, fieldOf, within, allowed, leftAfter, placeAfter, nextOf, one, entries, fixed, start, format}
+use Rattle.formats.specs.Columns.{mostValues}
+use Rattle.formats.specs.Table.{manyPlace, entryPlace, numberPlace, entryFields, sorts, rowOf, sortAt, bitsOf, leastOf, mostOf}
+use Rattle.formats.specs.Table.{mostEntries, entriesIn}
+use Rattle.formats.specs.TableLaws.{sort-small, entries-most, few-entries}
+use Rattle.formats.specs.Format.{sortOf, fieldOf, within, allowed, leftAfter, placeAfter, nextOf, one, entries, fixed, start, format}
 
 module _ (place : ℕ) where
   pub place-last : place ≡ numberPlace → placeAfter place ≡ entryPlace
@@ -42,16 +44,15 @@ module _ (st : State) (v : ℕ) where
   unfolding leftAfter
   left-one-less d = rw (ne-eqb (st .place) manyPlace d)
 
-  next-by : {k p l a : ℕ} → k ≡ cond (eqb (st .place) 0) v (st .kind) → p ≡ cond (eqb (st .place) 1) v (st .client) → l ≡ leftAfter st v → a ≡ placeAfter (st .place) → record { kind = k; client = p; before = v; left = l; place = a } ≡ nextOf st v
+  pub next-by :
+      {k p l a : ℕ}
+      → k ≡ cond (eqb (st .place) 0) v (st .kind)
+      → p ≡ cond (eqb (st .place) 1) v (st .client)
+      → l ≡ leftAfter st v
+      → a ≡ placeAfter (st .place)
+      → record { kind = k; client = p; before = v; left = l; place = a } ≡ nextOf st v
   unfolding nextOf
   next-by e f g h i = record { kind = e i; client = f i; before = v; left = g i; place = h i }
-
-  module _ {k p l : ℕ} (e : k ≡ cond (eqb (st .place) 0) v (st .kind)) (f : p ≡ cond (eqb (st .place) 1) v (st .client)) (g : l ≡ leftAfter st v) where
-    pub next-last : st .place ≡ numberPlace → record { kind = k; client = p; before = v; left = l; place = entryPlace } ≡ nextOf st v
-    next-last d = next-by e f g (sym (place-last (st .place) d))
-
-    pub next-inner : (st .place ≡ numberPlace → ⊥) → record { kind = k; client = p; before = v; left = l; place = st .place + 1 } ≡ nextOf st v
-    next-inner d = next-by e f g (sym (place-inner (st .place) d))
 
   pub next-place : (nextOf st v) .place ≡ placeAfter (st .place)
   unfolding nextOf
@@ -142,24 +143,20 @@ module _ (st : State) (v : ℕ) (g : Goes st) (some : 0 < st .left) where
 
 -- What holds of a walk that takes the row of `kind` ahead of the kind's field: at that field nothing is counted yet, and behind it the kind is that one.
 pub record Rowed (kind n : ℕ) (st : State) : Type 0 where
-  pub first : st .place ≡ 0 → (st .kind ≡ 0) × (n ≡ 0)
-  pub later : (st .place ≡ 0 → ⊥) → (st .kind ≡ kind) × (kind < kinds)
+  pub first : st .place ≡ 0 → n ≡ 0
+  pub later : (st .place ≡ 0 → ⊥) → st .kind ≡ kind
 
 pub rowed-start : (kind : ℕ) → Rowed kind 0 start
-rowed-start kind = record { first = λ e. (refl, refl); later = λ d. absurd (d refl) }
+rowed-start kind = record { first = λ e. refl; later = λ d. absurd (d refl) }
 
 module _ (kind n : ℕ) (st : State) (r : Rowed kind n st) where
-  -- so that the row tells what the next field holds
+  -- so that the row tells what the next field holds: every row begins with the kind
   rowed-sort : getD (rowOf kind) (st .place) 0 ≡ sortOf st
+  unfolding sortAt
   rowed-sort =
       by-equal (st .place) 0
-      (λ e. ap (λ (p : ℕ). getD (rowOf kind) p 0) e ∙ row-first kind ∙ sym (ap₂ sortAt (r .first e .0) e))
-      (λ d. row-at kind (st .place) (r .later d .1) ∙ ap (λ (k : ℕ). sortAt k (st .place)) (sym (r .later d .0)))
-
-  -- a kind that is allowed is one
-  told-below : (v : ℕ) → st .place ≡ 0 → allowed st v ≡ true → v < kinds
-  unfolding mostOf sortAt
-  told-below v e a = omega (arith, at-most st v a, ap (λ (s : ℕ). mostOf s (st .client) (st .before)) (ap₂ sortAt (r .first e .0) e))
+      (λ e. ap (λ (p : ℕ). getD (rowOf kind) p 0) e ∙ sym (ap (λ (p : ℕ). sortAt (st .kind) p) e))
+      (λ d. ap (λ (k : ℕ). sortAt k (st .place)) (sym (r .later d)))
 
   pub rowed-tells : {row : List ℕ} → row ≡ rowOf kind → (getD row (st .place) 0 ≡ sortOf st) × (getD row (st .place) 0 < sorts)
   rowed-tells {row} e =
@@ -167,15 +164,11 @@ module _ (kind n : ℕ) (st : State) (r : Rowed kind n st) where
       (s, omega (arith, s, sort-small (st .kind) (st .place)))
 
   -- it stays so where the kind's field has that kind
-  pub rowed-next : (m v : ℕ) → allowed st v ≡ true → (st .place ≡ 0 → v ≡ kind) → Rowed kind m (nextOf st v)
-  rowed-next m v a told =
+  pub rowed-next : (m v : ℕ) → (st .place ≡ 0 → v ≡ kind) → Rowed kind m (nextOf st v)
+  rowed-next m v told =
       record {
         first = λ z. absurd (moved z);
-        later =
-            λ d.
-            by-equal (st .place) 0
-            (λ e. (next-told st v e ∙ told e, omega (arith, told e, told-below v e a)))
-            (λ f. (next-kind st v f ∙ r .later f .0, r .later f .1));
+        later = λ d. by-equal (st .place) 0 (λ e. next-told st v e ∙ told e) (λ f. next-kind st v f ∙ r .later f);
       }
     where
       moved : (nextOf st v) .place ≡ 0 → ⊥

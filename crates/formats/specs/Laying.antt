@@ -8,44 +8,52 @@ use mathlib.Core.Bool.{true, false}
 use lib.ListN.{length, getD, drop}
 use lib.Seq.{drop-cons, drop-length}
 use borrow.Author.Tests.{le-leb, lt-leb}
-use Rattle.ranges.specs.Sum.{sumBelow, sum-none, sum-more}
+use Rattle.ranges.specs.Sum.{sum-none, sum-more}
 use Rattle.fields.specs.Bits.{putField}
 use Rattle.fields.specs.FieldLaws.{length-putField}
 use Rattle.formats.specs.declared.state.Field.{Field}
 use Rattle.formats.specs.declared.state.State.{State}
+use Rattle.formats.specs.declared.table.Shape.{Shape}
 use Rattle.formats.specs.Grammar.{Grammar, end, field, good, size, lay, zeros, frame}
 use Rattle.formats.specs.RoundTrip.{length-frame}
-use Rattle.formats.specs.Table.{numberPlace, sorts, headerBits, mostEntries, limitsOf, bitsOf, entriesSaid}
-use Rattle.formats.specs.TableLaws.{rowOf, limits-width, bits-most, mostColumn, columns-small, entries-fit}
-use Rattle.formats.specs.Format.{sortOf, widthOf, nextOf, start, format}
-use Rattle.formats.specs.FormatLaws.{rowed-tells, rest, rest-start, rest-one}
+use Rattle.formats.specs.Table.{numberPlace, sorts, headerBits, mostEntries, shapeOf, rowOf, limitsOf, bitsOf, entriesSaid}
+use Rattle.formats.specs.TableLaws.{limits-width, bits-most, mostColumn, columns-small, entries-fit}
+use Rattle.formats.specs.Format.{sortOf, widthOf, placeAfter, nextOf, format}
+use Rattle.formats.specs.Entries.{valuesBy}
+use Rattle.formats.specs.Columns.{lengthBy, Packable}
+use Rattle.formats.specs.EntryLaws.{values-many, values-kind}
+use Rattle.formats.specs.FormatLaws.{Goes, next-place, rowed-tells, rest, rest-start, rest-one}
 use Rattle.formats.specs.Writing.{wroteOf, bytesAfter}
-use Rattle.formats.specs.Walk.{stateAt, walk, walk-rowed, some-left, sized, frame-bits, kind-below, entries-few}
-
--- the bit where value i begins
-abbrev pub firstBit : List ℕ → ℕ → ℕ
-firstBit vs i = sumBelow (λ j. widthOf (stateAt vs j)) i
+use Rattle.formats.specs.Walk.{stateAt, firstBit, walk, walk-rowed, some-left, values-length, sized, frame-bits, frame-length}
+use Rattle.formats.specs.Walk.{kind-below, entries-few}
 
 lay-nothing : (g : Grammar) (bytes : List ℕ) (at : ℕ) → lay g [] bytes at ≡ bytes
 unfolding lay
 lay-nothing end bytes at = refl
 lay-nothing (field w ok r) bytes at = refl
 
--- How far a writer has come: what is left of the values, laid into the bytes as they are, gives the frame.
-pub record Laid (vs before bytes : List ℕ) (i at : ℕ) (st : State) : Type 0 where
-  pub state : st ≡ stateAt vs i
-  pub inside : i ≤ length vs
-  pub place : at ≡ firstBit vs i
-  pub same : length bytes ≡ length before
-  pub found : lay (rest st) (drop i vs) bytes at ≡ lay format vs before 0
+-- What laying asks: the row of the kind, values of a frame, and room for it.
+pub record Layable (row fixed keys numbers : List ℕ) (entries bytes : ℕ) : Type 0 where
+  pub its-row : row ≡ rowOf (getD fixed 0 0)
+  pub packable : Packable fixed keys numbers entries
+  pub right : good format (valuesBy fixed keys numbers entries) ≡ true
+  pub fits : size format (valuesBy fixed keys numbers entries) ≤ 8 * bytes
 
-pub laid-start : (vs bytes : List ℕ) → Laid vs bytes bytes 0 0 start
+-- How far a writer has come: what is left of the values, laid into the bytes as they are, gives the frame.
+pub record Laid (vs before bytes : List ℕ) (i at place : ℕ) : Type 0 where
+  pub inside : i ≤ length vs
+  pub bit : at ≡ firstBit vs i
+  pub its-place : place ≡ (stateAt vs i) .place
+  pub same : length bytes ≡ length before
+  pub found : lay (rest (stateAt vs i)) (drop i vs) bytes at ≡ lay format vs before 0
+
+pub laid-start : (vs bytes : List ℕ) → Laid vs bytes bytes 0 0 0
 unfolding stateAt
 laid-start vs bytes =
     record {
-      state = refl;
       inside = omega arith;
-      place = sym (sum-none (λ j. widthOf (stateAt vs j)));
+      bit = sym (sum-none (λ j. widthOf (stateAt vs j)));
+      its-place = refl;
       same = refl;
       found = ap (λ (g : Grammar). lay g vs bytes 0) (sym rest-start);
     }
@@ -57,49 +65,66 @@ module _ (vs : List ℕ) (g : good format vs ≡ true) where
       let k = getD vs 0 0 in
       omega (arith, frame-bits vs g, columns-small k (kind-below vs g), entries-fit k (entriesSaid vs) (kind-below vs g) (entries-few vs g))
 
-  module _ {before bytes : List ℕ} {i at : ℕ} {st : State} (c : Laid vs before bytes i at st) where
+  module _ {before bytes : List ℕ} {i at place : ℕ} (c : Laid vs before bytes i at place) where
     -- the row of the kind tells what the next field holds
-    pub laid-sort : {row : List ℕ} → row ≡ rowOf (getD vs 0 0) → (getD row (st .place) 0 ≡ sortOf st) × (getD row (st .place) 0 < sorts)
-    laid-sort er = rowed-tells (getD vs 0 0) i st (rw (c .state) (walk-rowed vs g i)) er
+    pub laid-sort : {row : List ℕ} → row ≡ rowOf (getD vs 0 0) → (getD row place 0 ≡ sortOf (stateAt vs i)) × (getD row place 0 < sorts)
+    laid-sort er = rw (c .its-place) (rowed-tells (getD vs 0 0) i (stateAt vs i) (walk-rowed vs g i) er)
 
     -- and so how wide it is
-    pub laid-width : {row : List ℕ} {f : Field} → row ≡ rowOf (getD vs 0 0) → f ≡ limitsOf (getD row (st .place) 0) → (f .width ≡ widthOf st) × (f .width ≤ 32)
+    pub laid-width :
+        {row : List ℕ} {f : Field}
+        → row ≡ rowOf (getD vs 0 0)
+        → f ≡ limitsOf (getD row place 0)
+        → (f .width ≡ widthOf (stateAt vs i)) × (f .width ≤ 32)
     laid-width {row} er ef =
         let t = laid-sort er in
-        let w = limits-width (getD row (st .place) 0) ef in
-        (w ∙ ap bitsOf (t .0), omega (arith, w, bits-most (getD row (st .place) 0) (t .1)))
+        let w = limits-width (getD row place 0) ef in
+        (w ∙ ap bitsOf (t .0), omega (arith, w, bits-most (getD row place 0) (t .1)))
 
     -- all is laid
     pub laid-end : length vs ≤ i → bytes ≡ lay format vs before 0
     laid-end h =
         let e : i ≡ length vs = omega (arith, c .inside) in
-        sym (ap (λ (us : List ℕ). lay (rest st) us bytes at) (ap (λ (k : ℕ). drop k vs) e ∙ drop-length vs) ∙ lay-nothing (rest st) bytes at) ∙ c .found
+        let r = rest (stateAt vs i) in
+        sym (ap (λ (us : List ℕ). lay r us bytes at) (ap (λ (k : ℕ). drop k vs) e ∙ drop-length vs) ∙ lay-nothing r bytes at) ∙ c .found
 
     module _ (h : i < length vs) where
-      -- there is a field for the value
-      pub laid-goes : (0 < st .left) × (st .place ≤ numberPlace)
-      laid-goes = rw (c .state) (let t = walk vs g i (omega arith) in (some-left vs g i (stateAt vs i) t h, t .goes .inside))
+      goes : Goes (stateAt vs i)
+      goes = walk vs g i (omega arith) .goes
 
-      -- which lies within the frame
-      pub laid-fits : at + widthOf st ≤ size format vs
+      some : 0 < (stateAt vs i) .left
+      some = some-left vs g i (stateAt vs i) (walk vs g i (omega arith)) h
+
+      -- the place is one of the table
+      pub laid-place : place ≤ numberPlace
+      laid-place = omega (arith, c .its-place, goes .inside)
+
+      -- the field lies within the frame
+      pub laid-fits : at + widthOf (stateAt vs i) ≤ size format vs
       laid-fits =
           let f : ℕ → ℕ = λ j. widthOf (stateAt vs j) in
-          let e : widthOf st ≡ f i = ap widthOf (c .state) in
-          omega (arith, c .place, sum-more f i, sized vs g (i + 1) (omega arith))
+          omega (arith, c .bit, sum-more f i, sized vs g (i + 1) (omega arith))
 
-      pub laid-on : {after : List ℕ} {w : ℕ} {next : State} → w ≡ widthOf st → after ≡ putField bytes at w (getD vs i 0) → next ≡ nextOf st (getD vs i 0) → Laid vs before after (i + 1) (at + w) next
+      pub laid-on :
+          {after : List ℕ} {w v next : ℕ}
+          → w ≡ widthOf (stateAt vs i)
+          → v ≡ getD vs i 0
+          → after ≡ putField bytes at w v
+          → next ≡ placeAfter place
+          → Laid vs before after (i + 1) (at + w) next
       unfolding stateAt lay
-      laid-on {after} {w} {next} ew ea en =
+      laid-on {after} {w} {v} {next} ew ev ea en =
           let f : ℕ → ℕ = λ j. widthOf (stateAt vs j) in
-          let v = getD vs i 0 in
+          let st = stateAt vs i in
+          let e : stateAt vs (i + 1) ≡ nextOf st (getD vs i 0) = ap (stateAt vs) (add-one i) in
           record {
-            state = en ∙ ap (λ (s : State). nextOf s v) (c .state) ∙ ap (stateAt vs) (sym (add-one i));
             inside = omega arith;
-            place = omega (arith, c .place, sum-more f i, ew, ap widthOf (c .state));
+            bit = omega (arith, c .bit, sum-more f i, ew);
+            its-place = en ∙ ap placeAfter (c .its-place) ∙ sym (ap (λ (s : State). s .place) e ∙ next-place st (getD vs i 0));
             same = ap length ea ∙ length-putField bytes at w v ∙ c .same;
             found =
-                (λ j. lay (rest (en j)) (drop (add-one i j) vs) ((ea ∙ ap (λ (u : ℕ). putField bytes at u v) ew) j) (at + ew j))
-                ∙ sym (ap₂ (λ (r : Grammar) (us : List ℕ). lay r us bytes at) (rest-one st (rw (c .state) (walk vs g i (omega arith) .goes)) (laid-goes .0)) (drop-cons vs i 0 h))
+                (λ j. lay (rest (e j)) (drop (add-one i j) vs) ((ea ∙ ap₂ (putField bytes at) ew ev) j) (at + ew j))
+                ∙ sym (ap₂ (λ (r : Grammar) (us : List ℕ). lay r us bytes at) (rest-one st goes some) (drop-cons vs i 0 h))
                 ∙ c .found;
           }
 
@@ -129,3 +154,17 @@ frame-over vs d = ap (λ (k : ℕ). lay format vs (zeros k) 0) (d ∙ length-fra
 -- and has room for the fields
 pub size-inside : (vs : List ℕ) {n : ℕ} → n ≡ length (frame format vs) → size format vs ≤ 8 * n
 size-inside vs d = omega (arith, length-frame format vs)
+
+-- how many bytes it has, by the table
+pub length-is :
+    {fixed keys numbers : List ℕ} {entries : ℕ}
+    → Packable fixed keys numbers entries
+    → good format (valuesBy fixed keys numbers entries) ≡ true
+    → {shape : Shape} {n : ℕ}
+    → shape ≡ shapeOf (getD fixed 0 0)
+    → n ≡ lengthBy shape entries
+    → n ≡ length (frame format (valuesBy fixed keys numbers entries))
+length-is {fixed} {keys} {numbers} {entries} p g {shape} es en =
+    let vs = valuesBy fixed keys numbers entries in
+    let said : entries ≡ entriesSaid vs = omega (arith, values-many p, values-length vs g) in
+    en ∙ ap₂ lengthBy (es ∙ ap shapeOf (sym (values-kind p))) said ∙ frame-length vs g

@@ -1,10 +1,11 @@
 -- The table of document 01's section "Frames", by kind.
-use Prim.Native.Nat.{ℕ, _+_, _*_, _/_}
+use Prim.Native.Nat.{ℕ, _+_, _*_}
 use mathlib.Core.List.{List, [], _∷_}
 use mathlib.Core.Bool.{Bool, cond, not, _&&_}
 use lib.Dec.{eqb}
 use lib.ListN.{getD}
 use Rattle.formats.specs.declared.state.Field.{Field}
+use Rattle.formats.specs.declared.table.Shape.{Shape}
 
 -- What a field holds. A kind that lacks a field has `none` there: no bits, and value 0.
 abbrev pub none : ℕ
@@ -100,30 +101,63 @@ sorts = 15
 abbrev pub headerBits : ℕ
 headerBits = 13
 
--- a row: kind, client, target; tag, key's count and client, setpoint or mask, how many entries; of an entry key's count and client, setpoint or mask
-abbrev pub row : ℕ → ℕ → ℕ → ℕ → ℕ → ℕ → ℕ → ℕ → ℕ → List ℕ
-row target t c p x n c′ p′ x′ = kind ∷ client ∷ target ∷ t ∷ c ∷ p ∷ x ∷ n ∷ c′ ∷ p′ ∷ x′ ∷ []
-
+-- The table by kind: "station or head target, fixed body bits, bits per entry".
 -- until the kind is read; set, set done, enter, entered, which keys, keys, get, got, get all, all, get log, log
-abbrev pub table : List (List ℕ)
-table =
-    row server none none none none none none none none
-    ∷ row server none count1 own value none none none none
-    ∷ row server none none none none none none none none
-    ∷ row coord none count1 own mask none none none none
-    ∷ row coord tag1 none none none none none none none
-    ∷ row coord none none none none none none none none
-    ∷ row coord tag none none none keys count of none
-    ∷ row server none count of none none none none none
-    ∷ row server none none none value none none none none
-    ∷ row server none none none none none none none none
-    ∷ row server none none none none less count of value
-    ∷ row coord none none none none none none none none
-    ∷ row coord none none none none less count of mask
+abbrev pub byKind : List (List ℕ)
+byKind =
+    (server ∷ 0 ∷ 0 ∷ [])
+    ∷ (server ∷ 44 ∷ 0 ∷ [])
+    ∷ (server ∷ 0 ∷ 0 ∷ [])
+    ∷ (coord ∷ 28 ∷ 0 ∷ [])
+    ∷ (coord ∷ 8 ∷ 0 ∷ [])
+    ∷ (coord ∷ 0 ∷ 0 ∷ [])
+    ∷ (coord ∷ 13 ∷ 12 ∷ [])
+    ∷ (server ∷ 12 ∷ 0 ∷ [])
+    ∷ (server ∷ 32 ∷ 0 ∷ [])
+    ∷ (server ∷ 0 ∷ 0 ∷ [])
+    ∷ (server ∷ 8 ∷ 44 ∷ [])
+    ∷ (coord ∷ 0 ∷ 0 ∷ [])
+    ∷ (coord ∷ 8 ∷ 28 ∷ [])
     ∷ []
 
+-- a row of it
+abbrev pub shape : List ℕ → Shape
+shape columns = record { target = getD columns 0 0; body = getD columns 1 0; entry = getD columns 2 0 }
+
+abbrev pub shapeOf : ℕ → Shape
+shapeOf kind = shape (getD byKind kind [])
+
+-- Beside the table, which fields make up those bits: of the fixed body tag, key's count and client, setpoint or mask, how many entries;
+-- of an entry key's count and client, setpoint or mask. `row-right` proves that their bits are the table's.
+abbrev pub fields : ℕ → ℕ → ℕ → ℕ → ℕ → ℕ → ℕ → ℕ → List ℕ
+fields t c p x n c′ p′ x′ = t ∷ c ∷ p ∷ x ∷ n ∷ c′ ∷ p′ ∷ x′ ∷ []
+
+abbrev pub bare : List ℕ
+bare = fields none none none none none none none none
+
+abbrev pub bodies : List (List ℕ)
+bodies =
+    bare
+    ∷ fields none count1 own value none none none none
+    ∷ bare
+    ∷ fields none count1 own mask none none none none
+    ∷ fields tag1 none none none none none none none
+    ∷ bare
+    ∷ fields tag none none none keys count of none
+    ∷ fields none count of none none none none none
+    ∷ fields none none none value none none none none
+    ∷ bare
+    ∷ fields none none none none less count of value
+    ∷ bare
+    ∷ fields none none none none less count of mask
+    ∷ []
+
+-- what the fields of a frame hold, place by place: "Header: kind 4 bits, panel 4, target 5", then the body's and an entry's
+abbrev pub rowOf : ℕ → List ℕ
+rowOf k = kind ∷ client ∷ shapeOf k .target ∷ getD bodies k bare
+
 unfoldable pub sortAt : ℕ → ℕ → ℕ
-sortAt kind place = getD (getD table kind []) place none
+sortAt kind place = getD (rowOf kind) place none
 
 -- a field's bits, its least and its greatest value
 abbrev pub limitRow : ℕ → ℕ → ℕ → Field
@@ -182,14 +216,3 @@ valuesFor entries = fixedFields + entryFields * entries
 -- an entry has a setpoint or a mask beside its key
 unfoldable pub hasNumbers : ℕ → Bool
 hasNumbers kind = not (eqb (sortAt kind numberPlace) none)
-
--- the columns "fixed body bits" and "bits per entry"
-abbrev pub bodyBits : List ℕ
-bodyBits = 0 ∷ 44 ∷ 0 ∷ 28 ∷ 8 ∷ 0 ∷ 13 ∷ 12 ∷ 32 ∷ 0 ∷ 8 ∷ 0 ∷ 8 ∷ []
-
-abbrev pub entryBits : List ℕ
-entryBits = 0 ∷ 0 ∷ 0 ∷ 0 ∷ 0 ∷ 0 ∷ 12 ∷ 0 ∷ 0 ∷ 0 ∷ 44 ∷ 0 ∷ 28 ∷ []
-
--- header, body and entries, up to the next byte
-unfoldable pub frameLength : ℕ → ℕ → ℕ
-frameLength kind entries = (headerBits + getD bodyBits kind 0 + entries * getD entryBits kind 0 + 7) / 8

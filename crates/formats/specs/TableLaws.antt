@@ -2,40 +2,42 @@
 use Prim.Native.Nat.{ℕ, zero, suc, _+_, _*_, _≤_, _<_}
 use mathlib.Core.Path.{_≡_, refl, sym, ap, _∙_}
 use mathlib.Core.Bool.{Bool, true, false, cond, not, _&&_}
-use mathlib.Core.List.{List, []}
+use mathlib.Core.List.{List, [], _∷_}
 use native.Mathlib.Nat.{mul-le-mul}
 use native.Mathlib.Omega.{arith}
 use lib.Dec.{eqb, leb, ltb}
 use lib.ListN.{length, getD, List·getD-eq-default}
-use borrow.Author.Tests.{eqb-true, eq-eqb, ne-eqb, leb-true, lt-ltb, le-ltb, ltb-true, ltb-false, not-true}
+use borrow.Author.Tests.{eqb-true, eq-eqb, ne-eqb, leb-true, ltb-true, ltb-false, not-true}
 use Rattle.ranges.specs.Tests.{either, by-test, both-left, both-right}
 use Rattle.ranges.specs.All.{allBelow, all-at}
 use Rattle.formats.specs.declared.state.Field.{Field}
-use Rattle.formats.specs.Table.{bodyPlace, manyPlace, entryPlace, rowPlaces, bodyFields, entryFields, kinds, sorts, headerBits, table, mostEntries, own, of, sortAt, bitsOf, leastOf, mostOf, limitsOf, less, entriesIn, bodyBits, entryBits}
+use Rattle.formats.specs.declared.table.Shape.{Shape}
+use Rattle.formats.specs.Table.{none, own, of, less, bodyPlace, manyPlace, entryPlace, rowPlaces, bodyFields, entryFields, kinds}
+use Rattle.formats.specs.Table.{sorts, headerBits, mostEntries}
+use Rattle.formats.specs.Table.{shape, byKind, shapeOf, bare, bodies, rowOf, sortAt, bitsOf, leastOf, mostOf, limitsOf, entriesIn}
 
 -- the bits of n fields of a kind from a place on
 unfoldable pub bitsFrom : ℕ → ℕ → ℕ → ℕ
 bitsFrom kind place zero = 0
 bitsFrom kind place (suc n) = bitsOf (sortAt kind place) + bitsFrom kind (place + 1) n
 
--- What holds of a row: it has eleven places, the header has 13 bits, the columns "fixed body bits" and "bits per entry" are
--- the sums of the fields' bits, a frame has at most 256 entries, and every row begins with the kind.
+-- What holds of a kind: its fields are eleven, the header has 13 bits, the table's columns "fixed body bits" and "bits per entry" are
+-- the sums of the fields' bits, and a frame has at most 256 entries.
 pub record Row (kind : ℕ) : Type 0 where
-  pub places : length (getD table kind []) ≡ rowPlaces
+  pub places : length (rowOf kind) ≡ rowPlaces
   pub header : bitsFrom kind 0 bodyPlace ≡ headerBits
-  pub body : bitsFrom kind bodyPlace bodyFields ≡ getD bodyBits kind 0
-  pub entry : bitsFrom kind entryPlace entryFields ≡ getD entryBits kind 0
+  pub body : bitsFrom kind bodyPlace bodyFields ≡ shapeOf kind .body
+  pub entry : bitsFrom kind entryPlace entryFields ≡ shapeOf kind .entry
   pub few : limitsOf (sortAt kind manyPlace) .most < mostEntries
   pub plain : eqb (sortAt kind manyPlace) own ≡ false
-  pub begins : sortAt kind 0 ≡ sortAt 0 0
 
 rowRight : ℕ → Bool
 rowRight kind =
-    eqb (length (getD table kind [])) rowPlaces
+    eqb (length (rowOf kind)) rowPlaces
     && (eqb (bitsFrom kind 0 bodyPlace) headerBits
-    && (eqb (bitsFrom kind bodyPlace bodyFields) (getD bodyBits kind 0)
-    && (eqb (bitsFrom kind entryPlace entryFields) (getD entryBits kind 0)
-    && (ltb (limitsOf (sortAt kind manyPlace) .most) mostEntries && (not (eqb (sortAt kind manyPlace) own) && eqb (sortAt kind 0) (sortAt 0 0))))))
+    && (eqb (bitsFrom kind bodyPlace bodyFields) (shapeOf kind .body)
+    && (eqb (bitsFrom kind entryPlace entryFields) (shapeOf kind .entry)
+    && (ltb (limitsOf (sortAt kind manyPlace) .most) mostEntries && not (eqb (sortAt kind manyPlace) own)))))
 
 -- the test
 table-right : allBelow rowRight kinds ≡ true
@@ -46,75 +48,78 @@ pub row-right : (kind : ℕ) → kind < kinds → Row kind
 unfolding rowRight
 row-right kind h =
     let e₀ = all-at rowRight kinds table-right kind h in
-    let e₁ = both-right (eqb (length (getD table kind [])) rowPlaces) _ e₀ in
+    let e₁ = both-right (eqb (length (rowOf kind)) rowPlaces) _ e₀ in
     let e₂ = both-right (eqb (bitsFrom kind 0 bodyPlace) headerBits) _ e₁ in
-    let e₃ = both-right (eqb (bitsFrom kind bodyPlace bodyFields) (getD bodyBits kind 0)) _ e₂ in
-    let e₄ = both-right (eqb (bitsFrom kind entryPlace entryFields) (getD entryBits kind 0)) _ e₃ in
-    let e₅ = both-right (ltb (limitsOf (sortAt kind manyPlace) .most) mostEntries) _ e₄ in
+    let e₃ = both-right (eqb (bitsFrom kind bodyPlace bodyFields) (shapeOf kind .body)) _ e₂ in
+    let e₄ = both-right (eqb (bitsFrom kind entryPlace entryFields) (shapeOf kind .entry)) _ e₃ in
     record {
       places = eqb-true _ _ (both-left _ _ e₀);
       header = eqb-true _ _ (both-left _ _ e₁);
       body = eqb-true _ _ (both-left _ _ e₂);
       entry = eqb-true _ _ (both-left _ _ e₃);
       few = ltb-true _ _ (both-left _ _ e₄);
-      plain = not-true _ (both-left _ _ e₅);
-      begins = eqb-true _ _ (both-right (not (eqb (sortAt kind manyPlace) own)) _ e₅);
+      plain = not-true _ (both-right (ltb (limitsOf (sortAt kind manyPlace) .most) mostEntries) _ e₄);
     }
 
--- beyond the table there are no fields
-pub beyond-kind : (kind place : ℕ) → kinds ≤ kind → 0 ≡ sortAt kind place
-unfolding sortAt
-beyond-kind kind place h = ap (λ (r : List ℕ). getD r place 0) (sym (List·getD-eq-default table [] h))
+-- beyond the table there is the header alone, with no target
+pub shape-none : (kind : ℕ) → kinds ≤ kind → shape [] ≡ shapeOf kind
+shape-none kind h = ap shape (sym (List·getD-eq-default byKind [] h))
 
-pub beyond-place : (kind place : ℕ) → kind < kinds → rowPlaces ≤ place → 0 ≡ sortAt kind place
-unfolding sortAt
-beyond-place kind place h g = sym (List·getD-eq-default (getD table kind []) 0 (let p = row-right kind h .places in omega arith))
+pub body-none : (kind : ℕ) → kinds ≤ kind → bare ≡ getD bodies kind bare
+body-none kind h = sym (List·getD-eq-default bodies bare h)
+
+-- the row of a kind, by its parts
+pub row-by :
+    (kind : ℕ) {target : ℕ} {body : List ℕ}
+    → target ≡ shapeOf kind .target
+    → body ≡ getD bodies kind bare
+    → 1 ∷ 2 ∷ target ∷ body ≡ rowOf kind
+row-by kind e d i = 1 ∷ 2 ∷ e i ∷ d i
+
+row-none : (kind : ℕ) → kinds ≤ kind → 1 ∷ 2 ∷ none ∷ bare ≡ rowOf kind
+row-none kind h = row-by kind (ap (λ (s : Shape). s .target) (shape-none kind h)) (body-none kind h)
 
 -- the bits of the first field, which is the kind
 abbrev pub kindBits : ℕ
 kindBits = 4
 
--- the row of a kind; of a number that is no kind, the row that stands until the kind is read
-unfoldable pub rowOf : ℕ → List ℕ
-rowOf kind = getD table (cond (ltb kind kinds) kind 0) []
-
-pub row-is : (kind : ℕ) → kind < kinds → getD table kind [] ≡ rowOf kind
-unfolding rowOf
-row-is kind h = rw (lt-ltb kind kinds h)
-
-pub row-none : (kind : ℕ) → kinds ≤ kind → getD table 0 [] ≡ rowOf kind
-unfolding rowOf
-row-none kind h = rw (le-ltb kind kinds h)
-
--- it begins with the kind, whatever the number is
-pub row-first : (kind : ℕ) → getD (rowOf kind) 0 0 ≡ sortAt 0 0
+-- a row tells what each field of a frame of the kind holds
+pub row-at : (kind place : ℕ) → getD (rowOf kind) place none ≡ sortAt kind place
 unfolding sortAt
-row-first kind =
-    by-test (ltb kind kinds)
-    (λ e. let h = ltb-true _ _ e in ap (λ (r : List ℕ). getD r 0 0) (sym (row-is kind h)) ∙ row-right kind h .begins)
-    (λ e. ap (λ (r : List ℕ). getD r 0 0) (sym (row-none kind (ltb-false _ _ e))))
+row-at kind place = refl
 
--- and tells what each field of a frame of the kind holds
-pub row-at : (kind place : ℕ) → kind < kinds → getD (rowOf kind) place 0 ≡ sortAt kind place
-unfolding sortAt
-row-at kind place h = ap (λ (r : List ℕ). getD r place 0) (sym (row-is kind h))
+-- each cell is one of the fifteen sorts, also beyond the row
+sort-in :
+    (row : List ℕ)
+    → length row ≡ rowPlaces
+    → allBelow (λ p. ltb (getD row p none) sorts) rowPlaces ≡ true
+    → (place : ℕ)
+    → getD row place none < sorts
+sort-in row l t place =
+    by-test (ltb place rowPlaces)
+    (λ e. ltb-true _ _ (all-at (λ p. ltb (getD row p none) sorts) rowPlaces t place (ltb-true place rowPlaces e)))
+    (λ e.
+    let h : length row ≤ place = omega (arith, ltb-false place rowPlaces e) in
+    let z : getD row place none ≡ none = List·getD-eq-default row none h in
+    omega arith)
 
--- each entry is one of the fifteen sorts, and none of them has more than 32 bits
-pub sort-below : (kind place : ℕ) → kind < kinds → place < rowPlaces → sortAt kind place < sorts
-unfolding allBelow sortAt
-sort-below kind place h g =
-    ltb-true _ _ (all-at (λ p. ltb (sortAt kind p) sorts) rowPlaces (all-at (λ k. allBelow (λ p. ltb (sortAt k p) sorts) rowPlaces) kinds refl kind h) place g)
-
--- also beyond the table
 pub sort-small : (kind place : ℕ) → sortAt kind place < sorts
+unfolding allBelow sortAt
 sort-small kind place =
     by-test (ltb kind kinds)
     (λ e.
-    let h = ltb-true _ _ e in
-    by-test (ltb place rowPlaces)
-    (λ f. sort-below kind place h (ltb-true _ _ f))
-    (λ f. omega (arith, beyond-place kind place h (ltb-false _ _ f))))
-    (λ e. omega (arith, beyond-kind kind place (ltb-false _ _ e)))
+    let h = ltb-true kind kinds e in
+    let t = all-at (λ k. allBelow (λ p. ltb (sortAt k p) sorts) rowPlaces) kinds refl kind h in
+    sort-in (rowOf kind) (row-right kind h .places) t place)
+    (λ e.
+    let header = 1 ∷ 2 ∷ none ∷ bare in
+    let q : sortAt kind place ≡ getD header place none =
+    ap (λ (r : List ℕ). getD r place none) (sym (row-none kind (ltb-false kind kinds e))) in
+    omega (arith, q, sort-in header refl refl place))
+
+-- a number that is none of those below the next is beyond them, as the last arm of a `match` meets it
+pub past : (n k : ℕ) → n ≤ k → (k ≡ n → ⊥) → suc n ≤ k
+past n k h d = omega arith
 
 pub limits-width : (sort : ℕ) {f : Field} → f ≡ limitsOf sort → f .width ≡ bitsOf sort
 unfolding bitsOf
@@ -128,11 +133,11 @@ bits-most sort h = leb-true _ _ (all-at (λ s. leb (bitsOf s) 32) sorts refl sor
 abbrev pub mostColumn : ℕ
 mostColumn = 44
 
-pub columns-small : (kind : ℕ) → kind < kinds → (getD bodyBits kind 0 ≤ mostColumn) × (getD entryBits kind 0 ≤ mostColumn)
+pub columns-small : (kind : ℕ) → kind < kinds → (shapeOf kind .body ≤ mostColumn) × (shapeOf kind .entry ≤ mostColumn)
 unfolding allBelow
 columns-small kind h =
-    let e = all-at (λ k. leb (getD bodyBits k 0) mostColumn && leb (getD entryBits k 0) mostColumn) kinds refl kind h in
-    (leb-true _ _ (both-left _ _ e), leb-true _ _ (both-right (leb (getD bodyBits kind 0) mostColumn) _ e))
+    let e = all-at (λ k. leb (shapeOf k .body) mostColumn && leb (shapeOf k .entry) mostColumn) kinds refl kind h in
+    (leb-true _ _ (both-left _ _ e), leb-true _ _ (both-right (leb (shapeOf kind .body) mostColumn) _ e))
 
 -- a value that says how many entries there are is below the most
 pub few-entries : (kind client before : ℕ) → mostOf (sortAt kind manyPlace) client before < mostEntries
@@ -142,7 +147,10 @@ few-entries kind client before =
     (λ e.
     let r = row-right kind (ltb-true _ _ e) in
     rw (r .plain) (either (λ n. n < mostEntries) (eqb (sortAt kind manyPlace) of && eqb before 0) (omega arith) (r .few)))
-    (λ e. rw (← beyond-kind kind manyPlace (ltb-false _ _ e)) (omega arith))
+    (λ e.
+    let z : sortAt kind manyPlace ≡ none =
+    sym (row-at kind manyPlace) ∙ ap (λ (r : List ℕ). getD r manyPlace none) (sym (row-none kind (ltb-false _ _ e))) in
+    rw z (omega arith))
 
 -- the cases of the limits, as the code meets them: `plain` is the one that stands for the sort
 module _ (sort client before : ℕ) where
@@ -181,5 +189,5 @@ unfolding entriesIn
 entries-most kind v = either (λ n. n ≤ v + 1) (eqb (sortAt kind manyPlace) less) (omega arith) (omega arith)
 
 -- the bits of the most entries that there can be are not too many
-pub entries-fit : (kind n : ℕ) → kind < kinds → n ≤ mostEntries → n * getD entryBits kind 0 ≤ mostEntries * mostColumn
+pub entries-fit : (kind n : ℕ) → kind < kinds → n ≤ mostEntries → n * shapeOf kind .entry ≤ mostEntries * mostColumn
 entries-fit kind n h l = mul-le-mul l (columns-small kind h .1)

@@ -14,7 +14,9 @@ use Rattle.ranges.specs.Tests.{by-equal, by-test, both-left, both-right}
 use Rattle.ranges.specs.Sum.{sumBelow, sum-more}
 use Rattle.formats.specs.declared.state.State.{State}
 use Rattle.formats.specs.Grammar.{Grammar, good, size, frame}
-use Rattle.formats.specs.Table.{manyPlace, entryPlace, ownerPlace, numberPlace, entryFields, kinds, headerBits, mostEntries, sortAt, bitsOf, mostOf, entriesIn, entriesSaid, valuesFor, bodyBits, entryBits, frameLength}
+use Rattle.formats.specs.Columns.{lengthBy}
+use Rattle.formats.specs.Table.{manyPlace, entryPlace, ownerPlace, numberPlace, entryFields, kinds, headerBits, mostEntries}
+use Rattle.formats.specs.Table.{sortAt, bitsOf, mostOf, shapeOf, entriesIn, entriesSaid, valuesFor}
 use Rattle.formats.specs.TableLaws.{row-right, bitsFrom, few-entries, entries-most}
 use Rattle.formats.specs.Format.{sortOf, widthOf, allowed, nextOf, start, format}
 use Rattle.formats.specs.FormatLaws.{Rowed, rowed-start, rest, rest-start, rest-one, rest-end, next-place, next-left, next-kind, place-last, place-inner, left-entries, left-one-less, at-most}
@@ -89,6 +91,10 @@ module _ (vs : List ℕ) where
       next-left st v ∙ sym (left-entries st v (walk-place i ∙ place-early i (omega arith) ∙ e) refl) ∙ omega arith)
       (λ d.
       next-left st v ∙ sym (left-one-less st v (λ e. omega (arith, walk-place i, place-late i (omega arith)))) ∙ omega (arith, walk-left i (omega arith)))
+
+-- the bit where value i begins
+abbrev pub firstBit : List ℕ → ℕ → ℕ
+firstBit vs i = sumBelow (λ j. widthOf (stateAt vs j)) i
 
 -- What holds of a frame's values.
 module _ (vs : List ℕ) (g : good format vs ≡ true) where
@@ -175,7 +181,7 @@ module _ (vs : List ℕ) (g : good format vs ≡ true) where
   walk-rowed (suc i) =
       record {
         first = λ e. absurd (place-some vs (suc i) (omega arith) (sym (walk-place vs (suc i)) ∙ e));
-        later = λ d. (walk-kind vs (suc i) (omega arith), kind-below);
+        later = λ d. walk-kind vs (suc i) (omega arith);
       }
 
   -- the width of each value, by the table
@@ -185,11 +191,11 @@ module _ (vs : List ℕ) (g : good format vs ≡ true) where
   width-at : (i p : ℕ) → 0 < i → placeAt i ≡ p → widthOf (stateAt vs i) ≡ bitsOf (sortAt (getD vs 0 0) p)
   width-at i p h e = value-width i h ∙ ap (λ (q : ℕ). bitsOf (sortAt (getD vs 0 0) q)) e
 
-  fixed-bits : sumBelow (λ j. widthOf (stateAt vs j)) entryPlace ≡ headerBits + getD bodyBits (getD vs 0 0) 0
-  unfolding sumBelow bitsFrom stateAt
+  fixed-bits : sumBelow (λ j. widthOf (stateAt vs j)) entryPlace ≡ headerBits + shapeOf (getD vs 0 0) .body
+  unfolding sumBelow bitsFrom stateAt sortAt
   fixed-bits =
       let r = row-right (getD vs 0 0) kind-below in
-      let w₀ : widthOf start ≡ bitsOf (sortAt (getD vs 0 0) 0) = ap bitsOf (sym (r .begins)) in
+      let w₀ : widthOf start ≡ bitsOf (sortAt (getD vs 0 0) 0) = refl in
       let w : (i : ℕ) → 0 < i → i < entryPlace → widthOf (stateAt vs i) ≡ bitsOf (sortAt (getD vs 0 0) i) = λ i h l. width-at i i h (place-early i l) in
       omega (
         arith,
@@ -204,7 +210,7 @@ module _ (vs : List ℕ) (g : good format vs ≡ true) where
         w manyPlace (omega arith) (omega arith),
       )
 
-  entry-bits : (m : ℕ) → sumBelow (λ j. widthOf (stateAt vs j)) (valuesFor m) ≡ sumBelow (λ j. widthOf (stateAt vs j)) entryPlace + m * bitsFrom (getD vs 0 0) entryPlace entryFields
+  entry-bits : (m : ℕ) → firstBit vs (valuesFor m) ≡ firstBit vs entryPlace + m * bitsFrom (getD vs 0 0) entryPlace entryFields
   unfolding bitsFrom
   entry-bits zero = omega arith
   entry-bits (suc m) =
@@ -220,17 +226,20 @@ module _ (vs : List ℕ) (g : good format vs ≡ true) where
       let w₂ : f (k + 1 + 1) ≡ bitsOf (sortAt kind numberPlace) = width-at (k + 1 + 1) numberPlace (omega arith) (place-late (k + 1 + 1) (omega arith) ∙ omega arith) in
       ap (sumBelow f) q ∙ rw (suc-mul m (bitsFrom kind entryPlace entryFields)) (omega (arith, entry-bits m))
 
+  -- where entry m begins
+  pub entry-first : (m : ℕ) → firstBit vs (valuesFor m) ≡ headerBits + shapeOf (getD vs 0 0) .body + m * shapeOf (getD vs 0 0) .entry
+  entry-first m =
+      let b : m * bitsFrom (getD vs 0 0) entryPlace entryFields ≡ m * shapeOf (getD vs 0 0) .entry =
+      ap (λ (n : ℕ). m * n) (row-right (getD vs 0 0) kind-below .entry) in
+      omega (arith, entry-bits m, fixed-bits)
+
   -- the bits of a frame: 13 of the header, the fixed body's, and each entry's
-  pub frame-bits : size format vs ≡ headerBits + getD bodyBits (getD vs 0 0) 0 + entriesSaid vs * getD entryBits (getD vs 0 0) 0
-  frame-bits =
-      let f : ℕ → ℕ = λ j. widthOf (stateAt vs j) in
-      let e : sumBelow f (valuesFor (entriesSaid vs)) ≡ size format vs = ap (sumBelow f) (sym values-length) ∙ total in
-      let b : entriesSaid vs * bitsFrom (getD vs 0 0) entryPlace entryFields ≡ entriesSaid vs * getD entryBits (getD vs 0 0) 0 = ap (λ (n : ℕ). entriesSaid vs * n) (row-right (getD vs 0 0) kind-below .entry) in
-      omega (arith, entry-bits (entriesSaid vs), fixed-bits)
+  pub frame-bits : size format vs ≡ headerBits + shapeOf (getD vs 0 0) .body + entriesSaid vs * shapeOf (getD vs 0 0) .entry
+  frame-bits = sym (ap (firstBit vs) (sym values-length) ∙ total) ∙ entry-first (entriesSaid vs)
 
   -- so that the table tells its length
-  pub frame-length : frameLength (getD vs 0 0) (entriesSaid vs) ≡ length (frame format vs)
-  unfolding frameLength
+  pub frame-length : lengthBy (shapeOf (getD vs 0 0)) (entriesSaid vs) ≡ length (frame format vs)
+  unfolding lengthBy
   frame-length = sym (length-frame format vs ∙ ap (λ (n : ℕ). (n + 7) / 8) frame-bits)
 
   -- no more entries than there can be

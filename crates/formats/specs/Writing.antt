@@ -109,9 +109,13 @@ module _ (values : List ℕ) (i : ℕ) (st : State) (c : Tested values i st) whe
           }
 
 -- the walk with the row of the first value's kind
-module _ (values : List ℕ) (i : ℕ) (st : State) where
-  pub rowed-on : {next : State} → Rowed (getD values 0 0) i st → allowed st (getD values i 0) ≡ true → next ≡ nextOf st (getD values i 0) → Rowed (getD values 0 0) (i + 1) next
-  rowed-on r a en = rw en (rowed-next (getD values 0 0) i st r (i + 1) (getD values i 0) a (λ e. ap (λ (k : ℕ). getD values k 0) (r .first e .1)))
+pub rowed-on :
+    (values : List ℕ) (i : ℕ) (st : State) {next : State}
+    → Rowed (getD values 0 0) i st
+    → next ≡ nextOf st (getD values i 0)
+    → Rowed (getD values 0 0) (i + 1) next
+rowed-on values i st r en =
+    rw en (rowed-next (getD values 0 0) i st r (i + 1) (getD values i 0) (λ e. ap (λ (k : ℕ). getD values k 0) (r .first e)))
 
 -- the test of a state's field, as the code makes it
 pub allows-is : (st : State) (v : ℕ) {f : Field} {r : Bool} → f ≡ fieldOf st → r ≡ (ltb v (2 ^ f .width) && within f v) → r ≡ (ltb v (2 ^ widthOf st) && allowed st v)

@@ -1,12 +1,18 @@
-// From bytes to values: field by field, until the first fault.
+// From bytes to values: field by field, until the first fault. Only the fixed values are kept; the entries are judged where they stand.
 use crate::state;
 use crate::state::Field;
 use crate::table;
+use crate::table::FIXED_FIELDS;
 ghost use mathlib.Core.Path.{_≡_};
+ghost use mathlib.Core.Bool.{cond};
 ghost use Prim.Native.Nat.{_*_, _≤_};
-ghost use lib.ListN.{length};
-ghost use Rattle.formats.specs.Format.{mostValues, mostBits};
-ghost use Rattle.formats.specs.Reading.{tookAt, endFault, Scanned};
+ghost use lib.Dec.{ltb};
+ghost use lib.ListN.{length, set};
+ghost use Rattle.formats.specs.Grammar.{fault, read};
+ghost use Rattle.formats.specs.Columns.{mostBits};
+ghost use Rattle.formats.specs.Table.{fixedFields};
+ghost use Rattle.formats.specs.Format.{format};
+ghost use Rattle.formats.specs.Reading.{tookAt, endFault, scanOf};
 
 // A field as it was read: its value, and what is wrong with it.
 pub struct Took {
@@ -60,23 +66,42 @@ fn finish(bytes: &[u8], at: usize) -> u8
     11
 }
 
-// As many values as a frame can have: those of the most entries.
-pub const MOST_VALUES: usize = table::FIXED_FIELDS + table::ENTRY_FIELDS * table::MOST_ENTRIES;
-
-// What reading found: the number that refuses the bytes, or 0 and how many values there are.
+// What reading found: the number that refuses the bytes, or 0, how many values there are and the fixed ones.
 pub struct Scan {
     pub fault: u8,
     pub fields: usize,
+    pub fixed: [u32; FIXED_FIELDS],
 }
 
-// The values of a frame, in order, into a row that has room for those of the longest. Where the bytes are refused the row holds what came before the fault.
-// The kind is read ahead of the other fields, so that its row of the table is taken once.
-pub fn read_values(bytes: &[u8], values: &mut [u32]) -> Scan
-    requires { ⌜ length (now values) ≡ mostValues ⌝ }
-    ensures { λ r. ⌜ Scanned (now (bytes .entry)) (now (values .exit)) r ⌝ }
+fn refused(number: u8) -> Scan
+    ensures { λ r. ⌜ r ≡ scanOf (fault number) ⌝ }
+{
+    let none = [0u32; FIXED_FIELDS];
+    Scan {
+        fault: number,
+        fields: 0,
+        fixed: none,
+    }
+}
+
+// Keeps value i where it is a fixed one.
+fn keep(fixed: &mut [u32; FIXED_FIELDS], i: usize, value: u32)
+    ensures { λ _. ⌜ now (fixed .exit) ≡ cond (ltb i fixedFields) (set (now (fixed .entry)) i value) (now (fixed .entry)) ⌝ }
+{
+    if i < FIXED_FIELDS {
+        fixed[i] = value;
+        return;
+    }
+}
+
+// What a frame's bytes hold. The kind is read ahead of the other fields, so that its row of the table is taken once.
+pub fn scan_frame(bytes: &[u8]) -> Scan
+    ensures { λ r. ⌜ r ≡ scanOf (read format (now (bytes .entry)) 0) ⌝ }
 {
     let kind = fields::read_field(bytes, 0, table::KIND_BITS);
-    let row = table::row_of(kind);
+    let shape = table::shape_of(kind);
+    let row = table::row_of(kind, shape.target);
+    let mut fixed = [0u32; FIXED_FIELDS];
     let mut state = state::first();
     let mut at: usize = 0;
     let mut i: usize = 0;
@@ -85,22 +110,23 @@ pub fn read_values(bytes: &[u8], values: &mut [u32]) -> Scan
         let sort = row[place];
         let field = state::field_at(sort, state);
         let took = take(bytes, at, field);
-        let fault = took.fault;
+        let number = took.fault;
         let value = took.value;
-        if fault != 0 {
-            return Scan {
-                fault: fault,
-                fields: 0,
-            };
+        if number != 0 {
+            return refused(number);
         }
-        values[i] = value;
+        keep(&mut fixed, i, value);
         at += field.width;
         i += 1;
         state = state::next(sort, state, value);
     }
-    let fault = finish(bytes, at);
+    let number = finish(bytes, at);
+    if number != 0 {
+        return refused(number);
+    }
     Scan {
-        fault: fault,
+        fault: 0,
         fields: i,
+        fixed: fixed,
     }
 }

@@ -5,7 +5,7 @@ ghost use Prim.Native.Nat.{_<_, _≤_};
 ghost use mathlib.Core.Bool.{cond};
 ghost use lib.Dec.{eqb};
 ghost use Rattle.formats.specs.Table.{numberPlace, sorts};
-ghost use Rattle.formats.specs.Format.{sortOf, fieldOf, leftAfter, nextOf, start};
+ghost use Rattle.formats.specs.Format.{sortOf, fieldOf, leftAfter, placeAfter, nextOf, start};
 
 // A field: its bits, and the least and the greatest value that it may have.
 pub struct Field {
@@ -70,6 +70,17 @@ fn left_after(sort: u8, state: State, value: u32) -> usize
     state.left - 1
 }
 
+// The place behind a place: behind an entry's last field comes the next entry's first.
+pub fn place_after(place: usize) -> usize
+    requires { ⌜ place ≤ numberPlace ⌝ }
+    ensures { λ r. ⌜ r ≡ placeAfter place ⌝ }
+{
+    if place == table::NUMBER {
+        return table::ENTRY;
+    }
+    place + 1
+}
+
 // The state behind a field with this value; `sort` is what the field holds.
 pub fn next(sort: u8, state: State, value: u32) -> State
     requires { ⌜ (0 < state .left) × (state .place ≤ numberPlace) × (sort ≡ sortOf state) ⌝ }
@@ -79,20 +90,12 @@ pub fn next(sort: u8, state: State, value: u32) -> State
     let kind = taken_at(0, place, value, state.kind);
     let client = taken_at(1, place, value, state.client);
     let left = left_after(sort, state, value);
-    if place == table::NUMBER {
-        return State {
-            kind: kind,
-            client: client,
-            before: value,
-            left: left,
-            place: table::ENTRY,
-        };
-    }
+    let after = place_after(place);
     State {
         kind: kind,
         client: client,
         before: value,
         left: left,
-        place: place + 1,
+        place: after,
     }
 }

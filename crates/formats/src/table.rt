@@ -4,11 +4,11 @@ ghost use mathlib.Core.Path.{_≡_};
 ghost use Prim.Native.Nat.{_+_, _<_, _≤_};
 ghost use mathlib.Core.Bool.{cond};
 ghost use lib.Dec.{eqb};
-ghost use Rattle.formats.specs.Table.{kinds, sorts, less, limitsOf, mostEntries, sortAt, leastOf, mostOf, hasNumbers, frameLength};
-ghost use Rattle.formats.specs.TableLaws.{rowOf};
+ghost use Rattle.formats.specs.Table.{sorts, less, limitsOf, mostEntries, shapeOf, rowOf, leastOf, mostOf, hasNumbers};
+ghost use Rattle.formats.specs.Columns.{lengthBy, mostBits, firstColumn, nextColumn};
 
 // What a field holds. NO: the kind has no such field; it then has no bits and the value 0.
-const NO: u8 = 0;
+pub const NO: u8 = 0;
 
 const KIND: u8 = 1;
 
@@ -63,53 +63,76 @@ const HEADER_BITS: usize = 13;
 // The bits of the first field, which is the kind.
 pub const KIND_BITS: usize = 4;
 
-// By kind, from 0: kind, client, target; of the fixed body tag, key's count and client, setpoint or mask, how many entries;
-// of each entry key's count and client, setpoint or mask.
-const FORMAT: [[u8; PLACES]; KINDS] = [
-    [KIND, CLIENT, SERVER, NO, NO, NO, NO, NO, NO, NO, NO], // until the kind is read
-    [KIND, CLIENT, SERVER, NO, COUNT1, OWN, VALUE, NO, NO, NO, NO], // 1 set
-    [KIND, CLIENT, SERVER, NO, NO, NO, NO, NO, NO, NO, NO], // 2 set done
-    [KIND, CLIENT, COORD, NO, COUNT1, OWN, MASK, NO, NO, NO, NO], // 3 enter
-    [KIND, CLIENT, COORD, TAG1, NO, NO, NO, NO, NO, NO, NO], // 4 entered
-    [KIND, CLIENT, COORD, NO, NO, NO, NO, NO, NO, NO, NO], // 5 which keys
-    [KIND, CLIENT, COORD, TAG, NO, NO, NO, KEYS, COUNT, OF, NO], // 6 keys
-    [KIND, CLIENT, SERVER, NO, COUNT, OF, NO, NO, NO, NO, NO], // 7 get
-    [KIND, CLIENT, SERVER, NO, NO, NO, VALUE, NO, NO, NO, NO], // 8 got
-    [KIND, CLIENT, SERVER, NO, NO, NO, NO, NO, NO, NO, NO], // 9 get all
-    [KIND, CLIENT, SERVER, NO, NO, NO, NO, LESS, COUNT, OF, VALUE], // 10 all
-    [KIND, CLIENT, COORD, NO, NO, NO, NO, NO, NO, NO, NO], // 11 get log
-    [KIND, CLIENT, COORD, NO, NO, NO, NO, LESS, COUNT, OF, MASK], // 12 log
+// The table by kind, from 0: station or head target, fixed body bits, bits per entry.
+// A constant array is built on the stack where it is used, so it is small and looked at once for a frame.
+const BY_KIND: [[u8; 3]; KINDS] = [
+    [SERVER, 0, 0], // until the kind is read
+    [SERVER, 44, 0], // 1 set
+    [SERVER, 0, 0], // 2 set done
+    [COORD, 28, 0], // 3 enter
+    [COORD, 8, 0], // 4 entered
+    [COORD, 0, 0], // 5 which keys
+    [COORD, 13, 12], // 6 keys
+    [SERVER, 12, 0], // 7 get
+    [SERVER, 32, 0], // 8 got
+    [SERVER, 0, 0], // 9 get all
+    [SERVER, 8, 44], // 10 all
+    [COORD, 0, 0], // 11 get log
+    [COORD, 8, 28], // 12 log
 ];
 
-// By kind: the bits of the fixed body, and of each entry.
-const BODY_BITS: [usize; KINDS] = [0, 44, 0, 28, 8, 0, 13, 12, 32, 0, 8, 0, 8];
-
-const ENTRY_BITS: [usize; KINDS] = [0, 0, 0, 0, 0, 0, 12, 0, 0, 0, 44, 0, 28];
-
-// What the fields of a frame of this kind hold, place by place; where there is no such kind, the row that stands until the kind is read.
-// Taken once for a frame, since the whole table is built on the stack where it is used.
-pub fn row_of(kind: u32) -> [u8; PLACES]
-    ensures { λ r. ⌜ r ≡ rowOf kind ⌝ }
-{
-    let row = kind as usize;
-    if KINDS <= row {
-        return FORMAT[0];
-    }
-    FORMAT[row]
+// A row of it.
+pub struct Shape {
+    pub target: u8,
+    pub body: u8,
+    pub entry: u8,
 }
 
-// What the field at a place of a frame of this kind holds.
-pub fn sort_at(kind: u32, place: usize) -> u8
-    ensures { λ r. ⌜ (r ≡ sortAt kind place) × (r < sorts) ⌝ }
+fn columns(target: u8, body: u8, entry: u8) -> Shape
+    ensures { λ r. ⌜ r ≡ record { target = target; body = body; entry = entry } ⌝ }
+{
+    Shape {
+        target: target,
+        body: body,
+        entry: entry,
+    }
+}
+
+// The row of a kind; where there is no such kind, a row of nothing.
+pub fn shape_of(kind: u32) -> Shape
+    ensures { λ r. ⌜ r ≡ shapeOf kind ⌝ }
 {
     let row = kind as usize;
     if KINDS <= row {
-        return NO;
+        return columns(NO, 0, 0);
     }
-    if PLACES <= place {
-        return NO;
+    let cells = BY_KIND[row];
+    columns(cells[0], cells[1], cells[2])
+}
+
+// What the fields of a frame of this kind hold, place by place: kind, client, and target, which is the table's. Then, beside the table,
+// which fields make up the bits that it gives: of the fixed body tag, key's count and client, setpoint or mask, how many entries; of each
+// entry key's count and client, setpoint or mask. Where there is no such kind, no field follows the header.
+// It is a `match` since a constant array of so many rows would be built on the stack anew for each frame.
+pub fn row_of(kind: u32, target: u8) -> [u8; PLACES]
+    requires { ⌜ target ≡ shapeOf kind .target ⌝ }
+    ensures { λ r. ⌜ r ≡ rowOf kind ⌝ }
+{
+    match kind {
+        1 => [KIND, CLIENT, target, NO, COUNT1, OWN, VALUE, NO, NO, NO, NO],
+        2 => [KIND, CLIENT, target, NO, NO, NO, NO, NO, NO, NO, NO],
+        3 => [KIND, CLIENT, target, NO, COUNT1, OWN, MASK, NO, NO, NO, NO],
+        4 => [KIND, CLIENT, target, TAG1, NO, NO, NO, NO, NO, NO, NO],
+        5 => [KIND, CLIENT, target, NO, NO, NO, NO, NO, NO, NO, NO],
+        6 => [KIND, CLIENT, target, TAG, NO, NO, NO, KEYS, COUNT, OF, NO],
+        7 => [KIND, CLIENT, target, NO, COUNT, OF, NO, NO, NO, NO, NO],
+        8 => [KIND, CLIENT, target, NO, NO, NO, VALUE, NO, NO, NO, NO],
+        9 => [KIND, CLIENT, target, NO, NO, NO, NO, NO, NO, NO, NO],
+        10 => [KIND, CLIENT, target, NO, NO, NO, NO, LESS, COUNT, OF, VALUE],
+        11 => [KIND, CLIENT, target, NO, NO, NO, NO, NO, NO, NO, NO],
+        12 => [KIND, CLIENT, target, NO, NO, NO, NO, LESS, COUNT, OF, MASK],
+        _ => [KIND, CLIENT, target, NO, NO, NO, NO, NO, NO, NO, NO],
     }
-    FORMAT[row][place]
 }
 
 // A row of the table of sorts.
@@ -190,17 +213,49 @@ pub fn entries_in(sort: u8, value: u32) -> usize
 pub fn has_numbers(kind: u32) -> bool
     ensures { λ r. ⌜ r ≡ hasNumbers kind ⌝ }
 {
-    sort_at(kind, NUMBER) != NO
+    let shape = shape_of(kind);
+    let row = row_of(kind, shape.target);
+    row[NUMBER] != NO
 }
 
 // As many entries as a frame can have.
 pub const MOST_ENTRIES: usize = 256;
 
-// How many bytes a frame of this kind has, with its padding.
-pub fn frame_length(kind: u32, entries: usize) -> usize
-    requires { ⌜ (kind < kinds) × (entries ≤ mostEntries) ⌝ }
-    ensures { λ r. ⌜ r ≡ frameLength kind entries ⌝ }
+// How many bytes a frame of a kind of this shape has, with its padding.
+pub fn frame_length(shape: Shape, entries: usize) -> usize
+    requires { ⌜ entries ≤ mostEntries ⌝ }
+    ensures { λ r. ⌜ r ≡ lengthBy shape entries ⌝ }
 {
-    let row = kind as usize;
-    (HEADER_BITS + BODY_BITS[row] + entries * ENTRY_BITS[row] + 7) / 8
+    (HEADER_BITS + shape.body as usize + entries * shape.entry as usize + 7) / 8
+}
+
+// Where a field of the entries stands: its bit in the first entry, the bits from entry to entry, and its own.
+pub struct Column {
+    pub first: usize,
+    pub stride: usize,
+    pub width: usize,
+}
+
+// Ahead of the first field of the entries; no field yet.
+pub fn first_column(shape: Shape) -> Column
+    ensures { λ r. ⌜ r ≡ firstColumn shape ⌝ }
+{
+    Column {
+        first: HEADER_BITS + shape.body as usize,
+        stride: shape.entry as usize,
+        width: 0,
+    }
+}
+
+// The field behind a field of the entries; `sort` is what it holds.
+pub fn next_column(before: Column, sort: u8) -> Column
+    requires { ⌜ (sort < sorts) × (before .first ≤ mostBits) × (before .width ≤ 32) ⌝ }
+    ensures { λ r. ⌜ r ≡ nextColumn before sort ⌝ }
+{
+    let limits = limits_of(sort);
+    Column {
+        first: before.first + before.width,
+        stride: before.stride,
+        width: limits.width,
+    }
 }

@@ -1,17 +1,23 @@
 // From values to bytes: all values are tested before the first byte is written.
+use crate::entries;
 use crate::state;
 use crate::state::Field;
 use crate::table;
+use crate::table::ENTRY_FIELDS;
+use crate::table::FIXED_FIELDS;
 use crate::table::PLACES;
 ghost use mathlib.Core.Path.{_≡_};
-ghost use Prim.Native.Nat.{_*_, _^_, _≤_};
-ghost use mathlib.Core.Bool.{true, _&&_};
+ghost use Prim.Native.Nat.{_^_, _≤_};
+ghost use mathlib.Core.Bool.{_&&_};
 ghost use lib.Dec.{ltb};
 ghost use lib.ListN.{length, getD};
-ghost use Rattle.formats.specs.Grammar.{good, size, lay, zeros, frame};
-ghost use Rattle.formats.specs.TableLaws.{rowOf};
+ghost use Rattle.formats.specs.Grammar.{good, lay, zeros};
+ghost use Rattle.formats.specs.Table.{rowOf};
 ghost use Rattle.formats.specs.Format.{within, format};
+ghost use Rattle.formats.specs.Entries.{valuesBy};
+ghost use Rattle.formats.specs.Columns.{Packable};
 ghost use Rattle.formats.specs.Writing.{wroteOf, bytesAfter};
+ghost use Rattle.formats.specs.Laying.{Layable};
 
 // Whether a value fits a width.
 fn fits_in(value: u32, width: usize) -> bool
@@ -38,28 +44,26 @@ fn allows(field: Field, value: u32) -> bool
     value <= field.most
 }
 
-// The kind that values begin with, 0 where there are none.
-fn kind_of(values: &[u32]) -> u32
-    ensures { λ r. ⌜ r ≡ getD (now (values .entry)) 0 0 ⌝ }
-{
-    if values.len() == 0 {
-        return 0;
-    }
-    values[0]
-}
-
 // Whether the values are those of a frame; `row` is what the fields of their kind hold.
-fn writable(row: &[u8; PLACES], values: &[u32]) -> bool
-    requires { ⌜ now row ≡ rowOf (getD (now values) 0 0) ⌝ }
-    ensures { λ r. ⌜ r ≡ good format (now (values .entry)) ⌝ }
+fn writable(
+    row: &[u8; PLACES],
+    fixed: &[u32; FIXED_FIELDS],
+    keys: &[u32],
+    numbers: &[u32],
+    entries: usize,
+) -> bool
+    requires { ⌜ (now row ≡ rowOf (getD (now fixed) 0 0)) × Packable (now fixed) (now keys) (now numbers) entries ⌝ }
+    ensures { λ r. ⌜ r ≡ good format (valuesBy (now (fixed .entry)) (now (keys .entry)) (now (numbers .entry)) entries) ⌝ }
 {
+    let numbered = row[table::NUMBER] != table::NO;
+    let count = FIXED_FIELDS + ENTRY_FIELDS * entries;
     let mut state = state::first();
     let mut i: usize = 0;
     while 0 < state.left {
-        if values.len() <= i {
+        if count <= i {
             return false;
         }
-        let value = values[i];
+        let value = entries::value_at(fixed, numbered, keys, numbers, i);
         let place = state.place;
         let sort = row[place];
         let field = state::field_at(sort, state);
@@ -69,7 +73,7 @@ fn writable(row: &[u8; PLACES], values: &[u32]) -> bool
         state = state::next(sort, state, value);
         i += 1;
     }
-    i == values.len()
+    i == count
 }
 
 fn clear(bytes: &mut [u8])
@@ -83,33 +87,51 @@ fn clear(bytes: &mut [u8])
 }
 
 // The fields of a frame's values, one behind the other.
-fn lay_fields(row: &[u8; PLACES], values: &[u32], bytes: &mut [u8])
-    requires { ⌜ (now row ≡ rowOf (getD (now values) 0 0)) × (good format (now values) ≡ true) × (size format (now values) ≤ 8 * length (now bytes)) ⌝ }
-    ensures { λ _. ⌜ now (bytes .exit) ≡ lay format (now (values .entry)) (now (bytes .entry)) 0 ⌝ }
+fn lay_fields(
+    row: &[u8; PLACES],
+    fixed: &[u32; FIXED_FIELDS],
+    keys: &[u32],
+    numbers: &[u32],
+    entries: usize,
+    bytes: &mut [u8],
+)
+    requires { ⌜ Layable (now row) (now fixed) (now keys) (now numbers) entries (length (now bytes)) ⌝ }
+    ensures { λ _. ⌜ now (bytes .exit)
+        ≡ lay format (valuesBy (now (fixed .entry)) (now (keys .entry)) (now (numbers .entry)) entries) (now (bytes .entry)) 0 ⌝ }
 {
-    let mut state = state::first();
+    let numbered = row[table::NUMBER] != table::NO;
+    let count = FIXED_FIELDS + ENTRY_FIELDS * entries;
+    let mut place: usize = 0;
     let mut at: usize = 0;
     let mut i: usize = 0;
-    while i < values.len() {
-        let value = values[i];
-        let place = state.place;
+    while i < count {
+        let value = entries::value_at(fixed, numbered, keys, numbers, i);
         let sort = row[place];
         let limits = table::limits_of(sort);
         let width = limits.width;
         fields::write_field(bytes, at, width, value);
         at += width;
         i += 1;
-        state = state::next(sort, state, value);
+        place = state::place_after(place);
     }
 }
 
 // The frame of the values over zero bits.
-fn fill(row: &[u8; PLACES], values: &[u32], bytes: &mut [u8])
-    requires { ⌜ (now row ≡ rowOf (getD (now values) 0 0)) × (good format (now values) ≡ true) × (size format (now values) ≤ 8 * length (now bytes)) ⌝ }
-    ensures { λ _. ⌜ now (bytes .exit) ≡ lay format (now (values .entry)) (zeros (length (now (bytes .entry)))) 0 ⌝ }
+fn fill(
+    row: &[u8; PLACES],
+    fixed: &[u32; FIXED_FIELDS],
+    keys: &[u32],
+    numbers: &[u32],
+    entries: usize,
+    bytes: &mut [u8],
+)
+    requires { ⌜ Layable (now row) (now fixed) (now keys) (now numbers) entries (length (now bytes)) ⌝ }
+    ensures { λ _. ⌜ now (bytes .exit)
+        ≡ lay format (valuesBy (now (fixed .entry)) (now (keys .entry)) (now (numbers .entry)) entries)
+        (zeros (length (now (bytes .entry)))) 0 ⌝ }
 {
     clear(bytes);
-    lay_fields(row, values, bytes);
+    lay_fields(row, fixed, keys, numbers, entries, bytes);
 }
 
 // What writing did: the number that refuses it, or 0 and the frame's length in bytes.
@@ -118,37 +140,39 @@ pub struct Wrote {
     pub length: usize,
 }
 
-// The frame of the values at the front of the bytes: 11 where they are no frame's values, then 12 where the frame does not fit.
-pub fn write_values(values: &[u32], bytes: &mut [u8]) -> Wrote
-    ensures { λ r. ⌜ (r ≡ wroteOf (now (values .entry)) (now (bytes .entry))) × (now (bytes .exit) ≡ bytesAfter (now (values .entry)) (now (bytes .entry))) ⌝ }
+// The frame of the fixed values and of so many entries at the front of the bytes: 11 where they are no frame's values, then 12 where
+// the frame does not fit.
+pub fn write_values(
+    fixed: &[u32; FIXED_FIELDS],
+    keys: &[u32],
+    numbers: &[u32],
+    entries: usize,
+    bytes: &mut [u8],
+) -> Wrote
+    requires { ⌜ Packable (now fixed) (now keys) (now numbers) entries ⌝ }
+    ensures { λ r. ⌜ (r ≡ wroteOf (valuesBy (now (fixed .entry)) (now (keys .entry)) (now (numbers .entry)) entries) (now (bytes .entry)))
+        × (now (bytes .exit)
+        ≡ bytesAfter (valuesBy (now (fixed .entry)) (now (keys .entry)) (now (numbers .entry)) entries) (now (bytes .entry))) ⌝ }
 {
-    let row = table::row_of(kind_of(values));
-    if !writable(&row, values) {
+    let kind = fixed[0];
+    let shape = table::shape_of(kind);
+    let row = table::row_of(kind, shape.target);
+    if !writable(&row, fixed, keys, numbers, entries) {
         return Wrote {
             fault: 11,
             length: 0,
         };
     }
-    let length = length_of(&row, values);
+    let length = table::frame_length(shape, entries);
     if bytes.len() < length {
         return Wrote {
             fault: 12,
             length: 0,
         };
     }
-    fill(&row, values, &mut bytes[..length]);
+    fill(&row, fixed, keys, numbers, entries, &mut bytes[..length]);
     Wrote {
         fault: 0,
         length: length,
     }
-}
-
-// How many bytes the frame of the values has, by the table.
-fn length_of(row: &[u8; PLACES], values: &[u32]) -> usize
-    requires { ⌜ (now row ≡ rowOf (getD (now values) 0 0)) × (good format (now values) ≡ true) ⌝ }
-    ensures { λ r. ⌜ r ≡ length (frame format (now (values .entry))) ⌝ }
-{
-    let kind = values[0];
-    let entries = table::entries_in(row[table::MANY], values[table::MANY]);
-    table::frame_length(kind, entries)
 }

@@ -1,34 +1,13 @@
--- The entries beside a message: keys as numbers, and setpoints or masks; and their values in a frame, three for each entry.
-use Prim.Native.Nat.{ℕ, _+_, _*_, _/_, _%_}
-use mathlib.Core.List.{List, _++_}
-use mathlib.Core.Bool.{Bool, cond}
-use lib.Dec.{eqb}
+-- The values of a message with its entries.
+use Prim.Native.Nat.{ℕ}
+use mathlib.Core.List.{List}
 use lib.ListN.{getD}
-use Rattle.formats.specs.Table.{hasNumbers, entryPlace, ownerPlace, numberPlace, entryFields}
+use Rattle.formats.specs.Entries.{valuesBy}
 use Rattle.frames.specs.declared.Message.{Message}
-use Rattle.ranges.specs.Laid.{built}
 use Rattle.frames.specs.Messages.{entriesOf, fixedOf}
-
--- of entry i among a frame's values: its key as a number, as `keyWord` has it, and its setpoint or mask
-abbrev pub keyIn : List ℕ → ℕ → ℕ
-keyIn vs i = getD vs (entryPlace + entryFields * i) 0 * 256 + getD vs (ownerPlace + entryFields * i) 0
-
-abbrev pub numberIn : List ℕ → ℕ → ℕ
-numberIn vs i = getD vs (numberPlace + entryFields * i) 0
-
--- value j of the entries: count, client, and setpoint or mask, or 0 where the kind's entries have none
-unfoldable pub entryValue : Bool → List ℕ → List ℕ → ℕ → ℕ
-entryValue numbered keys numbers j =
-    cond (eqb (j % entryFields) 0) (getD keys (j / entryFields) 0 / 256)
-    (cond (eqb (j % entryFields) 1) (getD keys (j / entryFields) 0 % 256) (cond numbered (getD numbers (j / entryFields) 0) 0))
 
 abbrev pub kindOf : Message → ℕ
 kindOf m = getD (fixedOf m) 0 0
 
--- the fixed values, which begin with the kind, and those of so many entries behind them
-abbrev pub valuesBy : List ℕ → List ℕ → List ℕ → ℕ → List ℕ
-valuesBy fixed keys numbers entries = fixed ++ built (entryValue (hasNumbers (getD fixed 0 0)) keys numbers) (entryFields * entries)
-
--- the values of a message with its entries
 unfoldable pub valuesOf : Message → List ℕ → List ℕ → List ℕ
 valuesOf m keys numbers = valuesBy (fixedOf m) keys numbers (entriesOf m)

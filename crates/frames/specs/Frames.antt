@@ -7,6 +7,7 @@ use lib.ListN.{length, drop}
 use Rattle.formats.specs.Grammar.{Outcome, got, fault, read, good, frame}
 use Rattle.formats.specs.Table.{hasNumbers}
 use Rattle.formats.specs.Format.{format}
+use Rattle.formats.specs.Entries.{keyIn, numberIn}
 use Rattle.frames.specs.declared.Message.{Message}
 use Rattle.frames.specs.declared.Reading.{Reading}
 use Rattle.frames.specs.declared.Reading.the-variants as reading
@@ -14,7 +15,7 @@ use Rattle.frames.specs.declared.Written.{Written}
 use Rattle.frames.specs.declared.Written.the-variants as written
 use Rattle.ranges.specs.Laid.{laid}
 use Rattle.frames.specs.Messages.{entriesOf, messageOf}
-use Rattle.frames.specs.Entries.{keyIn, numberIn, kindOf, valuesOf}
+use Rattle.frames.specs.Entries.{kindOf, valuesOf}
 
 -- as many places for keys as there are entries, and for numbers where the entries of the kind have them: those of kind 6 have none
 abbrev pub enough : ℕ → ℕ → ℕ → ℕ → Bool

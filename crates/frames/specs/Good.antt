@@ -1,5 +1,5 @@
 -- What is known of a frame's values: they are narrow enough for a message's types, and the message's own values are those that it was made of.
-use Prim.Native.Nat.{ℕ, zero, suc, _+_, _-_, _*_, _≤_, _<_}
+use Prim.Native.Nat.{ℕ, zero, suc, _+_, _-_, _*_, _/_, _≤_, _<_}
 use mathlib.Core.Path.{_≡_, refl, sym, ap, ap₂, _∙_}
 use mathlib.Core.Bool.{Bool, true, false, cond, _||_}
 use mathlib.Core.List.{List, [], _∷_}
@@ -12,6 +12,7 @@ use lib.Seq.{getD-take}
 use borrow.Author.Tests.{leb-true, eq-eqb, ne-eqb, not-false}
 use Rattle.ranges.specs.Tests.{by-equal}
 use Rattle.ranges.specs.All.{allBelow, all-at}
+use Rattle.keys.specs.Keys.{keyOf}
 use Rattle.formats.specs.Grammar.{good}
 use Rattle.formats.specs.Table.{none, coord, sortAt, bitsOf, leastOf, mostOf, entriesIn, entriesSaid, hasNumbers, entryPlace, ownerPlace, numberPlace, manyPlace, rowPlaces, kinds, fixedFields, entryFields}
 use Rattle.formats.specs.Format.{sortOf, widthOf, format}
@@ -19,7 +20,8 @@ use Rattle.formats.specs.FormatLaws.{at-most, at-least}
 use Rattle.formats.specs.Walk.{stateAt, placeAt, place-early, place-late, walk-place, walk-kind, values-length, entries-few, value-fits, value-allowed, value-width, kind-below}
 use Rattle.frames.specs.declared.Fixed.{Fixed}
 use Rattle.ranges.specs.Laid.{built, built-take}
-use Rattle.frames.specs.Messages.{entriesOf, fixedOf, Narrow, fixedAt, messageAt, messageOf}
+use Rattle.frames.specs.Messages.{entriesOf, fixedOf, fixedAt, messageAt, messageOf}
+use Rattle.frames.specs.MessageLaws.{Narrow, messageBy}
 use Rattle.frames.specs.Entries.{kindOf}
 
 -- only the places of setpoints and masks are wider than a byte
@@ -75,18 +77,38 @@ module _ (vs : List ℕ) (g : good format vs ≡ true) where
       let p : placeAt i ≡ i = place-early i l in
       byte-at i (omega arith) (omega (arith, long)) (omega arith) (ap wide p ∙ e))
 
-  pub is-narrow : Narrow vs
+  -- the first of them, as the reader has kept them
+  kept-byte : (i : ℕ) → i < fixedFields → wide i ≡ false → getD (take fixedFields vs) i 0 < 256
+  kept-byte i l e = rw (getD-take fixedFields vs i 0 l) (fixed-byte i l e)
+
+  pub is-narrow : Narrow (take fixedFields vs) (length vs)
   unfolding wide
   is-narrow =
       record {
-        client = fixed-byte 1 (omega arith) refl;
-        server = fixed-byte 2 (omega arith) refl;
-        tag = fixed-byte 3 (omega arith) refl;
-        count = fixed-byte 4 (omega arith) refl;
-        owner = fixed-byte 5 (omega arith) refl;
-        long = values-length vs g;
-        few = entries-few vs g;
+        client = kept-byte 1 (omega arith) refl;
+        server = kept-byte 2 (omega arith) refl;
+        tag = kept-byte 3 (omega arith) refl;
+        count = kept-byte 4 (omega arith) refl;
+        owner = kept-byte 5 (omega arith) refl;
+        long = long;
+        few = omega (arith, values-length vs g, entries-few vs g);
       }
+
+  pub message-kept : messageBy (take fixedFields vs) (length vs) ≡ messageOf vs
+  unfolding messageOf
+  message-kept =
+      let e : (i : ℕ) → i < fixedFields → getD (take fixedFields vs) i 0 ≡ getD vs i 0 = λ i l. getD-take fixedFields vs i 0 l in
+      let n : (length vs - fixedFields) / entryFields ≡ entriesSaid vs = omega (arith, values-length vs g) in
+      λ j.
+      messageAt (e 0 (omega arith) j)
+      (record {
+        client = e 1 (omega arith) j;
+        server = e 2 (omega arith) j;
+        tag = e 3 (omega arith) j;
+        key = keyOf (e 4 (omega arith) j) (e 5 (omega arith) j);
+        number = e 6 (omega arith) j;
+        entries = n j;
+      })
 
   fixed-settled : (i : ℕ) → 0 < i → i < fixedFields → getD vs i 0 ≡ settled (sortAt (getD vs 0 0) i) (getD vs i 0)
   fixed-settled i some l =
@@ -189,10 +211,6 @@ module _ (vs : List ℕ) (g : good format vs ≡ true) where
 
     entry-place : (d : ℕ) → d < entryFields → placeAt (entryPlace + d + entryFields * i) ≡ entryPlace + d
     entry-place d l = place-late (entryPlace + d + entryFields * i) (omega arith) ∙ omega arith
-
-    pub count-byte : getD vs (entryPlace + entryFields * i) 0 < 256
-    unfolding wide
-    count-byte = byte-at vs g (entryPlace + entryFields * i) (omega arith) (entry-inside 0 (omega arith)) (omega (arith, entry-place 0 (omega arith))) (ap wide (entry-place 0 (omega arith)))
 
     pub client-byte : getD vs (ownerPlace + entryFields * i) 0 < 256
     unfolding wide

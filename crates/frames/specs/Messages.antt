@@ -1,12 +1,11 @@
 -- What a message is as a row of values, and a row of values as a message.
-use Prim.Native.Nat.{ℕ, _-_, _≤_, _<_}
-use mathlib.Core.Path.{_≡_}
+use Prim.Native.Nat.{ℕ, _-_}
 use mathlib.Core.List.{List, [], _∷_}
 use mathlib.Core.Bool.{cond}
 use lib.Dec.{eqb}
-use lib.ListN.{length, getD}
+use lib.ListN.{getD}
 use Rattle.keys.specs.Keys.{keyOf}
-use Rattle.formats.specs.Table.{mostEntries, entriesSaid, valuesFor}
+use Rattle.formats.specs.Table.{entriesSaid}
 use Rattle.frames.specs.declared.Fixed.{Fixed}
 use Rattle.frames.specs.declared.Message.{Message}
 use Rattle.frames.specs.declared.Message.the-variants.{Set, SetDone, Enter, Entered, WhichKeys, Keys, Get, Got, GetAll, All, GetLog, Log}
@@ -41,16 +40,7 @@ fixedOf (All client server entries) = 10 ∷ client ∷ server ∷ 0 ∷ 0 ∷ 0
 fixedOf (GetLog client) = 11 ∷ client ∷ 16 ∷ 0 ∷ 0 ∷ 0 ∷ 0 ∷ 0 ∷ []
 fixedOf (Log client entries) = 12 ∷ client ∷ 16 ∷ 0 ∷ 0 ∷ 0 ∷ 0 ∷ (entries - 1) ∷ []
 
--- values that fit a message's own types, with those of all entries behind them
-pub record Narrow (vs : List ℕ) : Type 0 where
-  pub client : getD vs 1 0 < 256
-  pub server : getD vs 2 0 < 256
-  pub tag : getD vs 3 0 < 256
-  pub count : getD vs 4 0 < 256
-  pub owner : getD vs 5 0 < 256
-  pub long : length vs ≡ valuesFor (entriesSaid vs)
-  pub few : entriesSaid vs ≤ mostEntries
-
+-- what is fixed in a frame's values, and how many entries these say that there are
 abbrev pub fixedAt : List ℕ → Fixed
 fixedAt vs =
     record {

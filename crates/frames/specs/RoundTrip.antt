@@ -15,13 +15,15 @@ use Rattle.formats.specs.Grammar.{Outcome, got, fault, good, frame}
 use Rattle.formats.specs.RoundTrip as formats
 use Rattle.formats.specs.Table.{entriesIn, entriesSaid, sortAt, hasNumbers, entryPlace, ownerPlace, numberPlace, fixedFields, entryFields, valuesFor}
 use Rattle.formats.specs.Format.{format}
+use Rattle.formats.specs.Entries.{keyIn, numberIn, entryValue}
+use Rattle.formats.specs.Columns.{Places}
 use Rattle.formats.specs.Walk.{values-length}
 use Rattle.frames.specs.declared.Message.{Message}
 use Rattle.frames.specs.declared.Message.the-variants.{Set, SetDone, Enter, Entered, WhichKeys, Keys, Get, Got, GetAll, All, GetLog, Log}
 use Rattle.frames.specs.declared.Reading.the-variants.{Read, Refused}
 use Rattle.ranges.specs.Laid.{built, built-length, built-at, built-same, built-take, laid, laid-length, laid-at}
 use Rattle.frames.specs.Messages.{entriesOf, fixedOf, messageAt, messageOf}
-use Rattle.frames.specs.Entries.{keyIn, numberIn, entryValue, kindOf, valuesOf}
+use Rattle.frames.specs.Entries.{kindOf, valuesOf}
 use Rattle.frames.specs.Good.{fixed-back, entries-back, kind-back, client-byte, no-number}
 use Rattle.frames.specs.Frames.{enough, hasPlaces, writable, frameOf, readingOf, keysRead, numbersRead, found}
 
@@ -92,11 +94,6 @@ values-many : (m : Message) (keys numbers : List ℕ) → length (valuesOf m key
 unfolding valuesOf
 values-many m keys numbers =
     length-append (fixedOf m) _ ∙ ap₂ (λ (a b : ℕ). a + b) (fixed-length m) (built-length (entryValue (hasNumbers (kindOf m)) keys numbers) (entryFields * entriesOf m))
-
--- What places there are for the entries of a kind.
-pub record Places (kind entries keys numbers : ℕ) : Type 0 where
-  pub for-keys : entries ≤ keys
-  pub for-numbers : hasNumbers kind ≡ true → entries ≤ numbers
 
 pub are-enough : (kind entries keys numbers : ℕ) → enough kind entries keys numbers ≡ true → Places kind entries keys numbers
 are-enough kind entries keys numbers e =

@@ -4,7 +4,8 @@ use mathlib.Core.List.{List, [], _∷_}
 use Prim.Native.Nat.{ℕ}
 use Rattle.fields.specs.Bits.{bitOf, withBit, bitAt, setBit, fieldAt, putField}
 use Rattle.formats.specs.Grammar.{ahead, judged, ended, read, good, size, lay, frame}
-use Rattle.formats.specs.Table.{sortAt, bitsOf, leastOf, mostOf, entriesIn, hasNumbers, frameLength}
+use Rattle.formats.specs.Columns.{lengthBy}
+use Rattle.formats.specs.Table.{sortAt, bitsOf, leastOf, mostOf, shapeOf, entriesIn, hasNumbers}
 use Rattle.formats.specs.Format.{fieldOf, within, leftAfter, placeAfter, nextOf, entries, fixed, format}
 use Rattle.keys.specs.Keys.{keyOf}
 use Rattle.frames.specs.declared.Message.{Message}
@@ -13,7 +14,8 @@ use Rattle.frames.specs.declared.Reading.{Reading}
 use Rattle.frames.specs.declared.Reading.the-variants.{Read, Refused}
 use Rattle.ranges.specs.Laid.{built}
 use Rattle.frames.specs.Messages.{messageAt, messageOf}
-use Rattle.frames.specs.Entries.{entryValue, valuesOf}
+use Rattle.formats.specs.Entries.{entryValue}
+use Rattle.frames.specs.Entries.{valuesOf}
 use Rattle.frames.specs.Frames.{hasPlaces, frameOf, readingOf, found}
 
 -- kind 1, client 2, server 3, key (1, 2), 1800
@@ -38,12 +40,12 @@ pub record Cards : Type 0 where
   pub count-zero : reads (0x10 ∷ 0x00 ∷ 0x00 ∷ []) ≡ Refused 11
   pub cut-behind-count : reads (0x10 ∷ 0x00 ∷ 0x08 ∷ []) ≡ Refused 10
   -- the longest frames of kinds 6, 10 and 12
-  pub longest-keys : frameLength 6 16 ≡ 28
-  pub longest-all : frameLength 10 256 ≡ 1411
-  pub longest-log : frameLength 12 256 ≡ 899
+  pub longest-keys : lengthBy (shapeOf 6) 16 ≡ 28
+  pub longest-all : lengthBy (shapeOf 10) 256 ≡ 1411
+  pub longest-log : lengthBy (shapeOf 12) 256 ≡ 899
 
 pub cards : Cards
-unfolding bitOf withBit bitAt setBit fieldAt putField ahead judged ended read good size lay frame sortAt bitsOf leastOf mostOf entriesIn hasNumbers frameLength fieldOf within leftAfter placeAfter nextOf entries fixed format built messageAt messageOf entryValue valuesOf hasPlaces frameOf readingOf
+unfolding bitOf withBit bitAt setBit fieldAt putField ahead judged ended read good size lay frame sortAt bitsOf leastOf mostOf entriesIn hasNumbers lengthBy fieldOf within leftAfter placeAfter nextOf entries fixed format built messageAt messageOf entryValue valuesOf hasPlaces frameOf readingOf
 cards =
     record {
       written = refl;

@@ -1,23 +1,22 @@
 // Frames: the messages that cross the wire, from bytes and to bytes.
 // A message holds what is fixed; the entries of kinds 6, 10 and 12 stand beside it, in two lent slices: keys, as numbers, and setpoints or masks.
-use formats::reading::MOST_VALUES;
 use formats::table::ENTRY_FIELDS;
 use formats::table::FIXED_FIELDS;
 use formats::table::MOST_ENTRIES;
 use keys::Key;
 
-pub mod entries; // entries.rt: the entries as values, and back
+pub mod entries; // entries.rt: places for the entries, and from bytes to these
 
 ghost use mathlib.Core.Path.{_≡_};
-ghost use mathlib.Core.Bool.{true};
 ghost use Prim.Native.Nat.{_-_};
-ghost use Rattle.formats.specs.Grammar.{got, good};
-ghost use Rattle.formats.specs.Format.{format};
+ghost use Rattle.formats.specs.Entries.{valuesBy};
+ghost use Rattle.formats.specs.Columns.{Packable};
+ghost use Rattle.formats.specs.Reading.{Got};
 ghost use Rattle.formats.specs.Writing.{wroteOf, bytesAfter};
 ghost use Rattle.frames.specs.Frames.{readingOf, keysRead, numbersRead, found, writtenOf, bytesWritten};
-ghost use Rattle.frames.specs.Answers.{writtenBy, Packable};
-ghost use Rattle.frames.specs.Entries.{valuesBy};
-ghost use Rattle.frames.specs.Messages.{entriesOf, fixedOf, messageOf, messageAt, fixedAt, Narrow};
+ghost use Rattle.frames.specs.Answers.{writtenBy};
+ghost use Rattle.frames.specs.Messages.{entriesOf, fixedOf, messageAt};
+ghost use Rattle.frames.specs.MessageLaws.{Narrow, fixedBy, messageBy};
 
 // A message by its kind, 1 to 12: set, set done, enter, entered, which keys, keys, get, got, get all, all, get log, log.
 // `entries` is how many entries stand beside it.
@@ -205,22 +204,22 @@ pub struct Fixed {
     pub entries: u32,
 }
 
-// What a frame's values hold; three of them are an entry's.
-fn fixed_at(values: &[u32]) -> Fixed
-    requires { ⌜ Narrow (now values) ⌝ }
-    ensures { λ r. ⌜ r ≡ fixedAt (now (values .entry)) ⌝ }
+// What a frame's fixed values hold, and its number of entries: three of all its values are an entry's.
+fn fixed_at(fixed: &[u32; FIXED_FIELDS], fields: usize) -> Fixed
+    requires { ⌜ Narrow (now fixed) fields ⌝ }
+    ensures { λ r. ⌜ r ≡ fixedBy (now (fixed .entry)) fields ⌝ }
 {
-    let client = values[1] as u8;
-    let server = values[2] as u8;
-    let tag = values[3] as u8;
-    let key = Key::new(values[4] as u8, values[5] as u8);
-    let entries = ((values.len() - FIXED_FIELDS) / ENTRY_FIELDS) as u32;
+    let client = fixed[1] as u8;
+    let server = fixed[2] as u8;
+    let tag = fixed[3] as u8;
+    let key = Key::new(fixed[4] as u8, fixed[5] as u8);
+    let entries = ((fields - FIXED_FIELDS) / ENTRY_FIELDS) as u32;
     Fixed {
         client: client,
         server: server,
         tag: tag,
         key: key,
-        number: values[6],
+        number: fixed[6],
         entries: entries,
     }
 }
@@ -288,29 +287,37 @@ pub fn message_at(kind: u32, fixed: Fixed) -> Message
     }
 }
 
-fn message_of(values: &[u32]) -> Message
-    requires { ⌜ Narrow (now values) ⌝ }
-    ensures { λ r. ⌜ r ≡ messageOf (now (values .entry)) ⌝ }
+fn message_of(fixed: &[u32; FIXED_FIELDS], fields: usize) -> Message
+    requires { ⌜ Narrow (now fixed) fields ⌝ }
+    ensures { λ r. ⌜ r ≡ messageBy (now (fixed .entry)) fields ⌝ }
 {
-    let fixed = fixed_at(values);
-    message_at(values[0], fixed)
+    let parts = fixed_at(fixed, fields);
+    message_at(fixed[0], parts)
 }
 
-// The message of a frame's values, its entries stored; 12 where a lent slice has too few places for them.
-fn deliver(values: &[u32], keys: &mut [u32], numbers: &mut [u32]) -> Reading
-    requires { ⌜ good format (now values) ≡ true ⌝ }
-    ensures { λ r. ⌜ (r ≡ readingOf (got (now (values .entry))) (now (keys .entry)) (now (numbers .entry))) × (now (keys .exit) ≡ keysRead (got (now (values .entry))) (now (keys .entry)) (now (numbers .entry))) × (now (numbers .exit) ≡ numbersRead (got (now (values .entry))) (now (keys .entry)) (now (numbers .entry))) ⌝ }
+// The message of a frame that was found good, its entries stored; 12 where a lent slice has too few places for them.
+fn deliver(
+    bytes: &[u8],
+    fixed: &[u32; FIXED_FIELDS],
+    fields: usize,
+    keys: &mut [u32],
+    numbers: &mut [u32],
+) -> Reading
+    requires { ⌜ Got (found (now bytes)) fields (now fixed) ⌝ }
+    ensures { λ r. ⌜ (r ≡ readingOf (found (now (bytes .entry))) (now (keys .entry)) (now (numbers .entry)))
+        × (now (keys .exit) ≡ keysRead (found (now (bytes .entry))) (now (keys .entry)) (now (numbers .entry)))
+        × (now (numbers .exit) ≡ numbersRead (found (now (bytes .entry))) (now (keys .entry)) (now (numbers .entry))) ⌝ }
 {
-    let message = message_of(values);
+    let message = message_of(fixed, fields);
     let entries = entries_of(message) as usize;
     if entries == 0 {
         return Reading::Read(message);
     }
-    let kind = values[0];
+    let kind = fixed[0];
     if !entries::enough_places(kind, entries, keys.len(), numbers.len()) {
         return Reading::Refused(12);
     }
-    entries::store(kind, values, keys, numbers, entries);
+    entries::store(kind, bytes, keys, numbers, entries);
     Reading::Read(message)
 }
 
@@ -319,44 +326,37 @@ fn deliver(values: &[u32], keys: &mut [u32], numbers: &mut [u32]) -> Reading
 pub fn read_frame(bytes: &[u8], keys: &mut [u32], numbers: &mut [u32]) -> Reading
     ensures { λ r. ⌜ (r ≡ readingOf (found (now (bytes .entry))) (now (keys .entry)) (now (numbers .entry))) × (now (keys .exit) ≡ keysRead (found (now (bytes .entry))) (now (keys .entry)) (now (numbers .entry))) × (now (numbers .exit) ≡ numbersRead (found (now (bytes .entry))) (now (keys .entry)) (now (numbers .entry))) ⌝ }
 {
-    let mut values = [0u32; MOST_VALUES];
-    let scan = formats::reading::read_values(bytes, &mut values);
+    let scan = formats::reading::scan_frame(bytes);
     let fault = scan.fault;
     let fields = scan.fields;
+    let fixed = scan.fixed;
     if fault != 0 {
         return Reading::Refused(fault);
     }
-    deliver(&values[..fields], keys, numbers)
+    deliver(bytes, &fixed, fields, keys, numbers)
 }
 
-// The frame of the values, with the answer as an enum.
-fn send(values: &[u32], bytes: &mut [u8]) -> Written
-    ensures { λ r. ⌜ (r ≡ writtenBy (wroteOf (now (values .entry)) (now (bytes .entry)))) × (now (bytes .exit) ≡ bytesAfter (now (values .entry)) (now (bytes .entry))) ⌝ }
-{
-    let wrote = formats::writing::write_values(values, bytes);
-    let refusal = wrote.fault;
-    let length = wrote.length;
-    if refusal != 0 {
-        return Written::Refused(refusal);
-    }
-    Written::Length(length)
-}
-
-// The frame of a message whose entries are there.
-fn write_present(
-    fixed: &[u32],
+// The frame of a message whose entries are there, with the answer as an enum.
+fn send(
+    fixed: &[u32; FIXED_FIELDS],
     keys: &[u32],
     numbers: &[u32],
     entries: usize,
     bytes: &mut [u8],
 ) -> Written
     requires { ⌜ Packable (now fixed) (now keys) (now numbers) entries ⌝ }
-    ensures { λ r. ⌜ (r ≡ writtenBy (wroteOf (valuesBy (now (fixed .entry)) (now (keys .entry)) (now (numbers .entry)) entries) (now (bytes .entry)))) × (now (bytes .exit) ≡ bytesAfter (valuesBy (now (fixed .entry)) (now (keys .entry)) (now (numbers .entry)) entries) (now (bytes .entry))) ⌝ }
+    ensures { λ r. ⌜ (r
+        ≡ writtenBy (wroteOf (valuesBy (now (fixed .entry)) (now (keys .entry)) (now (numbers .entry)) entries) (now (bytes .entry))))
+        × (now (bytes .exit)
+        ≡ bytesAfter (valuesBy (now (fixed .entry)) (now (keys .entry)) (now (numbers .entry)) entries) (now (bytes .entry))) ⌝ }
 {
-    let mut values = [0u32; MOST_VALUES];
-    entries::pack_entries(fixed, keys, numbers, entries, &mut values);
-    let count = FIXED_FIELDS + ENTRY_FIELDS * entries;
-    send(&values[..count], bytes)
+    let wrote = formats::writing::write_values(fixed, keys, numbers, entries, bytes);
+    let refusal = wrote.fault;
+    let length = wrote.length;
+    if refusal != 0 {
+        return Written::Refused(refusal);
+    }
+    Written::Length(length)
 }
 
 // Writes a message with its entries, the first of the two slices: the frame stands at the front of the lent bytes.
@@ -366,9 +366,9 @@ pub fn write_frame(message: Message, keys: &[u32], numbers: &[u32], bytes: &mut 
 {
     let entries = entries_of(message) as usize;
     let fixed = fixed_of(message);
-    // Without entries the fixed values are all that there are.
+    // No entries need no places.
     if entries == 0 {
-        return send(&fixed, bytes);
+        return send(&fixed, keys, numbers, entries, bytes);
     }
     let kind = fixed[0];
     if !entries::enough_places(kind, entries, keys.len(), numbers.len()) {
@@ -377,5 +377,5 @@ pub fn write_frame(message: Message, keys: &[u32], numbers: &[u32], bytes: &mut 
     if MOST_ENTRIES < entries {
         return Written::Refused(11);
     }
-    write_present(&fixed, keys, numbers, entries, bytes)
+    send(&fixed, keys, numbers, entries, bytes)
 }

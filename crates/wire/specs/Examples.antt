@@ -24,7 +24,8 @@ use Rattle.rules.specs.Reply.{onSetDone, onEntered, onKeys, onGot, onAll, onRep
 use Rattle.frames.specs.declared.Message.the-variants.{Set, SetDone, Enter, Entered, WhichKeys, Keys, Get, Got, GetAll, All, GetLog, Log}
 use Rattle.frames.specs.declared.Written.the-variants.{Length, Refused}
 use Rattle.ranges.specs.Laid.{built}
-use Rattle.frames.specs.Entries.{entryValue, valuesOf}
+use Rattle.formats.specs.Entries.{entryValue}
+use Rattle.frames.specs.Entries.{valuesOf}
 use Rattle.frames.specs.Frames.{frameOf, fits}
 use Rattle.wire.specs.OnLink.{empty, carries, alone, requestIn, replyIn, onLink}
 use Rattle.wire.specs.Sending.{sent, sentFrom}

@@ -23,7 +23,8 @@ use Rattle.frames.specs.declared.Reading.the-variants.{Read}
 use Rattle.frames.specs.declared.Written.the-variants.{Length, Refused}
 use Rattle.ranges.specs.Laid.{built-length, built-same}
 use Rattle.frames.specs.Messages.{entriesOf, fixedOf}
-use Rattle.frames.specs.Entries.{entryValue, kindOf, valuesOf}
+use Rattle.formats.specs.Entries.{entryValue}
+use Rattle.frames.specs.Entries.{kindOf, valuesOf}
 use Rattle.frames.specs.Frames.{hasPlaces, writable, frameOf, fits, readingOf, keysRead, numbersRead, found}
 use Rattle.frames.specs.RoundTrip.{message-round-trip, keys-round-trip, numbers-round-trip, message-only}
 use Rattle.wire.specs.OnLink.{OnLink, empty, carries, alone, requestIn, replyIn, onLinkBy, onLink}

@@ -15,7 +15,8 @@ use Rattle.formats.specs.Table.{entryPlace, ownerPlace, numberPlace, count, of,
 use Rattle.formats.specs.Format.{fieldOf, within, leftAfter, placeAfter, nextOf, entries, fixed, format}
 use Rattle.frames.specs.declared.Message.the-variants.{Set, SetDone, Enter, Entered, WhichKeys, Keys, Get, Got, GetAll, All, GetLog, Log}
 use Rattle.ranges.specs.Laid.{built, built-first}
-use Rattle.frames.specs.Entries.{entryValue, valuesOf}
+use Rattle.formats.specs.Entries.{entryValue}
+use Rattle.frames.specs.Entries.{valuesOf}
 use Rattle.frames.specs.Frames.{hasPlaces, writable}
 use Rattle.frames.specs.RoundTrip.{count-value, client-value, number-value}
 

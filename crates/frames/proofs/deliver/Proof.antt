@@ -1,42 +1,59 @@
--- A frame's values are narrow, and say how many entries to store.
+-- A frame's values are narrow, and say how many entries to store, which stand in the bytes.
 use borrow.Author.Needs.{needs}
-use native.Mathlib.Omega.{arith}
 use Rattle.ranges.specs.Tests.{fails, holds}
-use Rattle.frames.specs.Good.{is-narrow}
-use Rattle.frames.specs.Answers.{read-bare, read-small, read-done, are-stored}
+use Rattle.frames.specs.Answers.{are-narrow, are-storable, read-bare, read-small, read-stored}
 use Rattle.frames.proofs.deliver.Statement.{statement}
 use Rattle.frames.proofs.deliver.Tie as tie
 
 message-of-requires : tie.Need-message-of-requires
-message-of-requires c κs = let s = c .before .before .before in is-narrow (s .args .values .now) (s .pre)
+message-of-requires c κs =
+    let s = c .before .before .before in
+    are-narrow (s .args .bytes .now) (s .pre) (s .args .keys .now) (s .args .numbers .now)
 
 returns : tie.Need-returns
 returns c =
-    let s = c .before .before .before .before .before .before in
-    read-bare (s .args .values .now) (s .args .keys .now) (s .args .numbers .now) (s .pre) (c .before .before .message-of .ensures) (c .before .entries-of .ensures) (c .if1 .taken)
-
-shared-slice-read-kind : tie.Need-shared-slice-read-kind
-shared-slice-read-kind c = let s = c .before .before .before .before .before .before .before in let n = is-narrow (s .args .values .now) (s .pre) in omega (arith, n .long)
+    let at-entries = c .before in
+    let at-message = at-entries .before in
+    let s = at-message .before .before .before .before in
+    let a = s .args in
+    read-bare (a .bytes .now) (s .pre) (a .keys .now) (a .numbers .now) (at-message .message-of .ensures) (at-entries .entries-of .ensures)
+    (c .if1 .taken)
 
 returns-2 : tie.Need-returns-2
 returns-2 c =
-    let s = c .before .before .before .before .before .before .before .before .before in
-    read-small (s .args .values .now) (s .args .keys .now) (s .args .numbers .now) (s .pre) (c .before .before .before .before .before .message-of .ensures) (c .before .before .before .before .entries-of .ensures)
-    (fails (c .before .enough-places .ensures) (c .if2 .taken))
+    let at-enough = c .before in
+    let at-entries = at-enough .before .before .before in
+    let at-message = at-entries .before in
+    let s = at-message .before .before .before .before in
+    let a = s .args in
+    read-small (a .bytes .now) (s .pre) (a .keys .now) (a .numbers .now) (at-message .message-of .ensures) (at-entries .entries-of .ensures)
+    (fails (at-enough .enough-places .ensures) (c .if2 .taken))
 
 store-requires : tie.Need-store-requires
 store-requires c κs =
-    let s = c .before .before .before .before .before .before .before .before .before .before .before in (
-      are-stored (s .args .values .now) (s .args .keys .now) (s .args .numbers .now) (s .pre) (c .before .before .before .before .before .before .before .message-of .ensures) (c .before .before .before .before .before .before .entries-of .ensures),
-      holds (c .before .before .before .enough-places .ensures) (c .before .before .if2 .left),
-    )
+    let at-if2 = c .before .before in
+    let at-enough = at-if2 .before in
+    let at-entries = at-enough .before .before .before in
+    let at-message = at-entries .before in
+    let s = at-message .before .before .before .before in
+    let a = s .args in
+    are-storable (a .bytes .now) (s .pre) (a .keys .now) (a .numbers .now) (at-message .message-of .ensures)
+    (at-entries .entries-of .ensures)
+    (holds (at-enough .enough-places .ensures) (at-if2 .if2 .left))
 
 returns-3 : tie.Need-returns-3
 returns-3 c =
-    let s = c .before .before .before .before .before .before .before .before .before .before .before .before .before .before .before .before in
-    let t = c .before .before .before .before .store .ensures in
-    read-done (s .args .values .now) (s .args .keys .now) (s .args .numbers .now) (s .pre) (c .before .before .before .before .before .before .before .before .before .before .before .before .message-of .ensures) (c .before .before .before .before .before .before .before .before .before .before .before .entries-of .ensures)
-    (holds (c .before .before .before .before .before .before .before .before .enough-places .ensures) (c .before .before .before .before .before .before .before .if2 .left)) (t .0) (t .1)
+    let at-store = c .before .before .before .before in
+    let at-if2 = at-store .before .before .before in
+    let at-enough = at-if2 .before in
+    let at-entries = at-enough .before .before .before in
+    let at-message = at-entries .before in
+    let s = at-message .before .before .before .before in
+    let a = s .args in
+    let t = at-store .store .ensures in
+    read-stored (a .bytes .now) (s .pre) (a .keys .now) (a .numbers .now) (at-message .message-of .ensures)
+    (at-entries .entries-of .ensures)
+    (holds (at-enough .enough-places .ensures) (at-if2 .if2 .left)) (t .0) (t .1)
 
 pub deliver-spec : {M : Type 1} → statement M
 deliver-spec =
@@ -46,7 +63,7 @@ deliver-spec =
     (λ c κs. search needs)
     (λ c. search needs)
     returns
-    shared-slice-read-kind
+    (λ c. search needs)
     (λ c κs. search needs)
     returns-2
     store-requires

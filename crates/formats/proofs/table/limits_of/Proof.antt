@@ -1,14 +1,12 @@
 -- The sort picks the row of the definition; where it is none of the first fourteen, it is the last.
 use borrow.Author.Needs.{needs}
 use mathlib.Core.Path.{_≡_, sym, ap, _∙_}
-use Prim.Native.Nat.{ℕ, suc, _≤_}
+use Prim.Native.Nat.{_≤_}
 use native.Mathlib.Omega.{arith}
 use Rattle.formats.specs.Table.{less, limitsOf}
+use Rattle.formats.specs.TableLaws.{past}
 use Rattle.formats.proofs.table.limits_of.Statement.{statement}
 use Rattle.formats.proofs.table.limits_of.Tie as tie
-
-past : (n s : ℕ) → n ≤ s → (s ≡ n → ⊥) → suc n ≤ s
-past n s h d = omega arith
 
 last : tie.Need-returns-15
 last c =

@@ -1,9 +1,9 @@
 -- The rest by three tells which of an entry's values it is: its key's count or client, or its number, which is 0 where the kind has none.
 use borrow.Author.Needs.{needs}
 use native.Mathlib.Omega.{arith}
-use Rattle.frames.specs.Answers.{part-count, part-client, part-number, part-none}
-use Rattle.frames.proofs.entries.entry_value.Statement.{statement}
-use Rattle.frames.proofs.entries.entry_value.Tie as tie
+use Rattle.formats.specs.EntryLaws.{part-count, part-client, part-number, part-none}
+use Rattle.formats.proofs.entries.entry_value.Statement.{statement}
+use Rattle.formats.proofs.entries.entry_value.Tie as tie
 
 returns : tie.Need-returns
 returns c = let a = c .before .before .args in part-count (a .numbered) (a .keys .now) (a .numbers .now) (a .i) (c .before .if1 .taken)
