@@ -6,7 +6,7 @@ use mathlib.Core.List.{List}
 use native.Mathlib.Omega.{arith}
 use lib.ListN.{getD, replicate, getD-replicate}
 use borrow.Author.Tests.{ltb-true}
-use Rattle.ranges.specs.All.{all-at}
+use Rattle.ranges.specs.AllLaws.{all-at}
 use Rattle.tables.specs.Layout.{setpointsField, receivedField, tagField, putClientWord}
 use Rattle.tables.specs.Links.{targets}
 use Rattle.keys.specs.declared.Key.{Key}

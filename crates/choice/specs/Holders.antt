@@ -11,7 +11,8 @@ use lib.Seq.{getD-set-same, getD-set-other}
 use borrow.Author.Tests.{ltb-true, lt-ltb, le-ltb, eq-eqb, ne-eqb}
 use Rattle.ranges.specs.Tests.{either, by-equal, by-test, both-left, both-right}
 use Rattle.ranges.specs.All.{anyBelow}
-use Rattle.ranges.specs.First.{firstBelow, found-any}
+use Rattle.ranges.specs.First.{firstBelow}
+use Rattle.ranges.specs.FirstLaws.{found-any}
 use Rattle.ranges.specs.Turns.{turns, turns-keep}
 use Rattle.ranges.specs.Picked.{picked}
 use Rattle.keys.specs.Masks.{hasServer}

@@ -9,8 +9,9 @@ use lib.Bits.{bitAnd, bitOr}
 use lib.ListN.{getD}
 use borrow.Author.Tests.{eqb-true, eqb-false, not-true, not-false, ltb-true, ltb-false, lt-ltb, le-ltb}
 use Rattle.ranges.specs.Tests.{by-equal, by-test, not-both, both-left, both-right}
-use Rattle.ranges.specs.All.{all-of, all-not, all-same}
-use Rattle.ranges.specs.Last.{lastBelow, last-none, last-here, last-before, last-below, last-same}
+use Rattle.ranges.specs.AllLaws.{all-of, all-not, all-same}
+use Rattle.ranges.specs.Last.{lastBelow}
+use Rattle.ranges.specs.LastLaws.{last-none, last-here, last-before, last-below, last-same}
 use Rattle.keys.specs.declared.Key.{Key}
 use Rattle.keys.specs.Keys.{keyWord}
 use Rattle.keys.specs.Masks.{hasServer, some-server}

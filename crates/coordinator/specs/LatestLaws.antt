@@ -7,8 +7,8 @@ use native.Mathlib.Omega.{arith}
 use lib.ListN.{getD, length, length-set}
 use lib.Seq.{getD-set-same, getD-set-other}
 use Rattle.ranges.specs.Tests.{by-equal}
-use Rattle.ranges.specs.Last.{last-here, last-before, last-below, last-same}
-use Rattle.ranges.specs.Picked.{is-picked}
+use Rattle.ranges.specs.LastLaws.{last-here, last-before, last-below, last-same}
+use Rattle.ranges.specs.PickedLaws.{is-picked}
 use Rattle.keys.specs.declared.Key.{Key}
 use Rattle.keys.specs.Keys.{keyWord}
 use Rattle.keys.specs.Masks.{hasServer}

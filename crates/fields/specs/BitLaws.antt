@@ -9,7 +9,8 @@ use lib.ListN.{length, getD, set, length-set}
 use lib.Seq.{getD-set-same, getD-set-other, ext-getD}
 use borrow.Author.Tests.{eqb-true}
 use Rattle.ranges.specs.Tests.{by-equal}
-use Rattle.ranges.specs.All.{allBelow, all-at}
+use Rattle.ranges.specs.All.{allBelow}
+use Rattle.ranges.specs.AllLaws.{all-at}
 use Rattle.fields.specs.Bits.{bitOf, withBit, bitAt, setBit}
 
 -- ---- a number

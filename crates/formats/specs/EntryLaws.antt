@@ -11,8 +11,10 @@ use lib.ListN.{length, getD, length-append, List·getD-append}
 use lib.Seq.{getD-append-add}
 use borrow.Author.Tests.{leb-true, lt-ltb, le-ltb, ltb-true, ltb-false, eq-eqb, ne-eqb}
 use Rattle.ranges.specs.Tests.{by-test, both-left, both-right}
-use Rattle.ranges.specs.All.{allBelow, all-at}
-use Rattle.ranges.specs.Laid.{built, built-length, built-at}
+use Rattle.ranges.specs.All.{allBelow}
+use Rattle.ranges.specs.AllLaws.{all-at}
+use Rattle.ranges.specs.Laid.{built}
+use Rattle.ranges.specs.LaidLaws.{built-length, built-at}
 use Rattle.fields.specs.FieldLaws.{field-below}
 use Rattle.formats.specs.declared.table.Column.{Column}
 use Rattle.formats.specs.declared.table.Shape.{Shape}

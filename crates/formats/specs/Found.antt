@@ -6,7 +6,8 @@ use mathlib.Core.List.{List, _∷_}
 use mathlib.Core.Bool.{true}
 use lib.ListN.{length, getD, drop}
 use lib.Seq.{drop-cons}
-use Rattle.ranges.specs.Sum.{sumBelow, sum-more}
+use Rattle.ranges.specs.Sum.{sumBelow}
+use Rattle.ranges.specs.SumLaws.{sum-more}
 use Rattle.fields.specs.Bits.{fieldAt}
 use Rattle.formats.specs.Grammar.{Grammar, got, read, good}
 use Rattle.formats.specs.RoundTrip.{field-got, read-good}

@@ -8,7 +8,7 @@ use mathlib.Core.Bool.{true, false}
 use lib.ListN.{length, getD, drop}
 use lib.Seq.{drop-cons, drop-length}
 use borrow.Author.Tests.{le-leb, lt-leb}
-use Rattle.ranges.specs.Sum.{sum-none, sum-more}
+use Rattle.ranges.specs.SumLaws.{sum-none, sum-more}
 use Rattle.fields.specs.Bits.{putField}
 use Rattle.fields.specs.FieldLaws.{length-putField}
 use Rattle.formats.specs.declared.state.Field.{Field}

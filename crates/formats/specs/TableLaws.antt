@@ -9,7 +9,8 @@ use lib.Dec.{eqb, leb, ltb}
 use lib.ListN.{length, getD, List·getD-eq-default}
 use borrow.Author.Tests.{eqb-true, eq-eqb, ne-eqb, leb-true, ltb-true, ltb-false, not-true}
 use Rattle.ranges.specs.Tests.{either, by-test, both-left, both-right}
-use Rattle.ranges.specs.All.{allBelow, all-at}
+use Rattle.ranges.specs.All.{allBelow}
+use Rattle.ranges.specs.AllLaws.{all-at}
 use Rattle.formats.specs.declared.state.Field.{Field}
 use Rattle.formats.specs.declared.table.Shape.{Shape}
 use Rattle.formats.specs.Table.{none, own, of, less, bodyPlace, manyPlace, entryPlace, rowPlaces, bodyFields, entryFields, kinds}

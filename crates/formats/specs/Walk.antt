@@ -11,7 +11,8 @@ use lib.ListN.{length, getD, drop}
 use lib.Seq.{drop-cons}
 use borrow.Author.Tests.{lt-ltb, le-ltb, ltb-true, ltb-false, eqb-true}
 use Rattle.ranges.specs.Tests.{by-equal, by-test, both-left, both-right}
-use Rattle.ranges.specs.Sum.{sumBelow, sum-more}
+use Rattle.ranges.specs.Sum.{sumBelow}
+use Rattle.ranges.specs.SumLaws.{sum-more}
 use Rattle.formats.specs.declared.state.State.{State}
 use Rattle.formats.specs.Grammar.{Grammar, good, size, frame}
 use Rattle.formats.specs.Columns.{lengthBy}

@@ -9,7 +9,8 @@ use lib.ListN.{length, getD, drop}
 use lib.Seq.{getD-take}
 use borrow.Author.Tests.{lt-leb, le-leb, eq-eqb, ne-eqb}
 use Rattle.ranges.specs.Tests.{by-test, both-right}
-use Rattle.ranges.specs.Laid.{built-same, laid, laid-none}
+use Rattle.ranges.specs.Laid.{laid}
+use Rattle.ranges.specs.LaidLaws.{built-same, laid-none}
 use Rattle.formats.specs.declared.reading.Scan.{Scan}
 use Rattle.formats.specs.declared.writing.Wrote.{Wrote}
 use Rattle.formats.specs.Grammar.{Outcome, got, fault, good, frame}

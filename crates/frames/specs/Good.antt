@@ -11,7 +11,8 @@ use lib.ListN.{length, getD, take}
 use lib.Seq.{getD-take}
 use borrow.Author.Tests.{leb-true, eq-eqb, ne-eqb, not-false}
 use Rattle.ranges.specs.Tests.{by-equal}
-use Rattle.ranges.specs.All.{allBelow, all-at}
+use Rattle.ranges.specs.All.{allBelow}
+use Rattle.ranges.specs.AllLaws.{all-at}
 use Rattle.keys.specs.Keys.{keyOf}
 use Rattle.formats.specs.Grammar.{good}
 use Rattle.formats.specs.Table.{none, coord, sortAt, bitsOf, leastOf, mostOf, entriesIn, entriesSaid, hasNumbers, entryPlace, ownerPlace, numberPlace, manyPlace, rowPlaces, kinds, fixedFields, entryFields}
@@ -19,7 +20,8 @@ use Rattle.formats.specs.Format.{sortOf, widthOf, format}
 use Rattle.formats.specs.FormatLaws.{at-most, at-least}
 use Rattle.formats.specs.Walk.{stateAt, placeAt, place-early, place-late, walk-place, walk-kind, values-length, entries-few, value-fits, value-allowed, value-width, kind-below}
 use Rattle.frames.specs.declared.Fixed.{Fixed}
-use Rattle.ranges.specs.Laid.{built, built-take}
+use Rattle.ranges.specs.Laid.{built}
+use Rattle.ranges.specs.LaidLaws.{built-take}
 use Rattle.frames.specs.Messages.{entriesOf, fixedOf, fixedAt, messageAt, messageOf}
 use Rattle.frames.specs.MessageLaws.{Narrow, messageBy}
 use Rattle.frames.specs.Entries.{kindOf}

@@ -21,7 +21,8 @@ use Rattle.formats.specs.Walk.{values-length}
 use Rattle.frames.specs.declared.Message.{Message}
 use Rattle.frames.specs.declared.Message.the-variants.{Set, SetDone, Enter, Entered, WhichKeys, Keys, Get, Got, GetAll, All, GetLog, Log}
 use Rattle.frames.specs.declared.Reading.the-variants.{Read, Refused}
-use Rattle.ranges.specs.Laid.{built, built-length, built-at, built-same, built-take, laid, laid-length, laid-at}
+use Rattle.ranges.specs.Laid.{built, laid}
+use Rattle.ranges.specs.LaidLaws.{built-length, built-at, built-same, built-take, laid-length, laid-at}
 use Rattle.frames.specs.Messages.{entriesOf, fixedOf, messageAt, messageOf}
 use Rattle.frames.specs.Entries.{kindOf, valuesOf}
 use Rattle.frames.specs.Good.{fixed-back, entries-back, kind-back, client-byte, no-number}

@@ -8,7 +8,8 @@ use lib.ListN.{length}
 use lib.Dec.{eqb}
 use borrow.Author.Tests.{eq-eqb, ne-eqb, eqb-true, eqb-false}
 use Rattle.ranges.specs.Tests.{by-equal}
-use Rattle.ranges.specs.Sum.{sumBelow, sum-same}
+use Rattle.ranges.specs.Sum.{sumBelow}
+use Rattle.ranges.specs.SumLaws.{sum-same}
 use Rattle.keys.specs.Keys.{opening}
 use Rattle.keys.specs.Masks.{hasServer}
 use Rattle.coordinator.specs.Latest.{latestKey}

@@ -7,7 +7,8 @@ use native.Mathlib.Omega.{arith}
 use lib.ListN.{getD}
 use lib.Dec.{eqb}
 use Rattle.ranges.specs.Tests.{by-equal}
-use Rattle.ranges.specs.Sum.{sumBelow, sum-set, sum-part}
+use Rattle.ranges.specs.Sum.{sumBelow}
+use Rattle.ranges.specs.SumLaws.{sum-set, sum-part}
 use Rattle.keys.specs.Keys.{keyOf}
 use Rattle.keys.specs.Masks.{hasServer, some-server}
 use Rattle.tables.specs.Rows.{HasRow}

@@ -5,7 +5,7 @@ use mathlib.Core.Bool.{Bool, true, false, not, _&&_}
 use mathlib.Core.List.{List}
 use native.Mathlib.Omega.{arith}
 use Rattle.ranges.specs.Tests.{by-equal, both, both-left, both-right, not-both}
-use Rattle.ranges.specs.All.{any-at, any-same}
+use Rattle.ranges.specs.AllLaws.{any-at, any-same}
 use Rattle.tables.specs.Links.{targets, linkWidth, linkAt, isEmpty, contentsOf}
 pub use Rattle.tables.specs.Links.{linkWord, put-same, put-other, put-beside}
 use Rattle.tables.specs.Tables.{Tables, stateOf, maskOf, contentAt}

@@ -8,7 +8,7 @@ use lib.ListN.{length}
 use lib.Dec.{eqb, ltb}
 use borrow.Author.Tests.{eq-eqb, lt-ltb}
 use Rattle.ranges.specs.Tests.{by-test, by-equal, both}
-use Rattle.ranges.specs.Last.{last-below}
+use Rattle.ranges.specs.LastLaws.{last-below}
 use Rattle.keys.specs.Masks.{hasServer}
 use Rattle.tables.specs.Rows.{word-same}
 use Rattle.tables.specs.Layout.{clientWidth, clientWord, setpointsField, receivedField, countField, maskField, stateField, tagField}

@@ -8,9 +8,9 @@ use native.Mathlib.Omega.{arith}
 use lib.ListN.{getD, length, length-set, length-replicate}
 use lib.Seq.{getD-set-same, getD-set-other, sets, length-sets}
 use lib.Pow.{pow-mono}
-use Rattle.ranges.specs.Sum.{sum-nothing, count-zero}
+use Rattle.ranges.specs.SumLaws.{sum-nothing, count-zero}
 use Rattle.ranges.specs.Turns.{turns, turns-keep}
-use Rattle.ranges.specs.Picked.{is-picked}
+use Rattle.ranges.specs.PickedLaws.{is-picked}
 use Rattle.ranges.specs.Words.{zeros}
 use Rattle.keys.specs.Masks.{Within}
 use Rattle.tables.specs.Rows.{wordAt, HasRow, word-same, word-other, word-length, row-same, row-length, sets-at, sets-behind}

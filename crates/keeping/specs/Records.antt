@@ -8,7 +8,8 @@ use lib.ListN.{getD, length}
 use lib.Dec.{eqb}
 use borrow.Author.Tests.{eq-eqb, ne-eqb, eqb-true}
 use Rattle.ranges.specs.Tests.{by-equal, both-left}
-use Rattle.ranges.specs.Sum.{countBelow, one, sum-same, sum-set, sum-more, one-true, one-false}
+use Rattle.ranges.specs.Sum.{countBelow, one}
+use Rattle.ranges.specs.SumLaws.{sum-same, sum-set, sum-more, one-true, one-false}
 use Rattle.tables.specs.Rows.{HasRow, row-same, row-other, row-length, word-same, word-other}
 use Rattle.tables.specs.Layout.{recordWidth, recordWord, putBegun, clientOfRecord, tagOfRecord, endOfRecord}
 use Rattle.tables.specs.Tables.{Tables, clientsOf, stateOf, recordOf}

@@ -6,7 +6,7 @@ use mathlib.Core.List.{List}
 use native.Mathlib.Omega.{arith}
 use lib.ListN.{length, length-set}
 use Rattle.ranges.specs.Tests.{by-equal}
-use Rattle.ranges.specs.Sum.{sum-same}
+use Rattle.ranges.specs.SumLaws.{sum-same}
 use Rattle.tables.specs.Rows.{HasRow}
 use Rattle.tables.specs.Layout.{lastStep, writesField, readsField, stateField, recordField, clientWidth, clientWord, recordWidth, recordWord, clientOfRecord, numberOfRecord, tagOfRecord, endOfRecord, countField}
 use Rattle.tables.specs.Links.{targets, linkWidth}

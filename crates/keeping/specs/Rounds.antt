@@ -7,7 +7,8 @@ use native.Mathlib.Omega.{arith}
 use lib.ListN.{getD, length}
 use Rattle.ranges.specs.Tests.{by-test, by-equal, not-both, either}
 use Rattle.ranges.specs.Turns.{turns, turns-keep-below}
-use Rattle.ranges.specs.Picked.{picked, is-picked, not-picked}
+use Rattle.ranges.specs.Picked.{picked}
+use Rattle.ranges.specs.PickedLaws.{is-picked, not-picked}
 use Rattle.keys.specs.Masks.{Within}
 use Rattle.tables.specs.Links.{targets, HasLinks, linkWidth, putLink, link-length, contentWords}
 use Rattle.tables.specs.Tables.{Tables, methodOf, serversOf, entriesOf, stateOf, countOf, maskOf, tagOf, receivedOf}

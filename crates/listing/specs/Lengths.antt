@@ -8,7 +8,8 @@ use lib.ListN.{length, length-append, length-map}
 use lib.Dec.{eqb, ltb, leb}
 use borrow.Author.Tests.{le-leb, lt-leb, eq-eqb, ne-eqb, leb-true, leb-false}
 use Rattle.ranges.specs.Tests.{by-equal, by-test}
-use Rattle.ranges.specs.Sum.{one, sumBelow, countBelow, sum-same, sum-add, sum-nothing, count-most}
+use Rattle.ranges.specs.Sum.{one, sumBelow, countBelow}
+use Rattle.ranges.specs.SumLaws.{sum-same, sum-add, sum-nothing, count-most}
 use Rattle.tables.specs.Layout.{recordWord, tagOfRecord, recordPlaces, countAt, writesField, readsField}
 use Rattle.tables.specs.Tables.{Tables, entriesOf, writesOf, readsOf}
 use Rattle.listing.specs.Register.{isFinished, hasTag, kept, placesBelow, passing, inserted, insertedAll, endIn, write, read, finishedReads, writesOfTag, readsOfTag, listedTo, mostLines, register}

@@ -2,11 +2,17 @@
 pub mod Tests
 pub mod Every
 pub mod All
+pub mod AllLaws
 pub mod Sum
+pub mod SumLaws
 pub mod First
+pub mod FirstLaws
 pub mod Last
+pub mod LastLaws
 pub mod Turns
 pub mod Picked
+pub mod PickedLaws
 pub mod Words
 pub mod Each
 pub mod Laid
+pub mod LaidLaws

@@ -14,7 +14,7 @@ use Rattle.rules.specs.Choice.{qualifies, chosenTag, chosenSetpoint}
 use Rattle.rules.specs.Reply.{readShown, receivedIn, putReceived, tagFrom, concludedRow}
 use Rattle.choice.specs.Ready.{ChoiceReady}
 use Rattle.requests.specs.Ready.{Answerable}
-use Rattle.ranges.specs.Last.{last-below, last-passes}
+use Rattle.ranges.specs.LastLaws.{last-below, last-passes}
 use mathlib.Core.Bool.{Bool, true, false}
 
 -- what `settle` leaves

@@ -7,9 +7,10 @@ use native.Mathlib.Omega.{arith}
 use lib.ListN.{getD, length, replicate, length-set}
 use lib.Seq.{getD-set-same, getD-set-other}
 use Rattle.ranges.specs.Tests.{either}
-use Rattle.ranges.specs.All.{allBelow, all-at}
+use Rattle.ranges.specs.All.{allBelow}
+use Rattle.ranges.specs.AllLaws.{all-at}
 use Rattle.ranges.specs.Turns.{turns, turns-keep-below}
-use Rattle.ranges.specs.Picked.{is-picked}
+use Rattle.ranges.specs.PickedLaws.{is-picked}
 use Rattle.keys.specs.Masks.{hasServer}
 use Rattle.tables.specs.Rows.{HasRow, word-same, word-other}
 use Rattle.tables.specs.Layout.{clientWidth, clientWord}

@@ -8,7 +8,8 @@ use native.Mathlib.Numerals.{add-one}
 use lib.ListN.{getD, set, length, length-set}
 use lib.Dec.{eqb}
 use Rattle.ranges.specs.Tests.{by-test}
-use Rattle.ranges.specs.Sum.{one, sum-part, one-true}
+use Rattle.ranges.specs.Sum.{one}
+use Rattle.ranges.specs.SumLaws.{sum-part, one-true}
 use Rattle.keys.specs.Keys.{keyOf, opening, FitsByte, at-word-fits}
 use Rattle.keys.specs.Masks.{hasServer, serversIn, Within, some-server}
 use Rattle.coordinator.specs.Latest.{latestKey}

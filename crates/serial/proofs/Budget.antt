@@ -5,7 +5,8 @@ use mathlib.Core.Bool.{cond}
 use native.Mathlib.Omega.{arith}
 use lib.Dec.{eqb}
 use borrow.Author.Tests.{ne-eqb}
-use Rattle.ranges.specs.Sum.{sumBelow, sum-set, sum-part, count-most}
+use Rattle.ranges.specs.Sum.{sumBelow}
+use Rattle.ranges.specs.SumLaws.{sum-set, sum-part, count-most}
 use Rattle.keys.specs.Masks.{hasServer, serversIn}
 use Rattle.tables.specs.Layout.{recordPlaces}
 use Rattle.tables.specs.declared.links.Content.{Content}

@@ -4,7 +4,8 @@ use mathlib.Core.Path.{_≡_, refl, ap, _∙_}
 use mathlib.Core.Bool.{true, false}
 use native.Mathlib.Omega.{arith}
 use Rattle.ranges.specs.Tests.{by-test}
-use Rattle.ranges.specs.Sum.{sumBelow, countBelow, sum-more, sum-set, sum-part, sum-nothing, sum-zero}
+use Rattle.ranges.specs.Sum.{sumBelow, countBelow}
+use Rattle.ranges.specs.SumLaws.{sum-more, sum-set, sum-part, sum-nothing, sum-zero}
 use Rattle.keys.specs.Masks.{hasServer, serversIn}
 use Rattle.tables.specs.Links.{targets}
 use Rattle.tables.specs.declared.links.Content.{Content}

@@ -7,10 +7,11 @@ use native.Mathlib.Omega.{arith}
 use lib.Dec.{ltb}
 use borrow.Author.Tests.{ltb-true, ltb-false, not-true, not-false}
 use Rattle.ranges.specs.Tests.{by-test, not-both}
-use Rattle.ranges.specs.All.{any-at, any-of}
-use Rattle.ranges.specs.Sum.{sum-nothing}
+use Rattle.ranges.specs.AllLaws.{any-at, any-of}
+use Rattle.ranges.specs.SumLaws.{sum-nothing}
 use Rattle.ranges.specs.Turns.{turns, turns-keep-below}
-use Rattle.ranges.specs.Picked.{picked, is-picked, not-picked}
+use Rattle.ranges.specs.Picked.{picked}
+use Rattle.ranges.specs.PickedLaws.{is-picked, not-picked}
 use Rattle.keys.specs.Masks.{hasServer}
 use Rattle.tables.specs.Layout.{clientWidth, clientWord}
 use Rattle.tables.specs.Links.{targets, HasLinks, putLink, isEmpty, ContentFits, link-same, link-other, link-length}

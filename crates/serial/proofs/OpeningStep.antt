@@ -9,7 +9,8 @@ use lib.Seq.{getD-set-other, sets}
 use lib.Dec.{ltb}
 use borrow.Author.Tests.{ltb-true, ltb-false, eq-eqb, eqb-true}
 use Rattle.ranges.specs.Tests.{by-test}
-use Rattle.ranges.specs.Sum.{sumBelow, sum-nothing}
+use Rattle.ranges.specs.Sum.{sumBelow}
+use Rattle.ranges.specs.SumLaws.{sum-nothing}
 use Rattle.ranges.specs.Turns.{turns-keep-below}
 use Rattle.ranges.specs.Words.{zeros}
 use Rattle.keys.specs.Keys.{keyOf, keyAtWord, opening}

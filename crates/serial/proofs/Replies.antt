@@ -8,8 +8,8 @@ use native.Mathlib.Omega.{arith}
 use lib.ListN.{getD}
 use borrow.Author.Tests.{lt-ltb, ltb-true}
 use Rattle.ranges.specs.Tests.{by-test, not-both}
-use Rattle.ranges.specs.All.{all-of, all-at}
-use Rattle.ranges.specs.Last.{last-below, last-passes, last-most}
+use Rattle.ranges.specs.AllLaws.{all-of, all-at}
+use Rattle.ranges.specs.LastLaws.{last-below, last-passes, last-most}
 use Rattle.keys.specs.Keys.{keyOf}
 use Rattle.keys.specs.Masks.{hasServer, serversIn}
 use Rattle.coordinator.specs.Latest.{latestKey}

@@ -8,7 +8,7 @@ use native.Mathlib.Omega.{arith}
 use lib.Dec.{eqb, ltb}
 use borrow.Author.Tests.{eq-eqb, ne-eqb, lt-ltb, ltb-true, ltb-false}
 use Rattle.ranges.specs.Tests.{by-equal, by-test, not-both}
-use Rattle.ranges.specs.First.{First, first-found, first-is, first-same}
+use Rattle.ranges.specs.FirstLaws.{First, first-found, first-is, first-same}
 use Rattle.keys.specs.declared.Key.{Key}
 use Rattle.keys.specs.Keys.{keyWord}
 use Rattle.tables.specs.Rows.{HasRow, word-same, word-other}

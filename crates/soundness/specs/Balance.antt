@@ -6,7 +6,8 @@ use mathlib.Core.List.{List}
 use native.Mathlib.Omega.{arith}
 use lib.Dec.{eqb}
 use borrow.Author.Tests.{eq-eqb, ne-eqb}
-use Rattle.ranges.specs.Sum.{sumBelow, countBelow, one, sum-same, sum-add, sum-nothing, sum-set, count-both}
+use Rattle.ranges.specs.Sum.{sumBelow, countBelow, one}
+use Rattle.ranges.specs.SumLaws.{sum-same, sum-add, sum-nothing, sum-set, count-both}
 use Rattle.tables.specs.Layout.{recordWord, clientOfRecord, endOfRecord}
 use Rattle.tables.specs.Tables.{Tables, clientsOf, readsOf, stateOf, recordOf}
 use Rattle.soundness.specs.Sound.{isReading, isOpen, openSound}

@@ -8,7 +8,8 @@ use lib.ListN.{length}
 use lib.Dec.{eqb, leb, ltb}
 use borrow.Author.Tests.{leb-true, le-leb, ltb-true, lt-ltb, eqb-true, eq-eqb, ne-eqb}
 use Rattle.ranges.specs.Tests.{by-equal, both, both-left, both-right}
-use Rattle.ranges.specs.All.{allBelow, all-at, all-of}
+use Rattle.ranges.specs.All.{allBelow}
+use Rattle.ranges.specs.AllLaws.{all-at, all-of}
 use Rattle.ranges.specs.Sum.{sumBelow, countBelow}
 use Rattle.keys.specs.Masks.{maskWithin, Within, within-true, within-test}
 use Rattle.tables.specs.Rows.{wordAt}

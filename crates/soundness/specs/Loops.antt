@@ -3,7 +3,8 @@ use Prim.Native.Nat.{ℕ, _+_, _≤_, _<_}
 use mathlib.Core.Path.{_≡_}
 use mathlib.Core.Bool.{Bool, true, false, not}
 use native.Mathlib.Omega.{arith}
-use Rattle.ranges.specs.All.{allBelow, all-none, all-next, all-stop, all-end}
+use Rattle.ranges.specs.All.{allBelow}
+use Rattle.ranges.specs.AllLaws.{all-none, all-next, all-stop, all-end}
 use Rattle.tables.specs.Tables.{Tables}
 
 -- The test goes by tables t of which the loop reads a part: it passes whatever the other tables hold.

@@ -9,7 +9,8 @@ use lib.Seq.{getD-set-same, getD-set-other}
 use lib.Dec.{eqb}
 use borrow.Author.Tests.{eq-eqb, ne-eqb}
 use Rattle.ranges.specs.Tests.{by-equal, fails, holds, and-stops, and-goes-on}
-use Rattle.ranges.specs.Sum.{countBelow, count-zero, count-here, count-past}
+use Rattle.ranges.specs.Sum.{countBelow}
+use Rattle.ranges.specs.SumLaws.{count-zero, count-here, count-past}
 use Rattle.ranges.specs.Words.{zeros}
 use Rattle.tables.specs.Layout.{recordWord, clientOfRecord, endOfRecord}
 use Rattle.tables.specs.Tables.{Tables}

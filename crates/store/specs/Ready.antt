@@ -5,7 +5,7 @@ use mathlib.Core.Bool.{true}
 use mathlib.Core.List.{List}
 use native.Mathlib.Omega.{arith}
 use Rattle.ranges.specs.Tests.{both-left, both-right}
-use Rattle.ranges.specs.Sum.{sum-part}
+use Rattle.ranges.specs.SumLaws.{sum-part}
 use Rattle.tables.specs.Layout.{readsField}
 use Rattle.tables.specs.Links.{targets}
 use Rattle.tables.specs.Tables.{Tables, serversOf, clientsOf, entriesOf, stateOf, countOf, maskOf, contentAt}

@@ -8,8 +8,8 @@ use lib.ListN.{length, length-set}
 use lib.Dec.{eqb}
 use borrow.Author.Tests.{lt-ltb, eq-eqb}
 use Rattle.ranges.specs.Tests.{by-test, by-equal, not-both, both}
-use Rattle.ranges.specs.All.{any-at, all-of}
-use Rattle.ranges.specs.First.{first-below}
+use Rattle.ranges.specs.AllLaws.{any-at, all-of}
+use Rattle.ranges.specs.FirstLaws.{first-below}
 use Rattle.keys.specs.Masks.{hasServer}
 use Rattle.tables.specs.Rows.{HasRow, word-same, word-other}
 use Rattle.tables.specs.Layout.{clientWidth, receivedField, serverPlaces}

@@ -9,7 +9,8 @@ use lib.Seq.{getD-set-same, getD-set-other}
 use lib.Dec.{ltb, leb, eqb}
 use borrow.Author.Tests.{le-leb, eq-eqb, ne-eqb, ltb-true}
 use Rattle.ranges.specs.Tests.{by-test, by-equal, not-both}
-use Rattle.ranges.specs.First.{firstBelow, first-same}
+use Rattle.ranges.specs.First.{firstBelow}
+use Rattle.ranges.specs.FirstLaws.{first-same}
 use Rattle.keys.specs.declared.Key.{Key}
 use Rattle.keys.specs.Keys.{keyWord, sameKey, FitsByte, word-one, same-true, same-refl}
 use Rattle.tables.specs.Rows.{word-same, word-other}

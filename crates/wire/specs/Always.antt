@@ -26,7 +26,8 @@ use Rattle.soundness.specs.Sound.{between, keyInRange, keyOn}
 use Rattle.soundness.specs.Facts.{Between, between-facts, EntryFacts, Sound}
 use Rattle.keeping.specs.Links.{kindOn, numberOn, request-kind, request-words, reply-kind, reply-words}
 use Rattle.keeping.specs.States.{by-state, range-below}
-use Rattle.ranges.specs.Laid.{built, built-length, built-at}
+use Rattle.ranges.specs.Laid.{built}
+use Rattle.ranges.specs.LaidLaws.{built-length, built-at}
 use Rattle.frames.specs.Frames.{writable}
 use Rattle.wire.specs.OnLink.{OnLink, empty, carries, alone, requestIn, keysReply, allReply, logReply, replyIn, onLinkBy, onLink}
 use Rattle.wire.specs.Known.{Present, few-servers, client-fits, is-server, asks, used, writing-server, setpoints-server, set-key, enter-key, enter-mask, get-key, entered-tag, keys-held, log-held, all-held}

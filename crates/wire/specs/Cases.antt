@@ -24,7 +24,8 @@ use Rattle.frames.specs.declared.Message.{Message}
 use Rattle.frames.specs.declared.Message.the-variants.{Set, SetDone, Enter, Entered, WhichKeys, Keys, Get, Got, GetAll, GetLog}
 use Rattle.frames.specs.declared.Written.{Written}
 use Rattle.frames.specs.Frames.{writtenOf, bytesWritten}
-use Rattle.ranges.specs.Laid.{built, built-same, built-take}
+use Rattle.ranges.specs.Laid.{built}
+use Rattle.ranges.specs.LaidLaws.{built-same, built-take}
 use Rattle.wire.specs.OnLink.{OnLink, empty, carries, alone, requestIn, keysReply, allReply, logReply, everythingReply, replyIn, onLinkBy, onLink}
 use Rattle.wire.specs.Sending.{Sent, sent, refused, isAbsent}
 

@@ -21,7 +21,7 @@ use Rattle.soundness.specs.Facts.{Sound, facts-sound}
 use Rattle.frames.specs.declared.Message.{Message}
 use Rattle.frames.specs.declared.Reading.the-variants.{Read}
 use Rattle.frames.specs.declared.Written.the-variants.{Length, Refused}
-use Rattle.ranges.specs.Laid.{built-length, built-same}
+use Rattle.ranges.specs.LaidLaws.{built-length, built-same}
 use Rattle.frames.specs.Messages.{entriesOf, fixedOf}
 use Rattle.formats.specs.Entries.{entryValue}
 use Rattle.frames.specs.Entries.{kindOf, valuesOf}

@@ -14,7 +14,8 @@ use Rattle.formats.specs.Grammar.{good}
 use Rattle.formats.specs.Table.{entryPlace, ownerPlace, numberPlace, count, of, sortAt, bitsOf, leastOf, mostOf, entriesIn, hasNumbers}
 use Rattle.formats.specs.Format.{fieldOf, within, leftAfter, placeAfter, nextOf, entries, fixed, format}
 use Rattle.frames.specs.declared.Message.the-variants.{Set, SetDone, Enter, Entered, WhichKeys, Keys, Get, Got, GetAll, All, GetLog, Log}
-use Rattle.ranges.specs.Laid.{built, built-first}
+use Rattle.ranges.specs.Laid.{built}
+use Rattle.ranges.specs.LaidLaws.{built-first}
 use Rattle.formats.specs.Entries.{entryValue}
 use Rattle.frames.specs.Entries.{valuesOf}
 use Rattle.frames.specs.Frames.{hasPlaces, writable}

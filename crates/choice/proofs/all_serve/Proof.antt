@@ -4,7 +4,8 @@ use mathlib.Core.Path.{_≡_, sym, subst, _∙_}
 use mathlib.Core.Bool.{true}
 use native.Mathlib.Omega.{arith}
 use borrow.Author.Tests.{not-true, not-false}
-use Rattle.ranges.specs.All.{allBelow, all-none, all-more, all-not}
+use Rattle.ranges.specs.All.{allBelow}
+use Rattle.ranges.specs.AllLaws.{all-none, all-more, all-not}
 use Rattle.rules.specs.Reply.{receivedIn}
 use Rattle.rules.specs.Choice.{serves}
 use borrow.Author.Needs.{needs}

@@ -3,7 +3,7 @@ use Prim.Native.Nat.{_-_}
 use Rattle.ranges.specs.Words.{equalFrom}
 use borrow.Author.Tests.{eq-eqb, ne-eqb}
 use borrow.Author.Needs.{needs}
-use Rattle.ranges.specs.First.{Sought, sought-none, sought-more, sought-found, sought-end}
+use Rattle.ranges.specs.FirstLaws.{Sought, sought-none, sought-more, sought-found, sought-end}
 use Rattle.ranges.proofs.first_equal.Statement.{statement}
 use Rattle.ranges.proofs.first_equal.Tie as tie
 

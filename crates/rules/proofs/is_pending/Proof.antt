@@ -3,7 +3,8 @@ use Prim.Native.Nat.{_-_, _≤_}
 use mathlib.Core.Path.{_≡_, sym}
 use mathlib.Core.Bool.{false}
 use native.Mathlib.Omega.{arith}
-use Rattle.ranges.specs.All.{anyBelow, any-at, any-none, any-more, any-end}
+use Rattle.ranges.specs.All.{anyBelow}
+use Rattle.ranges.specs.AllLaws.{any-at, any-none, any-more, any-end}
 use Rattle.rules.specs.Common.{filled}
 use borrow.Author.Needs.{needs}
 use Rattle.rules.proofs.is_pending.Statement.{statement}

@@ -2,7 +2,7 @@
 use Prim.Native.Nat.{_-_}
 use mathlib.Core.Path.{refl, _∙_}
 use lib.ListN.{length, getD}
-use Rattle.ranges.specs.Laid.{Laying, laying-none, laying-more, laying-all, laid-list}
+use Rattle.ranges.specs.LaidLaws.{Laying, laying-none, laying-more, laying-all, laid-list}
 use borrow.Author.Needs.{needs}
 use Rattle.schedule.proofs.store_setpoints.Statement.{statement}
 use Rattle.schedule.proofs.store_setpoints.Tie as tie

@@ -46,7 +46,7 @@ use denote.Triple.Statement.{Triple}
 use denote.Triple.Table.{entered, cited}
 use denote.Triple.Walked.{says, Stays, stay-none-slice, stay-none, walkOf, goes-none-slice, goes-none, Walks, ends-at, walked, walk-meets}
 use denote.Exit.{yes}
-use Rattle.ranges.specs.First.{Sought, sought-none, sought-more, sought-found, sought-end}
+use Rattle.ranges.specs.FirstLaws.{Sought, sought-none, sought-more, sought-found, sought-end}
 use Rattle.keys.specs.declared.Key.{Key}
 use Rattle.keys.proofs.Key as K
 use Rattle.keys.proofs.Key.Laws as K′

@@ -3,7 +3,7 @@ use borrow.Author.Needs.{needs}
 use Prim.Native.Nat.{_-_}
 use Rattle.tables.specs.Rows.{wordAt}
 use Rattle.tables.specs.Layout.{entryWidth, entryMask}
-use Rattle.ranges.specs.Laid.{Laying, laying-none, laying-more, laying-all}
+use Rattle.ranges.specs.LaidLaws.{Laying, laying-none, laying-more, laying-all}
 use Rattle.wire.proofs.log_entries.Statement.{statement}
 use Rattle.wire.proofs.log_entries.Tie as tie
 

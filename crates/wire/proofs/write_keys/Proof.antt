@@ -6,7 +6,7 @@ use lib.ListN.{length}
 use Rattle.keys.specs.Keys.{keyWord}
 use Rattle.coordinator.specs.Latest.{latestKey}
 use Rattle.frames.specs.declared.Message.the-variants.{Keys}
-use Rattle.ranges.specs.Laid.{built-length}
+use Rattle.ranges.specs.LaidLaws.{built-length}
 use Rattle.wire.specs.Cases.{wrote, keys-front, last-keys}
 use Rattle.wire.proofs.write_keys.Statement.{statement}
 use Rattle.wire.proofs.write_keys.Tie as tie

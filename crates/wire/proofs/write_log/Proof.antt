@@ -3,7 +3,7 @@ use borrow.Author.Needs.{needs}
 use mathlib.Core.Path.{sym, ap, _∙_}
 use Prim.Native.Nat.{ℕ}
 use lib.ListN.{length}
-use Rattle.ranges.specs.Laid.{built-length, laid-front}
+use Rattle.ranges.specs.LaidLaws.{built-length, laid-front}
 use Rattle.tables.specs.Rows.{wordAt}
 use Rattle.tables.specs.Layout.{entryWidth, entryMask}
 use Rattle.frames.specs.declared.Message.the-variants.{Log}

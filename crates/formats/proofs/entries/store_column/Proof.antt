@@ -2,7 +2,7 @@
 use borrow.Author.Needs.{needs}
 use Prim.Native.Nat.{_-_}
 use native.Mathlib.Omega.{arith}
-use Rattle.ranges.specs.Laid.{Laying, laying-none, laying-more, laying-all}
+use Rattle.ranges.specs.LaidLaws.{Laying, laying-none, laying-more, laying-all}
 use Rattle.formats.specs.Columns.{columnAt}
 use Rattle.formats.proofs.entries.store_column.Statement.{statement}
 use Rattle.formats.proofs.entries.store_column.Tie as tie

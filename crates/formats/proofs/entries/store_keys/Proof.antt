@@ -3,7 +3,7 @@ use borrow.Author.Needs.{needs}
 use mathlib.Core.Path.{ap₂}
 use Prim.Native.Nat.{ℕ, _+_, _-_, _*_}
 use native.Mathlib.Omega.{arith}
-use Rattle.ranges.specs.Laid.{Laying, laying-none, laying-more, laying-all}
+use Rattle.ranges.specs.LaidLaws.{Laying, laying-none, laying-more, laying-all}
 use Rattle.formats.specs.Columns.{keyAt}
 use Rattle.formats.specs.EntryLaws.{column-byte}
 use Rattle.formats.proofs.entries.store_keys.Statement.{statement}

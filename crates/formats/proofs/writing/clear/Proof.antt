@@ -4,7 +4,7 @@ use mathlib.Core.Path.{refl, _∙_}
 use Prim.Native.Nat.{_-_}
 use native.Mathlib.Omega.{arith}
 use lib.ListN.{length}
-use Rattle.ranges.specs.Laid.{Laying, laying-none, laying-more, laying-all, laid-whole, built-constant}
+use Rattle.ranges.specs.LaidLaws.{Laying, laying-none, laying-more, laying-all, laid-whole, built-constant}
 use Rattle.formats.proofs.writing.clear.Statement.{statement}
 use Rattle.formats.proofs.writing.clear.Tie as tie
 

@@ -3,7 +3,8 @@ use Prim.Native.Nat.{_≤_, _-_}
 use mathlib.Core.Path.{_≡_, sym, _∙_}
 use mathlib.Core.Logic.{⊎-elim}
 use native.Mathlib.Omega.{arith}
-use Rattle.ranges.specs.Sum.{countBelow, count-zero, count-here, count-past, count-most}
+use Rattle.ranges.specs.Sum.{countBelow}
+use Rattle.ranges.specs.SumLaws.{count-zero, count-here, count-past, count-most}
 use Rattle.listing.specs.Register.{isFinished}
 use borrow.Author.Needs.{needs}
 use Rattle.listing.proofs.records.count_finished.Statement.{statement}

@@ -4,7 +4,8 @@ use mathlib.Core.Path.{_≡_, sym, ap, _∙_}
 use mathlib.Core.Bool.{not}
 use mathlib.Core.Logic.{⊎-elim}
 use native.Mathlib.Omega.{arith}
-use Rattle.ranges.specs.Sum.{countBelow, count-zero, count-here, count-past, count-most}
+use Rattle.ranges.specs.Sum.{countBelow}
+use Rattle.ranges.specs.SumLaws.{count-zero, count-here, count-past, count-most}
 use Rattle.listing.specs.Register.{hasTag}
 use borrow.Author.Needs.{needs}
 use Rattle.listing.proofs.records.count_tagged.Statement.{statement}

@@ -2,7 +2,8 @@
 use mathlib.Core.Path.{sym, _≡_}
 use Prim.Native.Nat.{_*_, _-_, _≤_}
 use native.Mathlib.Omega.{arith}
-use Rattle.ranges.specs.Sum.{sumBelow, sum-none, sum-more}
+use Rattle.ranges.specs.Sum.{sumBelow}
+use Rattle.ranges.specs.SumLaws.{sum-none, sum-more}
 use Rattle.tables.specs.Tables.{Tables, withClients, countOf}
 use borrow.Author.Needs.{needs}
 use Rattle.soundness.proofs.clients.counts_together.Statement.{statement}

@@ -1,6 +1,6 @@
 -- `soundness::records::count_open` meets its contract: each way out is a law of `OpenCounts`.
 use native.Mathlib.Omega.{arith}
-use Rattle.ranges.specs.Sum.{count-most}
+use Rattle.ranges.specs.SumLaws.{count-most}
 use Rattle.soundness.specs.Opens.{opens-ended, opens-beyond, opens-more}
 use Rattle.soundness.specs.Sound.{isOpen}
 use borrow.Author.Needs.{needs}

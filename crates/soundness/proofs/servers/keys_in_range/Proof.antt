@@ -2,7 +2,8 @@
 use mathlib.Core.Path.{refl, _≡_}
 use Prim.Native.Nat.{_-_, _≤_}
 use mathlib.Core.Bool.{true}
-use Rattle.ranges.specs.All.{allBelow, all-none, all-next, all-stop, all-end}
+use Rattle.ranges.specs.All.{allBelow}
+use Rattle.ranges.specs.AllLaws.{all-none, all-next, all-stop, all-end}
 use Rattle.tables.specs.Layout.{versionWord}
 use Rattle.soundness.specs.Sound.{keyInRange}
 use borrow.Author.Needs.{needs}
