@@ -22,7 +22,8 @@ use Rattle.rules.specs.Open as rules
 use Rattle.rules.specs.Begin.{begunWrite, begunRead}
 use Rattle.rules.specs.Request.{onSet, onEnter, onWhichKeys, onGet, onGetAll, onRequestIn, requestDelivered}
 use Rattle.rules.specs.Reply.{onSetDone, onEntered, onKeys, onGot, onAll, onReplyIn, replyDelivered}
-use Rattle.frames.specs.Entries.{entryValue, valuesOf}
+use Rattle.formats.specs.Entries.{entryValue}
+use Rattle.frames.specs.Entries.{valuesOf}
 use Rattle.frames.specs.Frames.{frameOf}
 use Rattle.wire.specs.OnLink.{OnLink, empty, carries, requestIn, replyIn, onLink}
 use Rattle.wire.specs.Examples.{asked, replied}
