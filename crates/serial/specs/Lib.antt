@@ -4,6 +4,8 @@ pub mod Steps
 pub mod History
 pub mod Row
 pub mod Claim
+pub mod Decided
+pub mod Fields
 pub mod Consequences
 pub mod Sample
 pub mod Wrong
