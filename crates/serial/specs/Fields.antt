@@ -81,15 +81,15 @@ module _ (steps : List Played) (h : History) where
     whole = s whole;
     complete = s complete;
     realTime = λ m n end lm ln e l.
-      let x = at (row h) m in
-      let y = at (row h) n in
-      by-test (x .isWrite)
-      (λ a. by-test (y .isWrite)
-      (λ b. s writeAfterWrite m lm n ln a b end e l)
-      (λ b. s readAfterWrite m lm n ln a b end e l))
-      (λ a. by-test (y .isWrite)
-      (λ b. s writeAfterRead m lm n ln a b end e l)
-      (λ b. s readAfterRead m lm n ln a b end e l));
+        let x = at (row h) m in
+        let y = at (row h) n in
+        by-test (x .isWrite)
+        (λ a. by-test (y .isWrite)
+        (λ b. s writeAfterWrite m lm n ln a b end e l)
+        (λ b. s readAfterWrite m lm n ln a b end e l))
+        (λ a. by-test (y .isWrite)
+        (λ b. s writeAfterRead m lm n ln a b end e l)
+        (λ b. s readAfterRead m lm n ln a b end e l));
     answered = s answered;
     ends = s ends;
     unfinished = s unfinished;
@@ -239,7 +239,8 @@ module _ (j : ℕ) where
   after-idle (begun-read q mask answer.Ok) h idle l = begun-idle h idle q (λ e. omega arith) (h .doing q) _
   after-idle (begun-read q mask (answer.Refused n)) h idle l = idle
   after-idle (requested q i answer.Ok) h idle l =
-      either Idle (atCoordinator i) (entered-idle h idle q (λ e. omega arith) (h .doing q)) (delivered-idle h idle q (λ e. omega arith) (h .doing q))
+      let other : j ≡ q → ⊥ = λ e. omega arith in
+      either Idle (atCoordinator i) (entered-idle h idle q other (h .doing q)) (delivered-idle h idle q other (h .doing q))
   after-idle (requested q i (answer.Refused n)) h idle l = idle
   after-idle (replied q i d) h idle l = arrived-idle h idle q (λ e. omega arith) (d .arrival) d
 

@@ -8,4 +8,6 @@ pub mod Decided
 pub mod Fields
 pub mod Consequences
 pub mod Sample
+pub mod WrongStores
+pub mod Broken
 pub mod Wrong

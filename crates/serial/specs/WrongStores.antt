@@ -1,0 +1,192 @@
+-- Wrong stores: machines that a reviewer would try, each the store but for one thing.
+use Prim.Native.Nat.{ℕ, suc, _-_}
+use mathlib.Core.Bool.{cond}
+use mathlib.Core.List.{List, [], _∷_}
+use lib.ListN.{getD}
+use lib.Dec.{eqb, ltb}
+use Rattle.ranges.specs.Turns.{turns}
+use Rattle.keys.specs.Keys.{keyOf}
+use Rattle.tables.specs.Layout.{putClientWord, stateField, versionWord}
+use Rattle.tables.specs.Links.{putLink}
+use Rattle.tables.specs.Tables.{Tables, withClients, withLinks, readsOf, stateOf, countOf, maskOf, heldOf}
+use Rattle.tables.specs.declared.links.Content.the-variants.{Nothing}
+use Rattle.rules.specs.declared.Answer.the-variants.{Ok}
+use Rattle.rules.specs.declared.Arrival.{Arrival}
+use Rattle.rules.specs.declared.Arrival.the-variants.{Wait, Next, Write, Read, Refused}
+use Rattle.rules.specs.declared.Delivered.{Delivered}
+use Rattle.rules.specs.Answers.{nothingShown}
+use Rattle.rules.specs.Common as rules
+use Rattle.refusals.specs.Steps.{deliverReply}
+use Rattle.serial.specs.Steps.{Step, opening, beginning-write, beginning-read, request, reply}
+use Rattle.serial.specs.Steps.{Event, opened, begun-write, begun-read, requested, replied, Played, Machine, play}
+
+-- the opening's setpoints, and those of a WRITE
+abbrev pub first : List ℕ
+first = 1200 ∷ 30 ∷ []
+
+abbrev pub second : List ℕ
+second = 1800 ∷ 45 ∷ []
+
+-- ---- the store, but for the answers of delivered replies
+
+abbrev said : Arrival → List ℕ → Delivered
+said a shown = record { arrival = a; setpoints = shown }
+
+-- what is answered in place of an answer, with the tables that the step left
+abbrev pub Answering : Type 0
+Answering = Tables → Arrival → List ℕ → Delivered
+
+abbrev otherwise : Answering → Tables → Event → Event
+otherwise f t (opened method k p setpoints a) = opened method k p setpoints a
+otherwise f t (begun-write q mask setpoints a) = begun-write q mask setpoints a
+otherwise f t (begun-read q mask a) = begun-read q mask a
+otherwise f t (requested q i a) = requested q i a
+otherwise f t (replied q i d) = replied q i (f t (d .arrival) (d .setpoints))
+
+abbrev pub answering : Answering → Machine Step
+answering f step t = let x = play step t in record { event = otherwise f (x .tables) (x .event); tables = x .tables }
+
+-- one of the answers for another
+abbrev inPlaceOfWait : Delivered → Answering
+inPlaceOfWait d t Wait shown = d
+inPlaceOfWait d t Next shown = said Next shown
+inPlaceOfWait d t (Write tag) shown = said (Write tag) shown
+inPlaceOfWait d t (Read tag) shown = said (Read tag) shown
+inPlaceOfWait d t (Refused n) shown = said (Refused n) shown
+
+abbrev inPlaceOfNext : Delivered → Answering
+inPlaceOfNext d t Wait shown = said Wait shown
+inPlaceOfNext d t Next shown = d
+inPlaceOfNext d t (Write tag) shown = said (Write tag) shown
+inPlaceOfNext d t (Read tag) shown = said (Read tag) shown
+inPlaceOfNext d t (Refused n) shown = said (Refused n) shown
+
+abbrev inPlaceOfWrite : (ℕ → Delivered) → Answering
+inPlaceOfWrite f t Wait shown = said Wait shown
+inPlaceOfWrite f t Next shown = said Next shown
+inPlaceOfWrite f t (Write tag) shown = f tag
+inPlaceOfWrite f t (Read tag) shown = said (Read tag) shown
+inPlaceOfWrite f t (Refused n) shown = said (Refused n) shown
+
+abbrev inPlaceOfRead : (Tables → ℕ → List ℕ → Delivered) → Answering
+inPlaceOfRead f t Wait shown = said Wait shown
+inPlaceOfRead f t Next shown = said Next shown
+inPlaceOfRead f t (Write tag) shown = said (Write tag) shown
+inPlaceOfRead f t (Read tag) shown = f t tag shown
+inPlaceOfRead f t (Refused n) shown = said (Refused n) shown
+
+abbrev inPlaceOfRefused : Delivered → Answering
+inPlaceOfRefused d t Wait shown = said Wait shown
+inPlaceOfRefused d t Next shown = said Next shown
+inPlaceOfRefused d t (Write tag) shown = said (Write tag) shown
+inPlaceOfRefused d t (Read tag) shown = said (Read tag) shown
+inPlaceOfRefused d t (Refused n) shown = d
+
+abbrev then : Answering → Answering → Answering
+then f g t a shown = let d = f t a shown in g t (d .arrival) (d .setpoints)
+
+-- "A READ that always shows the opening at tag 0: demand 3, real time."
+abbrev pub openingAlways : Machine Step
+openingAlways = answering (inPlaceOfRead (λ t tag shown. said (Read 0) first))
+
+-- every READ but the first one begun shows the opening
+abbrev pub openingAgain : Machine Step
+openingAgain = answering (inPlaceOfRead (λ t tag shown. cond (ltb 1 (readsOf t)) (said (Read 0) first) (said (Read tag) shown)))
+
+-- a READ shows the opening at its tag
+abbrev pub openingShown : Machine Step
+openingShown = answering (inPlaceOfRead (λ t tag shown. said (Read tag) first))
+
+-- a READ shows the opening at server 1
+abbrev pub openingAtServer1 : Machine Step
+openingAtServer1 = answering (inPlaceOfRead (λ t tag shown. said (Read tag) (getD shown 0 0 ∷ 30 ∷ [])))
+
+-- a READ answers a tag too large
+abbrev pub tagTooLarge : Machine Step
+tagTooLarge = answering (inPlaceOfRead (λ t tag shown. said (Read (suc tag)) shown))
+
+-- "*wait* for ever: … the delivery count in demand 3"
+abbrev pub waitingForEver : Machine Step
+waitingForEver = answering (inPlaceOfRead (λ t tag shown. said Wait shown))
+
+-- a READ that ends before all its replies are in
+abbrev pub endingEarly : Machine Step
+endingEarly = answering (inPlaceOfWait (said (Read 0) first))
+
+-- a READ that ends at one reply more than it has
+abbrev pub endingLate : Machine Step
+endingLate = answering (then (inPlaceOfRead (λ t tag shown. said Wait shown)) (inPlaceOfRefused (said (Read 0) first)))
+
+-- an invented tag
+abbrev pub inventing : Machine Step
+inventing = answering (inPlaceOfWrite (λ tag. said (Write (suc tag)) []))
+
+-- *write* at the last acknowledgement, before the entry
+abbrev pub writtenUnentered : Machine Step
+writtenUnentered = answering (inPlaceOfNext (said (Write 1) []))
+
+-- *write* at the end of a READ
+abbrev pub writtenForRead : Machine Step
+writtenForRead = answering (inPlaceOfRead (λ t tag shown. said (Write tag) []))
+
+-- *wait* for a reply that is not there
+abbrev pub waitingAtNothing : Machine Step
+waitingAtNothing = answering (inPlaceOfRefused (said Wait []))
+
+-- ---- the store, but for other steps
+
+-- *ok* to every begin, of a busy client too
+abbrev begunAlways : Event → Event
+begunAlways (opened method k p setpoints a) = opened method k p setpoints a
+begunAlways (begun-write q mask setpoints a) = begun-write q mask setpoints Ok
+begunAlways (begun-read q mask a) = begun-read q mask Ok
+begunAlways (requested q i a) = requested q i a
+begunAlways (replied q i d) = replied q i d
+
+abbrev pub beginningAlways : Machine Step
+beginningAlways step t = let x = play step t in record { event = begunAlways (x .event); tables = x .tables }
+
+-- *ok* to a request whose reply is not there
+abbrev pub unanswering : Machine Step
+unanswering (opening method k p setpoints) t = play (opening method k p setpoints) t
+unanswering (beginning-write q mask setpoints) t = play (beginning-write q mask setpoints) t
+unanswering (beginning-read q mask) t = play (beginning-read q mask) t
+unanswering (request q i) t = record { event = requested q i Ok; tables = t }
+unanswering (reply q i) t = play (reply q i) t
+
+-- "The head's entry sent before the last acknowledgement": at the first one, and what the other stations were sent is lost
+abbrev entering : ℕ → Tables → Tables
+entering q t =
+    let none = turns (λ j links. putLink links q j Nothing) 16 (t .links) in
+    withClients (putClientWord (t .clients) q stateField rules.entering)
+    (withLinks (putLink none q rules.coordinator (rules.request (keyOf (countOf t q) q) (maskOf t q))) t)
+
+abbrev hurried : Arrival → ℕ → ℕ → Played → Played
+hurried Wait q i x =
+    cond (eqb (stateOf (x .tables) q) rules.writing) (record { event = replied q i (nothingShown Next); tables = entering q (x .tables) }) x
+hurried Next q i x = x
+hurried (Write tag) q i x = x
+hurried (Read tag) q i x = x
+hurried (Refused n) q i x = x
+
+abbrev pub hurrying : Machine Step
+hurrying (opening method k p setpoints) t = play (opening method k p setpoints) t
+hurrying (beginning-write q mask setpoints) t = play (beginning-write q mask setpoints) t
+hurrying (beginning-read q mask) t = play (beginning-read q mask) t
+hurrying (request q i) t = play (request q i) t
+hurrying (reply q i) t = hurried (deliverReply q i t .delivered .arrival) q i (play (reply q i) t)
+
+-- "A station showing its latest arrival in place of the asked key"
+abbrev arriving : ℕ → ℕ → Tables → Played → Played
+arriving q i t x =
+    let latest = rules.reply (versionWord (t .values) i (heldOf t i - 1)) in
+    cond (eqb (stateOf t q) rules.askingSetpoints)
+    (record { event = x .event; tables = withLinks (putLink (x .tables .links) q i latest) (x .tables) })
+    x
+
+abbrev pub showingLatest : Machine Step
+showingLatest (opening method k p setpoints) t = play (opening method k p setpoints) t
+showingLatest (beginning-write q mask setpoints) t = play (beginning-write q mask setpoints) t
+showingLatest (beginning-read q mask) t = play (beginning-read q mask) t
+showingLatest (request q i) t = arriving q i t (play (request q i) t)
+showingLatest (reply q i) t = play (reply q i) t
