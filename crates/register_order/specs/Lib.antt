@@ -3,6 +3,7 @@
 -- step by what becomes of a record (Grown, Laws), each step (Begins to Replies).
 pub mod Order
 pub mod Sample
+pub mod Parts
 pub mod Lists
 pub mod Agreement
 pub mod Machines

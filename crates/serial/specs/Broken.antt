@@ -1,16 +1,14 @@
 -- What it means that a wrong store breaks fields of the claim and no other; and that a computed list of tests shows it.
 use Prim.Native.Nat.{ℕ}
-use mathlib.Core.Path.{_≡_, refl, sym, ap, _∙_}
-use mathlib.Core.Bool.{Bool, true, false, not, _||_}
-use mathlib.Core.List.{List, [], _∷_, map}
-use lib.ListN.{getD}
-use lib.Dec.{eqb}
-use borrow.Author.Tests.{eq-eqb}
+use mathlib.Core.Path.{_≡_, refl}
+use mathlib.Core.Bool.{Bool}
+use mathlib.Core.List.{List, [], _∷_}
 use Rattle.rules.specs.declared.Answer.the-variants.{Ok}
 use Rattle.serial.specs.Steps.{Step, opening, opened, Played, Machine, run}
 use Rattle.serial.specs.History.{History, openedWith, history}
 use Rattle.serial.specs.Claim.{Claim, Demand3}
-use Rattle.serial.specs.Decided.{Test}
+use Rattle.serial.specs.Decided.{Stated, among, InPlace, all-stated, first-broken}
+use Rattle.serial.specs.Decided as decided
 use Rattle.serial.specs.Fields as field
 use Rattle.serial.specs.Fields.{Field, Says, claim-says, test}
 use Rattle.serial.specs.Sample.{zeros}
@@ -37,11 +35,7 @@ fields =
     field.walk ∷ field.whole ∷ field.complete ∷ field.readAfterRead ∷ field.writeAfterRead ∷ field.readAfterWrite ∷ field.writeAfterWrite ∷
     field.answered ∷ field.ends ∷ field.unfinished ∷ field.tags ∷ field.whose ∷ []
 
-abbrev pub among : Field → List Field → Bool
-among f [] = false
-among f (g ∷ gs) = eqb (placeOf f) (placeOf g) || among f gs
-
-in-place : (g : Field → Bool) (f : Field) → getD (map g fields) (placeOf f) true ≡ g f
+in-place : InPlace placeOf fields
 in-place g field.walk = refl
 in-place g field.whole = refl
 in-place g field.complete = refl
@@ -55,12 +49,9 @@ in-place g field.unfinished = refl
 in-place g field.tags = refl
 in-place g field.whose = refl
 
-same-at : (g g′ : Field → Bool) → map g fields ≡ map g′ fields → (f : Field) → g f ≡ g′ f
-same-at g g′ e f = sym (in-place g f) ∙ ap (λ (l : List Bool). getD l (placeOf f) true) e ∙ in-place g′ f
-
 -- ---- a machine, opened with two servers and two clients, and a list of its steps
 
-abbrev opens : ℕ → Step
+abbrev pub opens : ℕ → Step
 opens method = opening method 2 2 first
 
 unfoldable pub played : Machine Step → ℕ → List Step → List Played
@@ -69,44 +60,35 @@ played machine method steps = run machine steps (machine (opens method) zeros .t
 unfoldable pub told : Machine Step → ℕ → List Step → History
 told machine method steps = history (played machine method steps) (openedWith method first)
 
--- a field is refuted where it is broken, and else it holds
-abbrev pub Stated : Bool → Type 0 → Type 0
-Stated true P = P → ⊥
-Stated false P = P
+abbrev pub Accepted : Machine Step → ℕ → Type 0
+Accepted machine method = machine (opens method) zeros .event ≡ opened method 2 2 first Ok
 
-pub record Breaks (broken : List Field) (machine : Machine Step) (method : ℕ) (steps : List Step) : Type 0 where
-  pub accepted : machine (opens method) zeros .event ≡ opened method 2 2 first Ok
-  pub stated : (f : Field) → Stated (among f broken) (Says f (played machine method steps) (told machine method steps))
-  pub refuted : Demand3 machine → ⊥
+module _ (broken : List Field) (machine : Machine Step) (method : ℕ) (steps : List Step) where
+  abbrev SaysThere : Field → Type 0
+  SaysThere f = Says f (played machine method steps) (told machine method steps)
 
--- ---- by computing: what the tests say, all at once
+  -- each field that is broken is refuted, and each other holds
+  pub record Breaks : Type 0 where
+    pub accepted : Accepted machine method
+    pub stated : (f : Field) → Stated (among placeOf fields f broken) (SaysThere f)
+    pub refuted : Demand3 machine → ⊥
 
-module _ (machine : Machine Step) (method : ℕ) (steps : List Step) where
-  abbrev pub tests : Field → Bool
-  tests f = test method first (played machine method steps) f .passes
+  -- what the tests say, all at once
+  abbrev pub Computed : Type 0
+  Computed = decided.Computed placeOf fields (λ f. test method first (played machine method steps) f .passes) broken
 
-  abbrev pub Accepted : Type 0
-  Accepted = machine (opens method) zeros .event ≡ opened method 2 2 first Ok
-
-  abbrev pub Computed : List Field → Type 0
-  Computed broken = map tests fields ≡ map (λ f. not (among f broken)) fields
-
-  claim : Demand3 machine → Accepted → Claim (played machine method steps) (told machine method steps)
+module _ (machine : Machine Step) (method : ℕ) (steps : List Step) (f : Field) (more : List Field) where
+  claim : Demand3 machine → Accepted machine method → Claim (played machine method steps) (told machine method steps)
   unfolding told played
   claim d e = d (opens method) zeros method 2 2 first e steps
 
-  stated-by : (broken : List Field) → Computed broken →
-      (f : Field) → Stated (among f broken) (Says f (played machine method steps) (told machine method steps))
+  pub breaks : Accepted machine method → Computed (f ∷ more) machine method steps → Breaks (f ∷ more) machine method steps
   unfolding told
-  stated-by broken c f = by (among f broken) (same-at tests (λ g. not (among g broken)) c f)
-    where
-      by : (b : Bool) → tests f ≡ not b → Stated b (Says f (played machine method steps) (told machine method steps))
-      by true e = test method first (played machine method steps) f .fails e
-      by false e = test method first (played machine method steps) f .holds e
-
-  pub breaks : (f : Field) (more : List Field) → Accepted → Computed (f ∷ more) → Breaks (f ∷ more) machine method steps
-  breaks f more e c = record {
-    accepted = e;
-    stated = stated-by (f ∷ more) c;
-    refuted = λ d. (rw (eq-eqb (placeOf f) (placeOf f) refl) at (stated-by (f ∷ more) c f)) (claim-says _ _ (claim d e) f);
-  }
+  breaks e c =
+      let There : Field → Type 0 = SaysThere (f ∷ more) machine method steps in
+      let stated = all-stated placeOf fields in-place There (test method first (played machine method steps)) (f ∷ more) c in
+      record {
+        accepted = e;
+        stated = stated;
+        refuted = λ d. first-broken placeOf fields There f more (stated f) (claim-says _ _ (claim d e) f);
+      }

@@ -1,11 +1,13 @@
--- Tests that decide: a test of a fact is true where the fact holds, and false where it is refuted.
+-- Tests that decide: a test of a fact is true where the fact holds, and false where it is refuted. Of facts that are told apart by a number,
+-- a computed list of tests says which hold and which are refuted.
 use Prim.Native.Nat.{ℕ, _≤_, _<_}
-use mathlib.Core.Path.{_≡_, sym, _∙_}
+use mathlib.Core.Path.{_≡_, refl, sym, ap, _∙_}
 use mathlib.Core.Bool.{Bool, true, false, not, _&&_, _||_, true≢false}
-use mathlib.Core.List.{List, [], _∷_}
+use mathlib.Core.List.{List, [], _∷_, map}
 use native.Mathlib.Omega.{arith}
+use lib.ListN.{getD}
 use lib.Dec.{eqb, leb, ltb}
-use borrow.Author.Tests.{not-true, not-false, eqb-true, eqb-false, leb-true, leb-false, ltb-true, ltb-false}
+use borrow.Author.Tests.{not-true, not-false, eq-eqb, eqb-true, eqb-false, leb-true, leb-false, ltb-true, ltb-false}
 use Rattle.ranges.specs.Each.{Each}
 use Rattle.ranges.specs.All.{allBelow}
 use Rattle.ranges.specs.AllLaws.{all-at, all-fails}
@@ -69,3 +71,38 @@ less m n = record { passes = ltb m n; holds = ltb-true m n; fails = λ e l. omeg
 abbrev pub is : (kind b : Bool) → Test (b ≡ kind)
 is true b = record { passes = b; holds = λ e. e; fails = λ e d. not-both d e }
 is false b = record { passes = not b; holds = not-true b; fails = λ e d. not-both (not-false b e) d }
+
+-- ---- which of some facts are broken
+
+-- a fact is refuted where it is broken, and else it holds
+abbrev pub Stated : Bool → Type 0 → Type 0
+Stated true P = P → ⊥
+Stated false P = P
+
+stated-by : (P : Type 0) (b : Bool) (t : Test P) → t .passes ≡ not b → Stated b P
+stated-by P true t e = t .fails e
+stated-by P false t e = t .holds e
+
+-- all of them, each at its number
+module _ {A : Type 0} (placeOf : A → ℕ) (all : List A) where
+  abbrev pub among : A → List A → Bool
+  among x [] = false
+  among x (y ∷ ys) = eqb (placeOf x) (placeOf y) || among x ys
+
+  abbrev pub InPlace : Type 0
+  InPlace = (test : A → Bool) (x : A) → getD (map test all) (placeOf x) true ≡ test x
+
+  abbrev pub Computed : (A → Bool) → List A → Type 0
+  Computed tests broken = map tests all ≡ map (λ x. not (among x broken)) all
+
+  pub all-stated : InPlace → (P : A → Type 0) (test : (x : A) → Test (P x)) (broken : List A) →
+      Computed (λ x. test x .passes) broken → (x : A) → Stated (among x broken) (P x)
+  all-stated place P test broken e x =
+      let tests : A → Bool = λ y. test y .passes in
+      let others : A → Bool = λ y. not (among y broken) in
+      stated-by (P x) (among x broken) (test x)
+      (sym (place tests x) ∙ ap (λ (l : List Bool). getD l (placeOf x) true) e ∙ place others x)
+
+  -- the first of those that are broken is
+  pub first-broken : (P : A → Type 0) (x : A) (more : List A) → Stated (among x (x ∷ more)) (P x) → P x → ⊥
+  first-broken P x more s = rw (eq-eqb (placeOf x) (placeOf x) refl) at s

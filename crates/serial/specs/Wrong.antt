@@ -116,27 +116,27 @@ record Tested : Type 0 where
   byA : open′ 1 2 2 first zeros .answer ≡ Ok
   byB : open′ 2 2 2 first zeros .answer ≡ Ok
   byC : open′ 3 2 2 first zeros .answer ≡ Ok
-  not-opening-shown : Computed store.openingShown 1 thenReadByA (walk ∷ [])
-  not-opening-at-server-1 : Computed store.openingAtServer1 2 thenReadByB (walk ∷ [])
-  not-latest : Computed store.showingLatest 2 crossing (walk ∷ [])
-  not-beyond : Computed store.tagTooLarge 2 (readByB 1) (whole ∷ complete ∷ [])
-  not-opening-again : Computed store.openingAgain 3 twoReads (readAfterRead ∷ [])
-  not-to-come : Computed store.tagTooLarge 2 thenWrite (writeAfterRead ∷ [])
-  not-opening-always : Computed store.openingAlways 2 thenReadByB (readAfterWrite ∷ [])
-  not-opening-always-by-A : Computed store.openingAlways 1 thenReadByA (readAfterWrite ∷ [])
-  not-opening-always-by-C : Computed store.openingAlways 3 thenReadByC (readAfterWrite ∷ [])
-  not-hurried : Computed store.hurrying 3 hasty (readAfterWrite ∷ [])
-  not-unanswered : Computed store.unanswering 2 requestOnly (answered ∷ [])
-  not-late : Computed store.endingLate 1 replyMore (ends ∷ [])
-  not-early : Computed store.endingEarly 2 replyLess (ends ∷ [])
-  not-waiting : Computed store.waitingForEver 3 (readByC 1) (unfinished ∷ [])
-  not-invented : Computed store.inventing 3 (writeBoth 0) (tags ∷ [])
-  not-unentered : Computed store.writtenUnentered 3 (acknowledged 0) (whose ∷ [])
-  not-overtaken : Computed store.writtenUnentered 2 overtaken (whose ∷ [])
-  not-written-for-read : Computed store.writtenForRead 1 (readByA 0) (whose ∷ [])
-  not-writing-twice : Computed store.beginningAlways 1 writeTwice (whose ∷ [])
-  not-reading-twice : Computed store.beginningAlways 2 readTwice (whose ∷ [])
-  not-waiting-at-nothing : Computed store.waitingAtNothing 3 replyOnly (whose ∷ [])
+  not-opening-shown : Computed (walk ∷ []) store.openingShown 1 thenReadByA
+  not-opening-at-server-1 : Computed (walk ∷ []) store.openingAtServer1 2 thenReadByB
+  not-latest : Computed (walk ∷ []) store.showingLatest 2 crossing
+  not-beyond : Computed (whole ∷ complete ∷ []) store.tagTooLarge 2 (readByB 1)
+  not-opening-again : Computed (readAfterRead ∷ []) store.openingAgain 3 twoReads
+  not-to-come : Computed (writeAfterRead ∷ []) store.tagTooLarge 2 thenWrite
+  not-opening-always : Computed (readAfterWrite ∷ []) store.openingAlways 2 thenReadByB
+  not-opening-always-by-A : Computed (readAfterWrite ∷ []) store.openingAlways 1 thenReadByA
+  not-opening-always-by-C : Computed (readAfterWrite ∷ []) store.openingAlways 3 thenReadByC
+  not-hurried : Computed (readAfterWrite ∷ []) store.hurrying 3 hasty
+  not-unanswered : Computed (answered ∷ []) store.unanswering 2 requestOnly
+  not-late : Computed (ends ∷ []) store.endingLate 1 replyMore
+  not-early : Computed (ends ∷ []) store.endingEarly 2 replyLess
+  not-waiting : Computed (unfinished ∷ []) store.waitingForEver 3 (readByC 1)
+  not-invented : Computed (tags ∷ []) store.inventing 3 (writeBoth 0)
+  not-unentered : Computed (whose ∷ []) store.writtenUnentered 3 (acknowledged 0)
+  not-overtaken : Computed (whose ∷ []) store.writtenUnentered 2 overtaken
+  not-written-for-read : Computed (whose ∷ []) store.writtenForRead 1 (readByA 0)
+  not-writing-twice : Computed (whose ∷ []) store.beginningAlways 1 writeTwice
+  not-reading-twice : Computed (whose ∷ []) store.beginningAlways 2 readTwice
+  not-waiting-at-nothing : Computed (whose ∷ []) store.waitingAtNothing 3 replyOnly
 
 tested : Tested
 unfolding zeros played changed readsOf rowTo open′ beginWrite beginRead deliverRequest deliverReply openRefusal writeRefusal
