@@ -4,6 +4,8 @@
 pub mod Order
 pub mod Sample
 pub mod Parts
+pub mod WrongListings
+pub mod Wrong
 pub mod Lists
 pub mod Agreement
 pub mod Machines

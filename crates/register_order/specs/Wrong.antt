@@ -1,0 +1,157 @@
+-- That the register's order rules wrong listings out, and stores that record wrongly, part by part: how many are listed, and of each its
+-- kind, tag, panel, mask, begin and end. Each theorem says which parts differ on a list of steps, and that all the others agree.
+use mathlib.Core.Path.{_≡_, refl, ap}
+use mathlib.Core.List.{[], _∷_}
+use Rattle.ranges.specs.All.{allBelow, anyBelow}
+use Rattle.ranges.specs.Sum.{sumBelow}
+use Rattle.ranges.specs.First.{firstFrom}
+use Rattle.ranges.specs.Last.{lastBelow}
+use Rattle.ranges.specs.Turns.{turns}
+use Rattle.tables.specs.Layout.{clientOfRecord, numberOfRecord, tagOfRecord, beginOfRecord, endOfRecord}
+use Rattle.tables.specs.Links.{linkAt, putLink}
+use Rattle.server.specs.Held.{appended}
+use Rattle.coordinator.specs.Log as log
+use Rattle.rules.specs.declared.Answer.the-variants.{Ok}
+use Rattle.rules.specs.Begin.{begunWrite, begunRead}
+use Rattle.rules.specs.Request.{onSet, onEnter, onWhichKeys, onGet, onGetAll, onRequestIn, requestDelivered}
+use Rattle.rules.specs.Reply.{onSetDone, onEntered, onKeys, onGot, onAll, onReplyIn, replyDelivered}
+use Rattle.soundness.specs.Sound.{longEnough, pressFits, scalarsSound, keyInRange, serverSound, entrySound, logSound, stateAllowed}
+use Rattle.soundness.specs.Sound.{uses, requestSound, replySound, contentSound, linkSound, receivedSound, clientSound, writeSound}
+use Rattle.soundness.specs.Sound.{readSound, openSound, recordsSound, sound}
+use Rattle.refusals.specs.Refusals.{openRefusal, writeRefusal, readRefusal, deliveryRefusal}
+use Rattle.refusals.specs.Steps.{open′, beginWrite, beginRead, deliverRequest, deliverReply}
+use Rattle.listing.specs.Register.{placesBelow, passing, inserted, insertedAll, listedTo, register}
+use Rattle.serial.specs.Steps.{opened, play}
+use Rattle.serial.specs.History.{changed}
+use Rattle.serial.specs.Row as row
+use Rattle.serial.specs.Sample.{zeros}
+use Rattle.serial.specs.WrongStores.{first}
+use Rattle.serial.specs.Wrong.{thenReadByA, thenReadByB, thenReadByC, twoReads, replyLess, requestOnly, overtaken}
+use Rattle.register_order.specs.Parts as part
+use Rattle.register_order.specs.Parts.{lines, rowed, Differs, Computed, differs}
+use Rattle.register_order.specs.WrongListings.{byEndFalling, readsAhead, finishedOnly, untaggedToo, unfinishedToo, kindsExchanged, byBegin}
+use Rattle.register_order.specs.WrongListings.{misread, miswritten}
+
+-- ---- what the tests of every part say of each, computed
+
+record Tested : Type 0 where
+  byA : open′ 1 2 2 first zeros .answer ≡ Ok
+  byB : open′ 2 2 2 first zeros .answer ≡ Ok
+  byC : open′ 3 2 2 first zeros .answer ≡ Ok
+  not-finished-only : Computed finishedOnly play 3 twoReads (part.count ∷ part.kind ∷ part.tag ∷ part.client ∷ part.mask ∷ part.begin ∷ part.end ∷ [])
+  not-untagged : Computed untaggedToo play 2 requestOnly (part.count ∷ part.kind ∷ part.tag ∷ part.client ∷ part.mask ∷ part.begin ∷ part.end ∷ [])
+  not-unfinished : Computed unfinishedToo play 2 replyLess (part.count ∷ part.kind ∷ part.tag ∷ part.client ∷ part.mask ∷ part.begin ∷ part.end ∷ [])
+  not-by-end-falling : Computed byEndFalling play 3 twoReads (part.begin ∷ part.end ∷ [])
+  not-reads-ahead : Computed readsAhead play 2 thenReadByB (part.kind ∷ part.client ∷ part.mask ∷ part.begin ∷ part.end ∷ [])
+  not-by-begin : Computed byBegin play 2 overtaken (part.tag ∷ part.client ∷ part.begin ∷ [])
+  not-kinds-exchanged : Computed kindsExchanged play 2 thenReadByB (part.kind ∷ part.client ∷ part.mask ∷ part.begin ∷ part.end ∷ [])
+  not-tag-of-read : Computed byBegin (misread tagOfRecord 0) 2 thenReadByB (part.tag ∷ [])
+  not-tag-of-write : Computed byBegin (miswritten tagOfRecord 2) 3 thenReadByC (part.tag ∷ [])
+  not-client-of-read : Computed register (misread clientOfRecord 1) 1 thenReadByA (part.client ∷ [])
+  not-client-of-write : Computed register (miswritten clientOfRecord 1) 2 thenReadByB (part.client ∷ [])
+  not-mask-of-read : Computed register (misread numberOfRecord 1) 2 thenReadByB (part.mask ∷ [])
+  not-begin-of-read : Computed register (misread beginOfRecord 1) 1 thenReadByA (part.begin ∷ [])
+  not-begin-of-write : Computed register (miswritten beginOfRecord 1) 3 thenReadByC (part.begin ∷ [])
+  not-end-of-read : Computed register (misread endOfRecord 99) 3 thenReadByC (part.end ∷ [])
+  not-end-of-write : Computed register (miswritten endOfRecord 0) 2 thenReadByB (part.end ∷ [])
+
+tested : Tested
+unfolding zeros lines rowed changed row.readsOf row.rowTo open′ beginWrite beginRead deliverRequest deliverReply openRefusal
+    writeRefusal readRefusal deliveryRefusal longEnough pressFits turns sound scalarsSound keyInRange serverSound entrySound
+    logSound stateAllowed uses requestSound replySound contentSound linkSound receivedSound clientSound writeSound readSound
+    openSound recordsSound allBelow anyBelow sumBelow linkAt putLink firstFrom lastBelow appended log.entered begunWrite
+    begunRead onSet onEnter onWhichKeys onGet onGetAll onRequestIn requestDelivered onSetDone onEntered onKeys onGot onAll
+    onReplyIn replyDelivered placesBelow passing inserted insertedAll listedTo
+tested = record {
+  byA = refl;
+  byB = refl;
+  byC = refl;
+  not-finished-only = refl;
+  not-untagged = refl;
+  not-unfinished = refl;
+  not-by-end-falling = refl;
+  not-reads-ahead = refl;
+  not-by-begin = refl;
+  not-kinds-exchanged = refl;
+  not-tag-of-read = refl;
+  not-tag-of-write = refl;
+  not-client-of-read = refl;
+  not-client-of-write = refl;
+  not-mask-of-read = refl;
+  not-begin-of-read = refl;
+  not-begin-of-write = refl;
+  not-end-of-read = refl;
+  not-end-of-write = refl;
+}
+
+-- each opens as the store does
+opensA : opened 1 2 2 first (open′ 1 2 2 first zeros .answer) ≡ opened 1 2 2 first Ok
+opensA = ap (opened 1 2 2 first) (tested .byA)
+
+opensB : opened 2 2 2 first (open′ 2 2 2 first zeros .answer) ≡ opened 2 2 2 first Ok
+opensB = ap (opened 2 2 2 first) (tested .byB)
+
+opensC : opened 3 2 2 first (open′ 3 2 2 first zeros .answer) ≡ opened 3 2 2 first Ok
+opensC = ap (opened 3 2 2 first) (tested .byC)
+
+-- ---- the wrong listings and records, by part
+
+-- all of the row: a WRITE that has its tag and no end is left out
+pub not-finished-only : Differs finishedOnly play 3 twoReads (part.count ∷ part.kind ∷ part.tag ∷ part.client ∷ part.mask ∷ part.begin ∷ part.end ∷ [])
+not-finished-only = differs finishedOnly play 3 twoReads part.count (part.kind ∷ part.tag ∷ part.client ∷ part.mask ∷ part.begin ∷ part.end ∷ []) opensC (tested .not-finished-only)
+
+-- and no other: a WRITE without a tag is listed
+pub not-untagged : Differs untaggedToo play 2 requestOnly (part.count ∷ part.kind ∷ part.tag ∷ part.client ∷ part.mask ∷ part.begin ∷ part.end ∷ [])
+not-untagged = differs untaggedToo play 2 requestOnly part.count (part.kind ∷ part.tag ∷ part.client ∷ part.mask ∷ part.begin ∷ part.end ∷ []) opensB (tested .not-untagged)
+
+-- a READ without an end is listed
+pub not-unfinished : Differs unfinishedToo play 2 replyLess (part.count ∷ part.kind ∷ part.tag ∷ part.client ∷ part.mask ∷ part.begin ∷ part.end ∷ [])
+not-unfinished = differs unfinishedToo play 2 replyLess part.count (part.kind ∷ part.tag ∷ part.client ∷ part.mask ∷ part.begin ∷ part.end ∷ []) opensB (tested .not-unfinished)
+
+-- the order: READs of a tag by end falling
+pub not-by-end-falling : Differs byEndFalling play 3 twoReads (part.begin ∷ part.end ∷ [])
+not-by-end-falling = differs byEndFalling play 3 twoReads part.begin (part.end ∷ []) opensC (tested .not-by-end-falling)
+
+-- a READ ahead of the WRITE of its tag
+pub not-reads-ahead : Differs readsAhead play 2 thenReadByB (part.kind ∷ part.client ∷ part.mask ∷ part.begin ∷ part.end ∷ [])
+not-reads-ahead = differs readsAhead play 2 thenReadByB part.kind (part.client ∷ part.mask ∷ part.begin ∷ part.end ∷ []) opensB (tested .not-reads-ahead)
+
+-- WRITEs by begin, whatever their tags
+pub not-by-begin : Differs byBegin play 2 overtaken (part.tag ∷ part.client ∷ part.begin ∷ [])
+not-by-begin = differs byBegin play 2 overtaken part.tag (part.client ∷ part.begin ∷ []) opensB (tested .not-by-begin)
+
+-- the kind
+pub not-kinds-exchanged : Differs kindsExchanged play 2 thenReadByB (part.kind ∷ part.client ∷ part.mask ∷ part.begin ∷ part.end ∷ [])
+not-kinds-exchanged = differs kindsExchanged play 2 thenReadByB part.kind (part.client ∷ part.mask ∷ part.begin ∷ part.end ∷ []) opensB (tested .not-kinds-exchanged)
+
+-- the tag, of a READ and of a WRITE, listed in the right order all the same
+pub not-tag-of-read : Differs byBegin (misread tagOfRecord 0) 2 thenReadByB (part.tag ∷ [])
+not-tag-of-read = differs byBegin (misread tagOfRecord 0) 2 thenReadByB part.tag [] opensB (tested .not-tag-of-read)
+
+pub not-tag-of-write : Differs byBegin (miswritten tagOfRecord 2) 3 thenReadByC (part.tag ∷ [])
+not-tag-of-write = differs byBegin (miswritten tagOfRecord 2) 3 thenReadByC part.tag [] opensC (tested .not-tag-of-write)
+
+-- the panel
+pub not-client-of-read : Differs register (misread clientOfRecord 1) 1 thenReadByA (part.client ∷ [])
+not-client-of-read = differs register (misread clientOfRecord 1) 1 thenReadByA part.client [] opensA (tested .not-client-of-read)
+
+pub not-client-of-write : Differs register (miswritten clientOfRecord 1) 2 thenReadByB (part.client ∷ [])
+not-client-of-write = differs register (miswritten clientOfRecord 1) 2 thenReadByB part.client [] opensB (tested .not-client-of-write)
+
+-- the mask of a READ
+pub not-mask-of-read : Differs register (misread numberOfRecord 1) 2 thenReadByB (part.mask ∷ [])
+not-mask-of-read = differs register (misread numberOfRecord 1) 2 thenReadByB part.mask [] opensB (tested .not-mask-of-read)
+
+-- the begin
+pub not-begin-of-read : Differs register (misread beginOfRecord 1) 1 thenReadByA (part.begin ∷ [])
+not-begin-of-read = differs register (misread beginOfRecord 1) 1 thenReadByA part.begin [] opensA (tested .not-begin-of-read)
+
+pub not-begin-of-write : Differs register (miswritten beginOfRecord 1) 3 thenReadByC (part.begin ∷ [])
+not-begin-of-write = differs register (miswritten beginOfRecord 1) 3 thenReadByC part.begin [] opensC (tested .not-begin-of-write)
+
+-- the end
+pub not-end-of-read : Differs register (misread endOfRecord 99) 3 thenReadByC (part.end ∷ [])
+not-end-of-read = differs register (misread endOfRecord 99) 3 thenReadByC part.end [] opensC (tested .not-end-of-read)
+
+pub not-end-of-write : Differs register (miswritten endOfRecord 0) 2 thenReadByB (part.end ∷ [])
+not-end-of-write = differs register (miswritten endOfRecord 0) 2 thenReadByB part.end [] opensB (tested .not-end-of-write)
