@@ -1,6 +1,7 @@
 -- What the register's order says, part by part; and a test of each, which decides it for a listing, a machine and a list of its steps.
 use Prim.Native.Nat.{ℕ, suc}
 use mathlib.Core.Path.{_≡_, refl, ap, ap₂}
+use mathlib.Core.Bool.{Bool}
 use mathlib.Core.List.{List, [], _∷_, map}
 use native.Mathlib.Omega.{arith}
 use lib.ListN.{length, getD, drop}
@@ -63,6 +64,10 @@ same (x ∷ xs) (y ∷ ys) =
     (λ e. ap₂ {C = List ℕ} (λ (n : ℕ) (l : List ℕ). n ∷ l) (e .0) (e .1))
     (λ e. (ap (λ (l : List ℕ). getD l 0 0) e, ap (λ (l : List ℕ). drop 1 l) e))
 
+-- what the tests of every part say of two lists
+abbrev verdict : List Particulars → List Particulars → List Bool
+verdict xs ys = map (λ part. same (words part xs) (words part ys) .passes) parts
+
 -- ---- a listing and a machine, opened with two servers and two clients, and a list of its steps
 
 module _ (listing : Tables → List Line) (machine : Machine Step) (method : ℕ) (steps : List Step) where
@@ -90,7 +95,7 @@ module _ (listing : Tables → List Line) (machine : Machine Step) (method : ℕ
 
     -- what the tests say, all at once
     abbrev pub Computed : Type 0
-    Computed = decided.Computed placeOf parts (λ part. same (words part lines) (words part rowed) .passes) broken
+    Computed = decided.Computed placeOf parts (verdict lines rowed) broken
 
   agreed : SameOrder listing machine → Accepted machine method → lines ≡ rowed
   unfolding lines rowed

@@ -2,7 +2,7 @@
 use Prim.Native.Nat.{ℕ}
 use mathlib.Core.Path.{_≡_, refl}
 use mathlib.Core.Bool.{Bool}
-use mathlib.Core.List.{List, [], _∷_}
+use mathlib.Core.List.{List, [], _∷_, map}
 use Rattle.rules.specs.declared.Answer.the-variants.{Ok}
 use Rattle.serial.specs.Steps.{Step, opening, opened, Played, Machine, run}
 use Rattle.serial.specs.History.{History, openedWith, history}
@@ -63,6 +63,10 @@ told machine method steps = history (played machine method steps) (openedWith me
 abbrev pub Accepted : Machine Step → ℕ → Type 0
 Accepted machine method = machine (opens method) zeros .event ≡ opened method 2 2 first Ok
 
+-- what the tests say of what was played
+abbrev verdict : ℕ → List Played → List Bool
+verdict method steps = map (λ f. test method first steps f .passes) fields
+
 module _ (broken : List Field) (machine : Machine Step) (method : ℕ) (steps : List Step) where
   abbrev SaysThere : Field → Type 0
   SaysThere f = Says f (played machine method steps) (told machine method steps)
@@ -75,7 +79,7 @@ module _ (broken : List Field) (machine : Machine Step) (method : ℕ) (steps : 
 
   -- what the tests say, all at once
   abbrev pub Computed : Type 0
-  Computed = decided.Computed placeOf fields (λ f. test method first (played machine method steps) f .passes) broken
+  Computed = decided.Computed placeOf fields (verdict method (played machine method steps)) broken
 
 module _ (machine : Machine Step) (method : ℕ) (steps : List Step) (f : Field) (more : List Field) where
   claim : Demand3 machine → Accepted machine method → Claim (played machine method steps) (told machine method steps)

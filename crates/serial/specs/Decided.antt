@@ -92,11 +92,12 @@ module _ {A : Type 0} (placeOf : A → ℕ) (all : List A) where
   abbrev pub InPlace : Type 0
   InPlace = (test : A → Bool) (x : A) → getD (map test all) (placeOf x) true ≡ test x
 
-  abbrev pub Computed : (A → Bool) → List A → Type 0
-  Computed tests broken = map tests all ≡ map (λ x. not (among x broken)) all
+  -- what the tests of all of them say, where these are broken
+  abbrev pub Computed : List Bool → List A → Type 0
+  Computed said broken = said ≡ map (λ x. not (among x broken)) all
 
   pub all-stated : InPlace → (P : A → Type 0) (test : (x : A) → Test (P x)) (broken : List A) →
-      Computed (λ x. test x .passes) broken → (x : A) → Stated (among x broken) (P x)
+      Computed (map (λ y. test y .passes) all) broken → (x : A) → Stated (among x broken) (P x)
   all-stated place P test broken e x =
       let tests : A → Bool = λ y. test y .passes in
       let others : A → Bool = λ y. not (among y broken) in
