@@ -7,6 +7,7 @@ pub mod Lists
 pub mod Owed
 pub mod HistoryOk
 pub mod HistoryKept
+pub mod Always
 pub mod Versions
 pub mod Press
 pub mod Links

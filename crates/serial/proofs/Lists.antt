@@ -8,7 +8,7 @@ use native.Mathlib.Omega.{arith}
 use lib.ListN.{length, getD, length-append}
 use lib.Dec.{eqb, leb}
 use borrow.Author.Tests.{eqb-true, eq-eqb, ne-eqb, leb-true, leb-false, le-leb, lt-leb}
-use Rattle.ranges.specs.Tests.{by-equal, by-test}
+use Rattle.ranges.specs.Tests.{either, by-equal, by-test}
 use Rattle.ranges.specs.Each.{Each, each-append, each-map, each-at}
 use Rattle.serial.specs.History.{Transaction, History}
 use Rattle.serial.specs.Row.{readsOf, rowTo, row}
@@ -96,3 +96,18 @@ row-length h (suc n) = omega (arith, length-append (rowTo h n) (h .write (suc n)
 
 pub row-complete : (h : History) → Each (λ x. x .tag ≤ h .tags) (h .reads) → length (row h) ≡ h .tags + length (h .reads)
 row-complete h a = row-length h (h .tags) ∙ ap (λ (n : ℕ). h .tags + n) (up-all (h .tags) (h .reads) a)
+
+-- and where the row has all of them, no tag is beyond
+up-most : (n : ℕ) (xs : List Transaction) → upTo n xs ≤ length xs
+up-most n [] = omega arith
+up-most n (x ∷ xs) = either (λ m. m ≤ suc (length xs)) (leb (x .tag) n) (omega (arith, up-most n xs)) (omega (arith, up-most n xs))
+
+up-every : (n : ℕ) (xs : List Transaction) → upTo n xs ≡ length xs → Each (λ x. x .tag ≤ n) xs
+up-every n [] e = tt
+up-every n (x ∷ xs) e =
+    by-test (leb (x .tag) n)
+    (λ b. let f : suc (upTo n xs) ≡ suc (length xs) = rw b at e in (leb-true _ _ b, up-every n xs (omega arith)))
+    (λ b. let f : upTo n xs ≡ suc (length xs) = rw b at e in let z : ⊥ = omega (arith, up-most n xs) in absurd z)
+
+pub complete-whole : (h : History) → length (row h) ≡ h .tags + length (h .reads) → Each (λ x. x .tag ≤ h .tags) (h .reads)
+complete-whole h e = up-every (h .tags) (h .reads) (omega (arith, row-length h (h .tags), e))
