@@ -1,6 +1,7 @@
--- The register's order is the row's order. To believe: Order; to see that it means it: Sample. The rest is the proof, and `Theorem` has the one theorem,
--- `SameOrder register play`: what ties records and history (Lists, Agreement), any machine that keeps the tie (Machines), the tie over a
--- step by what becomes of a record (Grown, Laws), each step (Begins to Replies).
+-- The register's order is the row's order. To believe: Order; to see that it means it: Sample, and Wrong, for each part of it (Parts) a
+-- wrong listing (WrongListings). The rest is the proof, and `Theorem` has the one theorem, `SameOrder register play`: what ties records and
+-- history (Lists, Agreement), any machine that keeps the tie (Machines), the tie over a step by what becomes of a record (Grown, Laws),
+-- each step (Begins to Replies).
 pub mod Order
 pub mod Sample
 pub mod Parts

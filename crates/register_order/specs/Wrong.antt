@@ -1,7 +1,7 @@
 -- That the register's order rules wrong listings out, and stores that record wrongly, part by part: how many are listed, and of each its
 -- kind, tag, panel, mask, begin and end. Each theorem says which parts differ on a list of steps, and that all the others agree.
 use mathlib.Core.Path.{_≡_, refl, ap}
-use mathlib.Core.List.{[], _∷_}
+use mathlib.Core.List.{List, [], _∷_}
 use Rattle.ranges.specs.All.{allBelow, anyBelow}
 use Rattle.ranges.specs.Sum.{sumBelow}
 use Rattle.ranges.specs.First.{firstFrom}
@@ -29,8 +29,16 @@ use Rattle.serial.specs.WrongStores.{first}
 use Rattle.serial.specs.Wrong.{thenReadByA, thenReadByB, thenReadByC, twoReads, replyLess, requestOnly, overtaken}
 use Rattle.register_order.specs.Parts as part
 use Rattle.register_order.specs.Parts.{lines, rowed, Differs, Computed, differs}
-use Rattle.register_order.specs.WrongListings.{byEndFalling, readsAhead, finishedOnly, untaggedToo, unfinishedToo, kindsExchanged, byBegin}
-use Rattle.register_order.specs.WrongListings.{misread, miswritten}
+use Rattle.register_order.specs.Parts.{Part}
+use Rattle.register_order.specs.WrongListings.{byEndFalling, readsAhead, finishedOnly, untaggedToo, unfinishedToo}
+use Rattle.register_order.specs.WrongListings.{kindsExchanged, byBegin, misread, miswritten}
+
+-- what differs beside the count where one is missing or too many, and beside the kind where a WRITE and a READ change places
+abbrev particulars : List Part
+particulars = part.kind ∷ part.tag ∷ part.client ∷ part.mask ∷ part.begin ∷ part.end ∷ []
+
+abbrev exchanged : List Part
+exchanged = part.client ∷ part.mask ∷ part.begin ∷ part.end ∷ []
 
 -- ---- what the tests of every part say of each, computed
 
@@ -38,13 +46,13 @@ record Tested : Type 0 where
   byA : open′ 1 2 2 first zeros .answer ≡ Ok
   byB : open′ 2 2 2 first zeros .answer ≡ Ok
   byC : open′ 3 2 2 first zeros .answer ≡ Ok
-  not-finished-only : Computed finishedOnly play 3 twoReads (part.count ∷ part.kind ∷ part.tag ∷ part.client ∷ part.mask ∷ part.begin ∷ part.end ∷ [])
-  not-untagged : Computed untaggedToo play 2 requestOnly (part.count ∷ part.kind ∷ part.tag ∷ part.client ∷ part.mask ∷ part.begin ∷ part.end ∷ [])
-  not-unfinished : Computed unfinishedToo play 2 replyLess (part.count ∷ part.kind ∷ part.tag ∷ part.client ∷ part.mask ∷ part.begin ∷ part.end ∷ [])
+  not-finished-only : Computed finishedOnly play 3 twoReads (part.count ∷ particulars)
+  not-untagged : Computed untaggedToo play 2 requestOnly (part.count ∷ particulars)
+  not-unfinished : Computed unfinishedToo play 2 replyLess (part.count ∷ particulars)
   not-by-end-falling : Computed byEndFalling play 3 twoReads (part.begin ∷ part.end ∷ [])
-  not-reads-ahead : Computed readsAhead play 2 thenReadByB (part.kind ∷ part.client ∷ part.mask ∷ part.begin ∷ part.end ∷ [])
+  not-reads-ahead : Computed readsAhead play 2 thenReadByB (part.kind ∷ exchanged)
   not-by-begin : Computed byBegin play 2 overtaken (part.tag ∷ part.client ∷ part.begin ∷ [])
-  not-kinds-exchanged : Computed kindsExchanged play 2 thenReadByB (part.kind ∷ part.client ∷ part.mask ∷ part.begin ∷ part.end ∷ [])
+  not-kinds-exchanged : Computed kindsExchanged play 2 thenReadByB (part.kind ∷ exchanged)
   not-tag-of-read : Computed byBegin (misread tagOfRecord 0) 2 thenReadByB (part.tag ∷ [])
   not-tag-of-write : Computed byBegin (miswritten tagOfRecord 2) 3 thenReadByC (part.tag ∷ [])
   not-client-of-read : Computed register (misread clientOfRecord 1) 1 thenReadByA (part.client ∷ [])
@@ -97,32 +105,32 @@ opensC = ap (opened 3 2 2 first) (tested .byC)
 -- ---- the wrong listings and records, by part
 
 -- all of the row: a WRITE that has its tag and no end is left out
-pub not-finished-only : Differs finishedOnly play 3 twoReads (part.count ∷ part.kind ∷ part.tag ∷ part.client ∷ part.mask ∷ part.begin ∷ part.end ∷ [])
-not-finished-only = differs finishedOnly play 3 twoReads part.count (part.kind ∷ part.tag ∷ part.client ∷ part.mask ∷ part.begin ∷ part.end ∷ []) opensC (tested .not-finished-only)
+pub not-finished-only : Differs finishedOnly play 3 twoReads (part.count ∷ particulars)
+not-finished-only = differs finishedOnly play 3 twoReads part.count particulars opensC (tested .not-finished-only)
 
 -- and no other: a WRITE without a tag is listed
-pub not-untagged : Differs untaggedToo play 2 requestOnly (part.count ∷ part.kind ∷ part.tag ∷ part.client ∷ part.mask ∷ part.begin ∷ part.end ∷ [])
-not-untagged = differs untaggedToo play 2 requestOnly part.count (part.kind ∷ part.tag ∷ part.client ∷ part.mask ∷ part.begin ∷ part.end ∷ []) opensB (tested .not-untagged)
+pub not-untagged : Differs untaggedToo play 2 requestOnly (part.count ∷ particulars)
+not-untagged = differs untaggedToo play 2 requestOnly part.count particulars opensB (tested .not-untagged)
 
 -- a READ without an end is listed
-pub not-unfinished : Differs unfinishedToo play 2 replyLess (part.count ∷ part.kind ∷ part.tag ∷ part.client ∷ part.mask ∷ part.begin ∷ part.end ∷ [])
-not-unfinished = differs unfinishedToo play 2 replyLess part.count (part.kind ∷ part.tag ∷ part.client ∷ part.mask ∷ part.begin ∷ part.end ∷ []) opensB (tested .not-unfinished)
+pub not-unfinished : Differs unfinishedToo play 2 replyLess (part.count ∷ particulars)
+not-unfinished = differs unfinishedToo play 2 replyLess part.count particulars opensB (tested .not-unfinished)
 
 -- the order: READs of a tag by end falling
 pub not-by-end-falling : Differs byEndFalling play 3 twoReads (part.begin ∷ part.end ∷ [])
 not-by-end-falling = differs byEndFalling play 3 twoReads part.begin (part.end ∷ []) opensC (tested .not-by-end-falling)
 
 -- a READ ahead of the WRITE of its tag
-pub not-reads-ahead : Differs readsAhead play 2 thenReadByB (part.kind ∷ part.client ∷ part.mask ∷ part.begin ∷ part.end ∷ [])
-not-reads-ahead = differs readsAhead play 2 thenReadByB part.kind (part.client ∷ part.mask ∷ part.begin ∷ part.end ∷ []) opensB (tested .not-reads-ahead)
+pub not-reads-ahead : Differs readsAhead play 2 thenReadByB (part.kind ∷ exchanged)
+not-reads-ahead = differs readsAhead play 2 thenReadByB part.kind exchanged opensB (tested .not-reads-ahead)
 
 -- WRITEs by begin, whatever their tags
 pub not-by-begin : Differs byBegin play 2 overtaken (part.tag ∷ part.client ∷ part.begin ∷ [])
 not-by-begin = differs byBegin play 2 overtaken part.tag (part.client ∷ part.begin ∷ []) opensB (tested .not-by-begin)
 
 -- the kind
-pub not-kinds-exchanged : Differs kindsExchanged play 2 thenReadByB (part.kind ∷ part.client ∷ part.mask ∷ part.begin ∷ part.end ∷ [])
-not-kinds-exchanged = differs kindsExchanged play 2 thenReadByB part.kind (part.client ∷ part.mask ∷ part.begin ∷ part.end ∷ []) opensB (tested .not-kinds-exchanged)
+pub not-kinds-exchanged : Differs kindsExchanged play 2 thenReadByB (part.kind ∷ exchanged)
+not-kinds-exchanged = differs kindsExchanged play 2 thenReadByB part.kind exchanged opensB (tested .not-kinds-exchanged)
 
 -- the tag, of a READ and of a WRITE, listed in the right order all the same
 pub not-tag-of-read : Differs byBegin (misread tagOfRecord 0) 2 thenReadByB (part.tag ∷ [])

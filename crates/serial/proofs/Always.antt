@@ -1,5 +1,5 @@
--- What no machine can break, whatever it answers, since the history is folded so: WRITEs stand in real time among themselves. And two fields
--- of the claim that say the same: `whole` and `complete`.
+-- What no machine can break, whatever it answers, since the history is folded so: WRITEs stand in real time among themselves. And two
+-- fields of the claim that say the same: `whole` and `complete`.
 use Prim.Native.Nat.{ℕ, zero, suc, _+_, _≤_, _<_}
 use mathlib.Core.Path.{_≡_, refl, ap}
 use mathlib.Core.Bool.{true, false}
@@ -241,7 +241,9 @@ module _ (h : History) (ok : Timely h) where
       (λ b. ltb-true _ _ b)
       (λ b. let g : n ≤ m = ltb-false m n b in
       by-equal m n
-      (λ d. let y : at (row h) m .begin ≤ end = each-at (λ x. NotBefore x x) noWrite (row h) (itself (h .tags) (omega arith)) m lm v v end e in
+      (λ d.
+      let self = each-at (λ x. NotBefore x x) noWrite (row h) (itself (h .tags) (omega arith)) m lm in
+      let y : at (row h) m .begin ≤ end = self v v end e in
       let z : end < at (row h) m .begin = rw d l in
       let no : ⊥ = omega arith in absurd no)
       (λ d. let y = pairs-at NotBefore noWrite (row h) (ordered (h .tags) (omega arith)) n m (omega arith) lm w v end e in
@@ -250,4 +252,5 @@ module _ (h : History) (ok : Timely h) where
 pub writes-in-time : (method : ℕ) (setpoints : List ℕ) (steps : List Played) →
     RealTimeOf true true (row (history steps (openedWith method setpoints)))
 writes-in-time method setpoints steps =
-    in-row (history steps (openedWith method setpoints)) (history-timely steps (openedWith method setpoints) (fresh-timely method setpoints))
+    let start = openedWith method setpoints in
+    in-row (history steps start) (history-timely steps start (fresh-timely method setpoints))

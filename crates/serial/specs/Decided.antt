@@ -1,5 +1,5 @@
--- Tests that decide: a test of a fact is true where the fact holds, and false where it is refuted. Of facts that are told apart by a number,
--- a computed list of tests says which hold and which are refuted.
+-- Tests that decide: a test of a fact is true where the fact holds, and false where it is refuted. Of facts that are told apart by a
+-- number, a computed list of tests says which hold and which are refuted.
 use Prim.Native.Nat.{ℕ, _≤_, _<_}
 use mathlib.Core.Path.{_≡_, refl, sym, ap, _∙_}
 use mathlib.Core.Bool.{Bool, true, false, not, _&&_, _||_, true≢false}

@@ -21,7 +21,7 @@ use Rattle.soundness.specs.Sound.{requestSound, replySound, contentSound, linkS
 use Rattle.soundness.specs.Sound.{clientSound, writeSound, readSound, openSound, recordsSound, sound}
 use Rattle.refusals.specs.Refusals.{openRefusal, writeRefusal, readRefusal, deliveryRefusal}
 use Rattle.refusals.specs.Steps.{open′, beginWrite, beginRead, deliverRequest, deliverReply}
-use Rattle.serial.specs.Steps.{Step, opening, beginning-write, beginning-read, request, reply, opened, Machine}
+use Rattle.serial.specs.Steps.{Step, opening, beginning-write, beginning-read, request, reply, opened, play}
 use Rattle.serial.specs.History.{changed}
 use Rattle.serial.specs.Row.{readsOf, rowTo}
 use Rattle.serial.specs.Fields.{Field, walk, whole, complete, readAfterRead, writeAfterRead, readAfterWrite, writeAfterWrite}
@@ -116,6 +116,12 @@ record Tested : Type 0 where
   byA : open′ 1 2 2 first zeros .answer ≡ Ok
   byB : open′ 2 2 2 first zeros .answer ≡ Ok
   byC : open′ 3 2 2 first zeros .answer ≡ Ok
+  right-by-A : Computed [] play 1 thenReadByA
+  right-by-B : Computed [] play 2 thenReadByB
+  right-by-C : Computed [] play 3 thenReadByC
+  right-of-one : Computed [] play 2 (writeOne 0 ++ readByB 1)
+  right-of-two : Computed [] play 3 twoReads
+  right-then-write : Computed [] play 2 thenWrite
   not-opening-shown : Computed (walk ∷ []) store.openingShown 1 thenReadByA
   not-opening-at-server-1 : Computed (walk ∷ []) store.openingAtServer1 2 thenReadByB
   not-latest : Computed (walk ∷ []) store.showingLatest 2 crossing
@@ -149,6 +155,12 @@ tested = record {
   byA = refl;
   byB = refl;
   byC = refl;
+  right-by-A = refl;
+  right-by-B = refl;
+  right-by-C = refl;
+  right-of-one = refl;
+  right-of-two = refl;
+  right-then-write = refl;
   not-opening-shown = refl;
   not-opening-at-server-1 = refl;
   not-latest = refl;
@@ -181,6 +193,16 @@ opensB = ap (opened 2 2 2 first) (tested .byB)
 
 opensC : opened 3 2 2 first (open′ 3 2 2 first zeros .answer) ≡ opened 3 2 2 first Ok
 opensC = ap (opened 3 2 2 first) (tested .byC)
+
+-- ---- the store itself passes every test on such lists
+
+pub passes : Computed [] play 1 thenReadByA ×
+    Computed [] play 2 thenReadByB ×
+    Computed [] play 3 thenReadByC ×
+    Computed [] play 2 (writeOne 0 ++ readByB 1) ×
+    Computed [] play 3 twoReads ×
+    Computed [] play 2 thenWrite
+passes = (tested .right-by-A, tested .right-by-B, tested .right-by-C, tested .right-of-one, tested .right-of-two, tested .right-then-write)
 
 -- ---- the wrong stores, by field
 
