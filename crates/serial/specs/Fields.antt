@@ -1,18 +1,16 @@
 -- The fields of the claim, one by one, real time by kind of pair; and a test of each, which decides it for what was played.
 use Prim.Native.Nat.{ℕ, zero, suc, _+_, _^_, _≤_, _<_}
 use mathlib.Core.Path.{_≡_, refl, sym, ap, subst, _∙_}
-use mathlib.Core.Bool.{Bool, true, false, cond, not, _&&_, _||_}
+use mathlib.Core.Bool.{Bool, true, false}
 use mathlib.Core.Option.{Option, none, some, Option·none-ne-some, Option·some-injective}
 use mathlib.Core.List.{List, [], _∷_}
 use native.Mathlib.Omega.{arith}
 use native.Mathlib.Nat.{pow-succ'}
 use lib.ListN.{length}
-use lib.Dec.{eqb, leb, ltb}
-use lib.Pow.{pow-pos}
+use lib.Dec.{ltb}
 use borrow.Author.Tests.{ltb-true, ltb-false, ne-eqb}
 use Rattle.ranges.specs.Tests.{either, by-test, not-both}
 use Rattle.ranges.specs.Each.{Each}
-use Rattle.ranges.specs.All.{allBelow}
 use Rattle.keys.specs.Masks.{hasServer, no-server}
 use Rattle.tables.specs.declared.links.Content.{Content}
 use Rattle.tables.specs.declared.links.Content.the-variants.{Nothing, Request, Reply}

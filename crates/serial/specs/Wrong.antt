@@ -21,15 +21,15 @@ use Rattle.soundness.specs.Sound.{requestSound, replySound, contentSound, linkS
 use Rattle.soundness.specs.Sound.{clientSound, writeSound, readSound, openSound, recordsSound, sound}
 use Rattle.refusals.specs.Refusals.{openRefusal, writeRefusal, readRefusal, deliveryRefusal}
 use Rattle.refusals.specs.Steps.{open′, beginWrite, beginRead, deliverRequest, deliverReply}
-use Rattle.serial.specs.Steps.{Step, opening, beginning-write, beginning-read, request, reply, opened, play}
+use Rattle.serial.specs.Steps.{Step, beginning-write, beginning-read, request, reply, opened, play}
 use Rattle.serial.specs.History.{changed}
 use Rattle.serial.specs.Row.{readsOf, rowTo}
-use Rattle.serial.specs.Fields.{Field, walk, whole, complete, readAfterRead, writeAfterRead, readAfterWrite, writeAfterWrite}
+use Rattle.serial.specs.Fields.{walk, whole, complete, readAfterRead, writeAfterRead, readAfterWrite}
 use Rattle.serial.specs.Fields.{answered, ends, unfinished, tags, whose}
 use Rattle.serial.specs.Sample.{zeros}
 use Rattle.serial.specs.WrongStores as store
 use Rattle.serial.specs.WrongStores.{first, second}
-use Rattle.serial.specs.Broken.{played, told, Breaks, Computed, breaks}
+use Rattle.serial.specs.Broken.{played, Breaks, Computed, breaks}
 
 -- ---- the lists of steps
 
