@@ -7,9 +7,10 @@ ghost use mathlib.Core.Bool.{cond};
 ghost use Rattle.keys.specs.Masks.{hasServer};
 ghost use Rattle.tables.specs.Tables.{tablesOf};
 ghost use Rattle.tables.specs.Rows.{HasRow};
-ghost use Rattle.tables.specs.Layout.{clientWidth, tagsField, logPlaces, entryWidth, countWords, countAt, methodField, serversField, readsField};
+ghost use Rattle.tables.specs.Layout.{clientWidth, tagsField, countWords, countAt, methodField, serversField, readsField};
 ghost use Rattle.tables.specs.Links.{linkWidth, linkRow, HasLinks, putLink};
 ghost use Rattle.rules.specs.Common.{startedClient, request};
+ghost use Rattle.coordinator.specs.Log.{HasEntry};
 ghost use Rattle.coordinator.specs.Latest.{latestTagAt};
 ghost use Rattle.rules.specs.Words.{keepWord};
 ghost use Rattle.rules.specs.Begin.{sentSets, sentGets, keptTags, sentAsks, sendGet, begunWrite};
@@ -87,7 +88,7 @@ fn send_get(
     server: usize,
 )
     requires { ⌜ (HasRow clientWidth (now clients) client) × (HasRow linkWidth (now links) (linkRow client server)) ⌝ }
-    requires { ⌜ (server < 16) × ((tag < logPlaces) × HasRow entryWidth (now log) tag) ⌝ }
+    requires { ⌜ (server < 16) × HasEntry (now log) tag ⌝ }
     ensures clients { λ _. ⌜ now (clients .exit)
         ≡ cond (hasServer mask server) (keepWord tagsField (latestTagAt (now (log .entry)) tag) client server (now (clients .entry))) (now (clients .entry)) ⌝ }
     ensures links { λ _. ⌜ now (links .exit)
@@ -112,7 +113,7 @@ pub fn send_gets(
     servers: usize,
 )
     requires { ⌜ (HasRow clientWidth (now clients) client) × (HasLinks (now links) client) ⌝ }
-    requires { ⌜ (servers ≤ 16) × ((tag < logPlaces) × HasRow entryWidth (now log) tag) ⌝ }
+    requires { ⌜ (servers ≤ 16) × HasEntry (now log) tag ⌝ }
     ensures clients { λ _. ⌜ now (clients .exit) ≡ keptTags client mask (now (log .entry)) tag servers (now (clients .entry)) ⌝ }
     ensures links { λ _. ⌜ now (links .exit) ≡ sentGets client mask (now (log .entry)) tag servers (now (links .entry)) ⌝ }
 {

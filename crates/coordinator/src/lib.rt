@@ -3,9 +3,7 @@ ghost use mathlib.Core.Path.{_≡_};
 ghost use Prim.Native.Nat.{_≤_, _<_};
 ghost use lib.ListN.{length};
 ghost use Rattle.ranges.specs.Laid.{laid};
-ghost use Rattle.tables.specs.Rows.{HasRow};
-ghost use Rattle.tables.specs.Layout.{logPlaces, entryWidth};
-ghost use Rattle.coordinator.specs.Log.{LogRoom, enterLeft, entered};
+ghost use Rattle.coordinator.specs.Log.{LogRoom, HasEntry, enterLeft, entered};
 ghost use Rattle.coordinator.specs.Latest.{entryAt, latestOf, latestNumber, latestWord, latestTagAt};
 use keys::Key;
 use tables::counts;
@@ -33,7 +31,7 @@ pub struct Latest {
 
 // An entry's key and its tag as one number: 256 times the key's number, and the tag.
 fn entry_number(log: &[u32], tag: usize) -> u32
-    requires { ⌜ (tag < logPlaces) × HasRow entryWidth (now log) tag ⌝ }
+    requires { ⌜ HasEntry (now log) tag ⌝ }
     ensures { λ r. ⌜ r ≡ latestNumber (entryAt (now (log .entry)) tag) ⌝ }
 {
     log::entry_key(log, tag).word() * 256 + tag as u32
@@ -42,7 +40,7 @@ fn entry_number(log: &[u32], tag: usize) -> u32
 // The latest entry, at the tag or before it, whose mask has the server: its key and its tag, as one number. The search back calls itself with a tag
 // one smaller. It hands on the reference to the log that it was lent, and answers a number: so the compiler makes the calls a loop.
 pub fn search_back(log: &&[u32], server: usize, tag: usize) -> u32
-    requires { ⌜ (server < 16) × ((tag < logPlaces) × HasRow entryWidth (now (now log)) tag) ⌝ }
+    requires { ⌜ (server < 16) × HasEntry (now (now log)) tag ⌝ }
     ensures { λ r. ⌜ r ≡ latestNumber (latestOf (now (now (log .entry))) server tag) ⌝ }
 {
     let entries = *log;
@@ -57,7 +55,7 @@ pub fn search_back(log: &&[u32], server: usize, tag: usize) -> u32
 
 // The key and the tag of the latest entry, at the tag or before it, whose mask has the server.
 pub fn latest_entry(log: &[u32], server: usize, tag: usize) -> Latest
-    requires { ⌜ (server < 16) × ((tag < logPlaces) × HasRow entryWidth (now log) tag) ⌝ }
+    requires { ⌜ (server < 16) × HasEntry (now log) tag ⌝ }
     ensures { λ r. ⌜ r ≡ latestOf (now (log .entry)) server tag ⌝ }
 {
     let found = search_back(&log, server, tag);
@@ -70,7 +68,7 @@ pub fn latest_entry(log: &[u32], server: usize, tag: usize) -> Latest
 // The keys of the first servers at a tag, as words, and the tags that they come from, into the fronts of lent spaces.
 pub fn latest_entries(log: &[u32], servers: usize, tag: usize, keys: &mut [u32], tags: &mut [u32])
     requires { ⌜ (servers ≤ 16) × ((servers ≤ length (now keys)) × (servers ≤ length (now tags))) ⌝ }
-    requires { ⌜ (tag < logPlaces) × HasRow entryWidth (now log) tag ⌝ }
+    requires { ⌜ HasEntry (now log) tag ⌝ }
     ensures keys { λ _. ⌜ now (keys .exit) ≡ laid (latestWord (now (log .entry)) tag) servers (now (keys .entry)) ⌝ }
     ensures tags { λ _. ⌜ now (tags .exit) ≡ laid (latestTagAt (now (log .entry)) tag) servers (now (tags .entry)) ⌝ }
 {

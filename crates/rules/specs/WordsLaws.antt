@@ -61,6 +61,12 @@ module _ (field q : ℕ) (wanted wanted′ : ℕ → Bool) (word word′ : ℕ �
       rw (e k (omega arith))
       (same-turn (wanted′ k) k (f k (omega arith)) (kept-same k (λ i l. e i (omega arith)) (λ i l. f i (omega arith))))
 
+-- a row of 16 has 16 words
+pub laid-length : (wanted : ℕ → Bool) (word : ℕ → ℕ) (k : ℕ) → length (laidWords wanted word k) ≡ 16
+laid-length wanted word k =
+    let Long : List ℕ → Type 0 = λ xs. length xs ≡ 16 in
+    turns-keep-below _ Long k (λ i b xs e. either Long (wanted i) (length-set xs i (word i) ∙ e) e) (replicate 16 0) refl
+
 -- the word of a wanted server in a row of 16
 pub laid-at : (wanted : ℕ → Bool) (word : ℕ → ℕ) (k i : ℕ) → k ≤ 16 → i < k → wanted i ≡ true → getD (laidWords wanted word k) i 0 ≡ word i
 laid-at wanted word k i h l e =

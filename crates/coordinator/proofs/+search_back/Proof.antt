@@ -51,7 +51,7 @@ pub +search-back-spec : {M : Type 1} → statement M
     latest-here latestNumber (a .log .now .now) (a .server) (a .tag)
     (c .before .before .before .entry-mask .ensures) (c .before .before .has-server .ensures) (c .before .if2 .taken) (c .entry-number2 .ensures))
     (λ c. search needs)
-    (λ c κs. let p = c .before .before .before .before .before .pre in (omega arith, (omega arith, (omega arith, omega arith))))
+    (λ c κs. let p = c .before .before .before .before .before .pre in (omega arith, (omega arith, record { place = omega arith; there = omega arith })))
     (λ c. let a = c .before .before .before .before .before .before .args in
     c .search-back .ensures
     ∙ latest-before latestNumber (a .log .now .now) (a .server) (a .tag)

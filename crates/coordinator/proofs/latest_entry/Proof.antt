@@ -12,8 +12,8 @@ returns c =
     let a = start .args in
     let log = a .t1 .now in
     let found = c .before .search-back .ensures in
-    let key = c .at-word .ensures ∙ ap keyAtWord (number-key log (a .server) (a .tag) (start .pre .1 .0) found) ∙ word-back _ (at-word-fits _) in
-    rw (key, number-tag log (a .server) (a .tag) (start .pre .1 .0) found)
+    let key = c .at-word .ensures ∙ ap keyAtWord (number-key log (a .server) (a .tag) (start .pre .1 .place) found) ∙ word-back _ (at-word-fits _) in
+    rw (key, number-tag log (a .server) (a .tag) (start .pre .1 .place) found)
 
 pub latest-entry-spec : {M : Type 1} → statement M
 latest-entry-spec = tie.close (tie.spec (λ c κs. search needs) (λ c κs. search needs) returns)
