@@ -16,8 +16,8 @@ use Rattle.rules.specs.declared.Arrival.the-variants.{Wait, Next, Write, Refuse
 use Rattle.rules.specs.declared.Delivered.{Delivered}
 use Rattle.rules.specs.Answers.{Arrived, arrived, nothingShown}
 use Rattle.rules.specs.Common.{idle, writing, entering, askingKeys, askingSetpoints, coordinator, request, pending, endedRecord, taggedRecord}
-use Rattle.rules.specs.Begin.{sentGets}
-use Rattle.rules.specs.Reply.{emptied, readShown, onSetDone, onEntered, onKeys, gotSetpoint, onGot, gotNumber, onAll, onReplyIn, onReply, replyDelivered}
+use Rattle.rules.specs.Begin.{sentGets, keptTags}
+use Rattle.rules.specs.Reply.{emptied, shownTags, readShown, onSetDone, onEntered, onKeys, gotSetpoint, onGot, gotNumber, onAll, onReplyIn, onReply, replyDelivered}
 use Rattle.replies.specs.Ready.{Settled, FinishedByC}
 
 -- s is what `settle` left, b whether a link is pending then
@@ -45,11 +45,11 @@ module _ (q i : ℕ) (t : Tables) {step : ℕ} {counts links : List ℕ} (s : Se
       unfolding onGot
       got-waits e f = rw (is-pending e, f, g, s .counted′, s .emptied)
 
-      pub got-ends : {d : Delivered} {clients′ reads : List ℕ} {mask place tag : ℕ} → b ≡ false → mask ≡ maskOf t q → place ≡ recordOf t q → tag ≡ tagOf t q →
-          d ≡ readShown tag clients q mask → clients′ ≡ putClientWord clients q stateField idle → reads ≡ endedRecord place step (taggedRecord place tag (t .reads)) →
+      pub got-ends : {d : Delivered} {clients′ reads tags : List ℕ} {mask place tag : ℕ} → b ≡ false → mask ≡ maskOf t q → place ≡ recordOf t q → tag ≡ tagOf t q →
+          tags ≡ shownTags clients q mask → d ≡ readShown tag tags clients q mask → clients′ ≡ putClientWord clients q stateField idle → reads ≡ endedRecord place step (taggedRecord place tag (t .reads)) →
           arrived d (tablesOf counts clients′ links (t .keys) (t .values) (t .log) (t .writes) reads) ≡ onGot w q i t
       unfolding onGot
-      got-ends e m p′ a f c r = rw (is-pending e, f, c, r, g, m, p′, a, s .stepped, s .counted′, s .emptied)
+      got-ends e m p′ a h f c r = rw (is-pending e, f, h, c, r, g, m, p′, a, s .stepped, s .counted′, s .emptied)
 
     -- state 5; the number is put
     module _ (w : Contents) {clients : List ℕ} (g : clients ≡ gotNumber w q i t) where
@@ -73,7 +73,7 @@ module _ (q i : ℕ) (t : Tables) {step : ℕ} {counts links : List ℕ} (s : Se
 
   -- state 3
   pub keys-ask : (w : Contents) {d : Delivered} {clients links′ : List ℕ} {mask k : ℕ} → mask ≡ maskOf t q → k ≡ serversOf t → d ≡ nothingShown Next →
-      clients ≡ putClientWord (putClientWord (t .clients) q tagField (w .number - 1)) q stateField askingSetpoints →
+      clients ≡ keptTags q mask (t .log) (w .number - 1) k (putClientWord (putClientWord (t .clients) q tagField (w .number - 1)) q stateField askingSetpoints) →
       links′ ≡ sentGets q mask (t .log) (w .number - 1) k links →
       arrived d (tablesOf counts clients links′ (t .keys) (t .values) (t .log) (t .writes) (t .reads)) ≡ onKeys w q i t
   unfolding onKeys

@@ -11,7 +11,7 @@ use Rattle.tables.specs.declared.links.Content.the-variants.{Nothing, Reply}
 use Rattle.rules.specs.declared.Delivered.{Delivered}
 use Rattle.rules.specs.Common.{counted, idle, writing, entering, askingKeys, askingSetpoints, pending, coordinator, endedRecord, taggedRecord}
 use Rattle.rules.specs.Choice.{qualifies, chosenTag, chosenSetpoint}
-use Rattle.rules.specs.Reply.{readShown, receivedIn, putReceived, tagFrom, concludedRow}
+use Rattle.rules.specs.Reply.{readShown, receivedIn, putReceived, tagFrom, concludedRow, chosenTags}
 use Rattle.choice.specs.Ready.{ChoiceReady}
 use Rattle.requests.specs.Ready.{Answerable}
 use Rattle.ranges.specs.LastLaws.{last-below, last-passes}
@@ -34,6 +34,7 @@ pub record KeysReady (counts clients log : List ℕ) (q number : ℕ) : Type 0 w
   pub row : HasRow clientWidth clients q
   pub servers : countAt counts serversField ≤ 16
   pub some : 0 < number
+  pub few : number ≤ logPlaces
   pub logged : entryWidth * number ≤ length log
 
 -- the client's record of a READ or a WRITE is there
@@ -42,8 +43,8 @@ pub record GotReady (clients records : List ℕ) (q : ℕ) : Type 0 where
   pub recorded : HasRow recordWidth records (clientWord clients q recordField)
 
 -- what `finish` leaves
-pub record Finished (clients reads : List ℕ) (q mask place tag step : ℕ) (d : Delivered) (clients′ reads′ : List ℕ) : Type 0 where
-  pub shown : d ≡ readShown tag clients q mask
+pub record Finished (clients reads : List ℕ) (q mask place tag : ℕ) (tags : List ℕ) (step : ℕ) (d : Delivered) (clients′ reads′ : List ℕ) : Type 0 where
+  pub shown : d ≡ readShown tag tags clients q mask
   pub idled : clients′ ≡ putClientWord clients q stateField idle
   pub recorded : reads′ ≡ endedRecord place step (taggedRecord place tag reads)
 
@@ -60,7 +61,8 @@ pub record Concludable (clients keys log reads : List ℕ) (q mask k place : ℕ
 abbrev pub FinishedByC : List ℕ → List ℕ → List ℕ → List ℕ → List ℕ → ℕ → ℕ → ℕ → ℕ → ℕ → Delivered → List ℕ → List ℕ → Type 0
 FinishedByC clients keys values log reads q mask k place step d clients′ reads′ =
     let tag = tagFrom clients keys log q mask k in
-    Finished (concludedRow (chosenSetpoint keys values log (receivedIn clients q) tag) tag q mask k clients) reads q mask place tag step d clients′ reads′
+    Finished (concludedRow (chosenSetpoint keys values log (receivedIn clients q) tag) tag q mask k clients) reads q mask place tag
+    (chosenTags log mask k tag) step d clients′ reads′
 
 -- the tag chosen is below the entries received, and it qualifies
 module _ (clients keys log : List ℕ) (q mask k : ℕ) (some : 0 < receivedIn clients q coordinator) where

@@ -21,7 +21,7 @@ conclude-requires c κs =
     let p = start .pre .1 in
     let e = tag-is (a .clients .now) (a .keys .now) (a .log .now) (a .client) (a .mask) (a .servers) (p .some) (at-client-word .client-word .ensures) (at-chosen-tag .chosen-tag .ensures) in
     let l = tag-below (a .clients .now) (a .keys .now) (a .log .now) (a .client) (a .mask) (a .servers) (p .some) in
-    (start .pre .0, ((p .row, omega (arith, p .logged)), rw e (tag-qualifies (a .clients .now) (a .keys .now) (a .log .now) (a .client) (a .mask) (a .servers) (p .some) (p .opening))))
+    (start .pre .0, ((p .row, record { place = omega (arith, p .entries); there = omega (arith, p .logged) }), rw e (tag-qualifies (a .clients .now) (a .keys .now) (a .log .now) (a .client) (a .mask) (a .servers) (p .some) (p .opening))))
 
 returns : tie.Need-returns
 returns c =
@@ -35,7 +35,7 @@ returns c =
     let e = tag-is (a .clients .now) (a .keys .now) (a .log .now) (a .client) (a .mask) (a .servers) (p .some) (at-client-word .client-word .ensures) (at-chosen-tag .chosen-tag .ensures) in
     let f = at-finish .finish .ensures in
     let k = at-conclude .conclude .ensures in
-    record { shown = f .shown ∙ rw (k, e); idled = f .idled ∙ rw (k, e); recorded = f .recorded ∙ rw e }
+    record { shown = f .shown ∙ rw (k .0, k .1, e); idled = f .idled ∙ rw (k .0, e); recorded = f .recorded ∙ rw e }
 
 pub finish-by-c-spec : {M : Type 1} → statement M
 finish-by-c-spec =
