@@ -10,7 +10,7 @@ use Rattle.ranges.specs.Tests.{either}
 use Rattle.ranges.specs.All.{allBelow}
 use Rattle.ranges.specs.AllLaws.{all-at}
 use Rattle.ranges.specs.Turns.{turns, turns-keep-below}
-use Rattle.ranges.specs.PickedLaws.{is-picked}
+use Rattle.ranges.specs.PickedLaws.{is-picked, not-picked}
 use Rattle.keys.specs.Masks.{hasServer}
 use Rattle.tables.specs.Rows.{HasRow, word-same, word-other}
 use Rattle.tables.specs.Layout.{clientWidth, clientWord}
@@ -45,6 +45,16 @@ module _ (field : ℕ) (wanted : ℕ → Bool) (word : ℕ → ℕ) (q k : ℕ) 
       (λ j xs m r. word-same clientWidth xs q (field + j) (word j) r (omega arith))
       (λ j n xs m d. getD-set-other xs (clientWidth * q + (field + j)) (clientWidth * q + (field + n)) (word j) 0 (λ z. d (omega arith)))
       wanted clients h k i (omega arith) l e
+
+  -- and where a server is not wanted, its word stays
+  pub kept-not : (clients : List ℕ) (i : ℕ) → HasRow clientWidth clients q → wanted i ≡ false →
+      clientWord (keptWords field wanted word q k clients) q (field + i) ≡ clientWord clients q (field + i)
+  kept-not clients i h e =
+      not-picked (λ xs j. clientWord xs q (field + j)) (keepWord field word q) word (λ xs. HasRow clientWidth xs q) k
+      (λ j xs r. rw (length-set xs (clientWidth * q + (field + j)) (word j)) r)
+      (λ j xs m r. word-same clientWidth xs q (field + j) (word j) r (omega arith))
+      (λ j n xs m d. getD-set-other xs (clientWidth * q + (field + j)) (clientWidth * q + (field + n)) (word j) 0 (λ z. d (omega arith)))
+      wanted clients h k i (omega arith) e
 
 -- the same servers wanted, and of those the same words, below k: the same row
 module _ (field q : ℕ) (wanted wanted′ : ℕ → Bool) (word word′ : ℕ → ℕ) (clients : List ℕ) where
