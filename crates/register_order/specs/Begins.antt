@@ -10,7 +10,8 @@ use lib.Dec.{eqb}
 use Rattle.ranges.specs.Tests.{either}
 use Rattle.keys.specs.Masks.{hasServer}
 use Rattle.coordinator.specs.Latest.{latestTagAt}
-use Rattle.tables.specs.Layout.{clientWidth, clientWord, stateField, countField, maskField, tagField, recordField, setpointsField, tagsField, entriesField, writesField, readsField, putBegun}
+use Rattle.tables.specs.Layout.{clientWidth, clientWord, stateField, countField, maskField, tagField, recordField, setpointsField}
+use Rattle.tables.specs.Layout.{tagsField, entriesField, writesField, readsField, putBegun}
 use Rattle.tables.specs.Tables.{Tables, methodOf, serversOf, clientsOf, stepOf, entriesOf, writesOf, readsOf}
 use Rattle.rules.specs.Words.{every}
 use Rattle.rules.specs.WordsLaws.{kept-other}
@@ -42,7 +43,8 @@ module _ (t : Tables) (h : History) (numbers : List ℕ) (a : Agrees t h numbers
       clientWord (keptTags q mask (t .log) tag (serversOf t) clients) q f ≡ clientWord clients q f
   tags-behind q mask tag clients f l =
       let room : tagsField + serversOf t ≤ clientWidth = omega (arith, few-servers t (a .sound)) in
-      kept-other tagsField (hasServer mask) (latestTagAt (t .log) tag) q (serversOf t) room clients q f (omega arith) (λ e. omega (arith, e .1))
+      kept-other tagsField (hasServer mask) (latestTagAt (t .log) tag) q (serversOf t) room clients q f
+      (omega arith) (λ e. omega (arith, e .1))
 
   module _ (q mask : ℕ) (setpoints : List ℕ) (b : Writable q mask setpoints t) where
     abbrev puts : List Put

@@ -19,7 +19,8 @@ use Rattle.rules.specs.Answers.{Arrived, nothingShown}
 use Rattle.rules.specs.Common.{idle, entering, askingKeys, askingSetpoints, askingAll, coordinator, request, pending}
 use Rattle.rules.specs.Common as rules
 use Rattle.rules.specs.Begin.{sentGets, keptTags}
-use Rattle.rules.specs.Reply.{said, moved, emptied, readShown, endedRead, shownTags, onSetDone, onEntered, onKeys, gotSetpoint, onGot, gotNumber, tagChosen, concluded, chosenTags, endedByC, onAll, onReplyIn, onReply, replyDelivered}
+use Rattle.rules.specs.Reply.{said, moved, emptied, readShown, endedRead, shownTags, onSetDone, onEntered, onKeys, gotSetpoint, onGot}
+use Rattle.rules.specs.Reply.{gotNumber, tagChosen, concluded, chosenTags, endedByC, onAll, onReplyIn, onReply, replyDelivered}
 use Rattle.soundness.specs.Sound.{isReading, keyOn}
 use Rattle.soundness.specs.Room.{client-row, link-row}
 use Rattle.keeping.specs.Accepted.{Deliverable, target-below}
@@ -181,7 +182,8 @@ module _ (t : Tables) (h : History) (numbers : List ℕ) (a : Agrees t h numbers
         let turned = putClientWord row q stateField askingSetpoints in
         let ahead = tags-behind t h numbers a q (maskOf t q) tag turned in
         let asks-again : clientWord turned q stateField ≡ askingSetpoints
-        = word-same clientWidth row q stateField askingSetpoints (rw (word-length clientWidth (t .clients) q tagField tag) row-has) (omega arith) in
+        = word-same clientWidth row q stateField askingSetpoints
+        (rw (word-length clientWidth (t .clients) q tagField tag) row-has) (omega arith) in
         read-asks (keptTags q (maskOf t q) (t .log) tag (serversOf t) turned) (sentGets q (maskOf t q) (t .log) tag (serversOf t) rest)
         (rw state) (rw (ahead stateField (omega arith), asks-again))
         (ahead recordField (omega arith)
@@ -197,7 +199,8 @@ module _ (t : Tables) (h : History) (numbers : List ℕ) (a : Agrees t h numbers
     got-answers state =
         let l : setpointsField + i < clientWidth = omega (arith, came .target) in
         let tags = shownTags (gotSetpoint w q i t) q (maskOf t q) in
-        either Keeps (pending rest q) {x = said Wait (moved (gotSetpoint w q i t) rest t)} {y = endedRead q (tagOf t q) tags (gotSetpoint w q i t) rest t}
+        either Keeps (pending rest q) {x = said Wait (moved (gotSetpoint w q i t) rest t)}
+        {y = endedRead q (tagOf t q) tags (gotSetpoint w q i t) rest t}
         (λ k. read-waits (gotSetpoint w q i t) rest (rw state) (rw (below (setpointsField + i) (w .number) stateField l (omega arith), state)) (below (setpointsField + i) (w .number) recordField l (omega arith)) k)
         (λ k. read-over (tagOf t q) tags (gotSetpoint w q i t) rest (rw state) k)
 

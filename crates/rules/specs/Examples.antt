@@ -34,7 +34,7 @@ pub record Examples : Type 0 where
   -- C's end: "an end sets state 0 and n to 0", that of every target; the tag is stored
   pub ended : endedByC 2 row 0 [] one .tables .clients ≡
       0 ∷ 7 ∷ 7 ∷ 2 ∷ 7 ∷ (replicate 16 7 ++ (replicate targets 0 ++ replicate (clientWidth - (receivedField + targets)) 7))
-  -- "Under A and B a panel keeps the wanted stations' tags while it asks": at tag 1 that of station 0 is 1, and that of station 1 the opening's
+  -- "Under A and B a panel keeps the wanted stations' tags while it asks": at tag 1 station 0 has tag 1, and station 1 the opening's
   pub kept : keptTags 0 3 log 1 2 row ≡ replicate tagsField 7 ++ (1 ∷ 0 ∷ replicate 14 7)
   pub keptOne : keptTags 0 2 log 1 2 row ≡ replicate tagsField 7 ++ (7 ∷ 0 ∷ replicate 14 7)
   -- "A READ now shows with each setpoint the tag of the WRITE that put it there": of the wanted stations 0 and 2 those kept, 0 elsewhere

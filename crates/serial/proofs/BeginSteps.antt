@@ -14,7 +14,8 @@ use Rattle.keys.specs.Keys.{keyOf, opening, FitsByte, at-word-fits}
 use Rattle.keys.specs.Masks.{hasServer, serversIn, Within, some-server}
 use Rattle.coordinator.specs.Latest.{latestKey, latestTagAt}
 use Rattle.tables.specs.Rows.{HasRow, word-same, word-other, word-length}
-use Rattle.tables.specs.Layout.{clientWidth, clientWord, putClientWord, stateField, countField, maskField, tagField, recordField, setpointsField, tagsField, writesField, readsField, recordPlaces, countWords}
+use Rattle.tables.specs.Layout.{clientWidth, clientWord, putClientWord, stateField, countField, maskField, tagField, recordField}
+use Rattle.tables.specs.Layout.{setpointsField, tagsField, writesField, readsField, recordPlaces, countWords}
 use Rattle.tables.specs.Links.{targets, HasLinks, linkAt}
 use Rattle.tables.specs.Tables.{Tables, methodOf, serversOf, clientsOf, stepOf, writesOf, readsOf, countOf}
 use Rattle.tables.specs.declared.links.Content.{Content}
@@ -24,7 +25,8 @@ use Rattle.rules.specs.Words.{every}
 use Rattle.rules.specs.WordsLaws.{kept-other}
 use Rattle.rules.specs.Common.{idle, askingKeys, askingSetpoints, askingAll, coordinator, request, begunCounts, startedClient}
 use Rattle.rules.specs.Common as rules
-use Rattle.rules.specs.Begin.{storedSetpoints, nextCount, begunWrite, sentGets, keptTags, sendAsk, sentAsks, asking, lastTag, askingByA, askingByB, askingByC, begunReadWith, begunRead}
+use Rattle.rules.specs.Begin.{storedSetpoints, nextCount, begunWrite, sentGets, keptTags, sendAsk, sentAsks, asking, lastTag, askingByA}
+use Rattle.rules.specs.Begin.{askingByB, askingByC, begunReadWith, begunRead}
 use Rattle.rules.specs.declared.Answer.the-variants.{Ok}
 use Rattle.keeping.specs.Accepted.{Beginnable, Writable, Readable}
 use Rattle.keeping.specs.States.{masked-below}
@@ -235,7 +237,8 @@ module _ (floor : ℕ → ℕ) (t : Tables) (h : History) (s : Standing floor t 
   a-fair free extra =
       read-left clients′ (sentGets q mask (t .log) (lastTag t) (serversOf t) (t .links))
       (λ r d. kept-rows tagsField (hasServer mask) (latestTagAt (t .log) (lastTag t)) q (serversOf t) room tagged r d
-      ∙ row-put-other (with-state askingSetpoints) q tagField (lastTag t) (omega arith) r d ∙ started-others askingSetpoints mask (readsOf t) q (t .clients) (has-row t q ready) r d)
+      ∙ row-put-other (with-state askingSetpoints) q tagField (lastTag t) (omega arith) r d
+      ∙ started-others askingSetpoints mask (readsOf t) q (t .clients) (has-row t q ready) r d)
       (sent-links q (gets (lastTag t)) (λ i. at-word-fits _) mask (serversOf t) small bound (t .links) long empty ∙ ap (λ (n : ℕ). sends mask (gets n)) (sym tag-is))
       (λ r d. sent-others q (gets (lastTag t)) (λ i. at-word-fits _) mask (serversOf t) small bound (t .links) long empty r d)
       (read-a-kept floor (view t) h tied (few t q ready) q (in-range t q ready) resting-state mask bound some-masked (rowOf clients′ q)
@@ -278,7 +281,9 @@ module _ (floor : ℕ → ℕ) (t : Tables) (h : History) (s : Standing floor t 
       state = word stateField (omega arith) (λ e. omega arith) ∙ started-state askingSetpoints mask (readsOf t) q (t .clients) (has-row t q ready)
 
       tag-is : rowOf clients′ q tagField ≡ lastTag t
-      tag-is = ahead tagField (omega arith) ∙ word-same clientWidth (with-state askingSetpoints) q tagField (lastTag t) started (omega arith)
+      tag-is =
+          ahead tagField (omega arith)
+          ∙ word-same clientWidth (with-state askingSetpoints) q tagField (lastTag t) started (omega arith)
 
       -- each wanted server's is the one that the log has at that tag
       tags-are : (i : ℕ) → hasServer mask i ≡ true → rowOf clients′ q (tagsField + i) ≡ latestTagAt (t .log) (rowOf clients′ q tagField) i

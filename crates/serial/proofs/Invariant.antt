@@ -150,7 +150,7 @@ module _ (extra : ℕ) (x : World) (floor q : ℕ) (c : Client) (doing : Doing) 
     pub latest : (i n : ℕ) (v : Version) → Holds x i (keyOf n q) v → n ≤ countIn c
     pub activity : Activity
 
--- At most 16 clients and servers; the key of server i at a tag is held with the value behind that tag, and the tag of that key is the value's.
+-- At most 16 clients and servers; the key of server i at a tag is held with the value behind that tag, and comes from the value's tag.
 pub record Tied (floor : ℕ → ℕ) (p : Press) (h : History) : Type 0 where
   pub method : h .extra ≡ extraOf (p .shared .method)
   pub entries : p .shared .entries ≡ suc (h .tags)

@@ -20,7 +20,14 @@ Does floor p h q P = P (h .extra) (world p h) (floor q) q (p .client q) (h .doin
 module _ (floor : ℕ → ℕ) (p : Press) (h : History) (tied : Tied floor p h) where
   -- a step that the row does not see
   pub passed-tied : Tied floor p (passed h)
-  passed-tied = record { method = tied .method; entries = tied .entries; room = tied .room; value = tied .value; tags = tied .tags; clients = tied .clients }
+  passed-tied = record {
+    method = tied .method;
+    entries = tied .entries;
+    room = tied .room;
+    value = tied .value;
+    tags = tied .tags;
+    clients = tied .clients;
+  }
 
   -- Only client q has changed, and what it is at; the step number and the transactions begun are no part of the tie.
   abbrev moved : ℕ → ℕ → ℕ → ℕ → Client → Press

@@ -8,7 +8,8 @@ use Rattle.ranges.specs.Sum.{sumBelow}
 use Rattle.keys.specs.declared.Key.{Key}
 use Rattle.keys.specs.Masks.{hasServer}
 use Rattle.coordinator.specs.Latest.{latestKey}
-use Rattle.tables.specs.Layout.{clientWidth, clientWord, stateField, countField, maskField, tagField, setpointsField, receivedField, tagsField}
+use Rattle.tables.specs.Layout.{clientWidth, clientWord, stateField, countField, maskField, tagField, setpointsField, receivedField}
+use Rattle.tables.specs.Layout.{tagsField}
 use Rattle.tables.specs.Links.{targets, linkAt}
 use Rattle.tables.specs.Tables.{Tables, methodOf, serversOf, stepOf, entriesOf, writesOf, readsOf, heldOf}
 use Rattle.tables.specs.declared.links.Contents.{Contents}

@@ -256,7 +256,8 @@ module _ (floor : ℕ → ℕ) (p : Press) (h : History) (tied : Tied floor p h)
         pub told-end-kept : (row′ : ℕ → ℕ) → row′ stateField ≡ idle → row′ countField ≡ countIn c → (shown : List ℕ) →
             ((j : ℕ) → hasServer (maskIn c) j ≡ true → getD shown j 0 ≡ chosenSetpoint (s .keys) (s .values) (s .log) received tag j) →
             (from : List ℕ) → ((j : ℕ) → hasServer (maskIn c) j ≡ true → getD from j 0 ≡ latestTag (s .log) j tag) →
-            Kept floor h (replied q i (record { arrival = arrival.Read tag; setpoints = shown; tags = from })) (afterwards (clientOf row′ emptied))
+            Kept floor h (replied q i (record { arrival = arrival.Read tag; setpoints = shown; tags = from }))
+            (afterwards (clientOf row′ emptied))
         told-end-kept row′ state count shown shows from comes = (
           record {
             mask = maskIn c;
@@ -289,7 +290,9 @@ module _ (floor : ℕ → ℕ) (p : Press) (h : History) (tied : Tied floor p h)
           entries = tied .entries;
           room = tied .room;
           value = λ tag l j k. rw (value-ended (h .initial) (h .write) (w .number) (h .clock) tag j) (tied .value tag l j k);
-          tags = λ tag l j. tied .tags tag l j ∙ sym (ap (λ (v : Value). v .tag) (value-ended (h .initial) (h .write) (w .number) (h .clock) tag j));
+          tags = λ tag l j.
+              tied .tags tag l j
+              ∙ ap (λ (v : Value). v .tag) (sym (value-ended (h .initial) (h .write) (w .number) (h .clock) tag j));
           clients = changed-both (λ j b d. j < 16 → ClientOk (h .extra) y (floor j) j b d) (p .client) (h .doing) q new nothing
               (λ l. record { latest = λ j n v e. omega (arith, okay .latest j n v e, count); activity = at-rest state (record { is = refl; links = λ j k. coordinator-empty j k (a .others) }) })
               (λ j ne l. client-frame (h .extra) (floor j) j x y (grown j) (p .client j) (h .doing j) (tied .clients j l));

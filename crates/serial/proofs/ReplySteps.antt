@@ -11,7 +11,8 @@ use Rattle.keys.specs.Keys.{keyOf, FitsByte, at-word-fits}
 use Rattle.keys.specs.Masks.{hasServer}
 use Rattle.coordinator.specs.Latest.{latestKey, latestTagAt}
 use Rattle.tables.specs.Rows.{HasRow, word-same, word-other, word-length}
-use Rattle.tables.specs.Layout.{clientWidth, clientWord, putClientWord, stateField, countField, maskField, tagField, setpointsField, receivedField, tagsField}
+use Rattle.tables.specs.Layout.{clientWidth, clientWord, putClientWord, stateField, countField, maskField, tagField, setpointsField}
+use Rattle.tables.specs.Layout.{receivedField, tagsField}
 use Rattle.tables.specs.Links.{targets, HasLinks, linkAt, putLink, link-length}
 use Rattle.tables.specs.Tables.{Tables, tablesOf, serversOf, stepOf, writesOf, readsOf, stateOf, countOf, maskOf, recordOf, contentAt}
 use Rattle.tables.specs.declared.links.Contents.{Contents}
@@ -23,7 +24,8 @@ use Rattle.rules.specs.WordsLaws.{kept-other, kept-length, kept-there, laid-at,
 use Rattle.rules.specs.Common.{idle, entering, askingKeys, askingSetpoints, askingAll, coordinator, request, counted, nextStep, pending, endedRecord, taggedRecord}
 use Rattle.rules.specs.Common as rules
 use Rattle.rules.specs.Begin.{sentGets, keptTags}
-use Rattle.rules.specs.Reply.{said, emptied, shownSetpoints, shownTags, readShown, onSetDone, onEntered, onKeys, gotSetpoint, onGot, gotNumber}
+use Rattle.rules.specs.Reply.{said, emptied, shownSetpoints, shownTags, readShown, onSetDone, onEntered, onKeys, gotSetpoint, onGot}
+use Rattle.rules.specs.Reply.{gotNumber}
 use Rattle.rules.specs.Reply.{receivedIn, setpointAt, keptSetpoints, forgotten, tagChosen, concluded, chosenTags, onAll}
 use Rattle.rules.specs.Reply.{onReplyIn, onReply, replyDelivered}
 use Rattle.rules.specs.declared.Delivered.{Delivered}
@@ -194,18 +196,21 @@ module _ (floor : ℕ → ℕ) (t : Tables) (h : History) (s : Standing floor t 
     keys-fair state a =
         let at = at-coordinator (c .link) i hi link (omega arith) (a .others) in
         let there : c .link coordinator ≡ Reply w = ap (c .link) (sym at) ∙ link in
-        moved-fair clients′ (sentGets q (maskOf t q) (t .log) tag (serversOf t) (emptied q i t)) (t .writes) (t .reads) (nothingShown arrival.Next)
+        moved-fair clients′ (sentGets q (maskOf t q) (t .log) tag (serversOf t) (emptied q i t))
+        (t .writes) (t .reads) (nothingShown arrival.Next)
         refl
         (λ r d. kept-rows tagsField wanted (latestTagAt (t .log) tag) q (serversOf t) room turned r d
         ∙ two-others tagField tag stateField askingSetpoints (omega arith) (omega arith) r d)
         (sent-links q gets (λ j. at-word-fits _) (maskOf t q) (serversOf t) (omega (arith, few t q ready)) bound (emptied q i t) long (empty at) ∙ ap (λ (m : ℕ). sends m gets) (sym mask-at))
         (λ r d. sent-others q gets (λ j. at-word-fits _) (maskOf t q) (serversOf t) (omega (arith, few t q ready)) bound (emptied q i t) long (empty at) r d ∙ gone-others r d) (λ z. omega arith) refl
-        (keys-kept floor (view t) h tied (few t q ready) q (in-range t q ready) (stepOf t + 1) (writesOf t) (readsOf t) w there a (rowOf clients′ q)
-        asked-state
+        (keys-kept floor (view t) h tied (few t q ready) q (in-range t q ready) (stepOf t + 1) (writesOf t) (readsOf t) w there a
+        (rowOf clients′ q) asked-state
         (word countField (omega arith) ∙ left-by tagField tag stateField askingSetpoints countField (λ e. omega arith) (λ e. omega arith))
         (word maskField (omega arith) ∙ left-by tagField tag stateField askingSetpoints maskField (λ e. omega arith) (λ e. omega arith))
-        (word tagField (omega arith) ∙ changed-other (changed (c .row) tagField tag) stateField askingSetpoints tagField (λ e. omega arith) ∙ changed-same (c .row) tagField tag)
-        (λ j m. kept-word tagsField wanted (latestTagAt (t .log) tag) q (serversOf t) room turned turned-has j (a .bound j m) (rw mask-at at m)))
+        (word tagField (omega arith) ∙ changed-other (changed (c .row) tagField tag) stateField askingSetpoints tagField (λ e. omega arith)
+        ∙ changed-same (c .row) tagField tag)
+        (λ j m. kept-word tagsField wanted (latestTagAt (t .log) tag) q (serversOf t) room turned turned-has
+        j (a .bound j m) (rw mask-at at m)))
         (further (view t) budget q (in-range t q ready) asked askingSetpoints asked-state (λ e. omega arith) (λ e. omega arith)
         (rw state (omega (arith, no-rest asked askingSetpoints asked-state (λ e. omega arith) (λ e. omega arith), sends-come (maskIn c) gets (λ j. refl) (no-coordinator (maskIn c) (serversOf t) (few t q ready) (a .bound)), gone-come))))
       where
@@ -227,8 +232,8 @@ module _ (floor : ℕ → ℕ) (t : Tables) (h : History) (s : Standing floor t 
 
         turned-has : HasRow clientWidth turned q
         turned-has =
-            rw (word-length clientWidth (putClientWord (t .clients) q tagField tag) q stateField askingSetpoints, word-length clientWidth (t .clients) q tagField tag)
-            (has-row t q ready)
+            let one = putClientWord (t .clients) q tagField tag in
+            rw (word-length clientWidth one q stateField askingSetpoints, word-length clientWidth (t .clients) q tagField tag) (has-row t q ready)
 
         word : (f : ℕ) → f < tagsField → rowOf clients′ q f ≡ changed (changed (c .row) tagField tag) stateField askingSetpoints f
         word f l =
@@ -272,7 +277,8 @@ module _ (floor : ℕ → ℕ) (t : Tables) (h : History) (s : Standing floor t 
         ))
         (λ b. rw (b, ← row-at t q tagField (omega arith)) (
         moved-fair (putClientWord (gotSetpoint w q i t) q stateField idle) (emptied q i t) (t .writes)
-        (endedRecord (recordOf t q) (nextStep t) (taggedRecord (recordOf t q) (tagIn c) (t .reads))) (readShown (tagIn c) (shownTags (gotSetpoint w q i t) q (maskOf t q)) (gotSetpoint w q i t) q (maskOf t q))
+        (endedRecord (recordOf t q) (nextStep t) (taggedRecord (recordOf t q) (tagIn c) (t .reads)))
+        (readShown (tagIn c) (shownTags (gotSetpoint w q i t) q (maskOf t q)) (gotSetpoint w q i t) q (maskOf t q))
         (two-words (setpointsField + i) (w .number) stateField idle (omega arith) (omega arith)) (two-others (setpointsField + i) (w .number) stateField idle (omega arith) (omega arith)) gone-links gone-others (λ z. omega arith) refl
         (got-end-kept floor (view t) h tied (few t q ready) q (in-range t q ready) (stepOf t + 1) (writesOf t) (readsOf t) i hi w link a ended
         (ended-word countField (λ e. omega arith) (λ e. omega arith)) (ended-word maskField (λ e. omega arith) (λ e. omega arith)) (ended-word tagField (λ e. omega arith) (λ e. omega arith))
@@ -320,11 +326,12 @@ module _ (floor : ℕ → ℕ) (t : Tables) (h : History) (s : Standing floor t 
         ))
         (λ b. rw b (
         moved-fair (putClientWord (concluded tag told q t) q stateField idle) (emptied q i t) (t .writes)
-        (endedRecord (recordOf t q) (nextStep t) (taggedRecord (recordOf t q) tag (t .reads))) (readShown tag from (concluded tag told q t) q (maskOf t q))
+        (endedRecord (recordOf t q) (nextStep t) (taggedRecord (recordOf t q) tag (t .reads)))
+        (readShown tag from (concluded tag told q t) q (maskOf t q))
         refl ended-others gone-links gone-others (λ z. omega arith) refl
         (told-end-kept floor (view t) h tied (few t q ready) q (in-range t q ready) (stepOf t + 1) (writesOf t) (readsOf t) i hi w link a row (other-word maskField (λ e. omega arith)) new old
-        (none-left b) (receivedIn told q) same (rowOf (putClientWord (concluded tag told q t) q stateField idle) q) ended-state ended-count (shownSetpoints (concluded tag told q t) q (maskOf t q)) shows
-        from (λ j m. laid-at (hasServer (maskOf t q)) (latestTagAt (t .log) tag) (serversOf t) j (few t q ready) (a .bound j m) (rw mask-at at m)))
+        (none-left b) (receivedIn told q) same (rowOf (putClientWord (concluded tag told q t) q stateField idle) q) ended-state ended-count
+        (shownSetpoints (concluded tag told q t) q (maskOf t q)) shows from comes)
         (gone-budget (rowOf (putClientWord (concluded tag told q t) q stateField idle) q) idle ended-state (λ e. omega arith) (λ e. omega arith) (λ e. omega arith))
         ))
       where
@@ -358,6 +365,10 @@ module _ (floor : ℕ → ℕ) (t : Tables) (h : History) (s : Standing floor t 
         -- the tags shown with the setpoints
         from : List ℕ
         from = chosenTags (t .log) (maskOf t q) (serversOf t) tag
+
+        comes : (j : ℕ) → hasServer (maskIn c) j ≡ true → getD from j 0 ≡ latestTagAt (t .log) tag j
+        comes j m =
+            laid-at (hasServer (maskOf t q)) (latestTagAt (t .log) tag) (serversOf t) j (few t q ready) (a .bound j m) (rw mask-at at m)
 
         -- the row at the end: setpoints at the tag, then the n forgotten, then the tag and the state
         kept : List ℕ

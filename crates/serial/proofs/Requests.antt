@@ -219,7 +219,8 @@ module _ (floor : ℕ → ℕ) (p : Press) (h : History) (tied : Tied floor p h)
     key-other : (i : ℕ) → hasServer (w .number) i ≡ false → z .key (s .entries) i ≡ z .key (h .tags) i
     key-other i e = ap (λ (y : Latest). y .key) (found-other i e)
 
-    value-new : (i : ℕ) → z .value (suc (h .tags)) i ≡ cond (hasServer (maskIn c) i) (valueWritten (suc (h .tags)) (b .setpoints) i) (z .value (h .tags) i)
+    value-new : (i : ℕ) → z .value (suc (h .tags)) i ≡
+        cond (hasServer (maskIn c) i) (valueWritten (suc (h .tags)) (b .setpoints) i) (z .value (h .tags) i)
     unfolding valueAt
     value-new i = rw (changed-same (h .write) (suc (h .tags)) new)
 

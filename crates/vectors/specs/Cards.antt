@@ -31,8 +31,8 @@ use Rattle.frames.specs.Frames.{frameOf}
 use Rattle.frames.specs.Vectors as frame
 use Rattle.vectors.specs.Presses.{blank, openingSetpoints, setpointsA, opened, after, busy, overtaken, swapped, logOfOne, logOfTwo, heldWithoutA}
 
--- a READ's answer: its tag, and the setpoints of servers 0 and 1 with the tag that server 0's comes from; 0 where it did not ask.
--- No WRITE of these cards that server 1 shows has a tag above 0.
+-- a READ's answer: its tag, the setpoints of servers 0 and 1, and the tag that server 0's comes from; 0 where it did not ask.
+-- Server 1 is not asked, or shows the opening's, so that its tag is 0 on every card.
 abbrev pub shows : ℕ → ℕ → ℕ → ℕ → Delivered
 shows tag x from y = record { arrival = arrival.Read tag; setpoints = x ∷ y ∷ replicate 14 0; tags = from ∷ replicate 15 0 }
 
