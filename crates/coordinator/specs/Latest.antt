@@ -1,5 +1,5 @@
 -- "The key of station i at tag t is that of the latest log entry, at t or before it, whose mask has i".
-use Prim.Native.Nat.{ℕ, _+_, _*_}
+use Prim.Native.Nat.{ℕ, _+_}
 use mathlib.Core.Bool.{Bool}
 use mathlib.Core.List.{List}
 use Rattle.ranges.specs.Last.{lastBelow}
@@ -26,10 +26,6 @@ entryAt log t = record { key = entryKey log t; tag = t }
 
 abbrev pub latestOf : List ℕ → ℕ → ℕ → Latest
 latestOf log i t = entryAt log (latestTag log i t)
-
--- both as one number, so that the search answers a number
-abbrev pub latestNumber : Latest → ℕ
-latestNumber x = keyWord (x .key) * 256 + x .tag
 
 -- "its reply has the last tag and all k keys", and each key the tag that it comes from: a server's at a tag
 abbrev pub latestWord : List ℕ → ℕ → ℕ → ℕ

@@ -4,7 +4,7 @@ ghost use Prim.Native.Nat.{_≤_, _<_};
 ghost use lib.ListN.{length};
 ghost use Rattle.ranges.specs.Laid.{laid};
 ghost use Rattle.coordinator.specs.Log.{LogRoom, HasEntry, enterLeft, entered};
-ghost use Rattle.coordinator.specs.Latest.{entryAt, latestOf, latestNumber, latestWord, latestTagAt};
+ghost use Rattle.coordinator.specs.Latest.{latestTag, latestOf, latestWord, latestTagAt};
 use keys::Key;
 use tables::counts;
 use tables::log;
@@ -29,26 +29,18 @@ pub struct Latest {
     pub tag: u32,
 }
 
-// An entry's key and its tag as one number: 256 times the key's number, and the tag.
-fn entry_number(log: &[u32], tag: usize) -> u32
-    requires { ⌜ HasEntry (now log) tag ⌝ }
-    ensures { λ r. ⌜ r ≡ latestNumber (entryAt (now (log .entry)) tag) ⌝ }
-{
-    log::entry_key(log, tag).word() * 256 + tag as u32
-}
-
-// The latest entry, at the tag or before it, whose mask has the server: its key and its tag, as one number. The search back calls itself with a tag
-// one smaller. It hands on the reference to the log that it was lent, and answers a number: so the compiler makes the calls a loop.
-pub fn search_back(log: &&[u32], server: usize, tag: usize) -> u32
+// The tag of the latest entry, at the tag or before it, whose mask has the server. The search back calls itself with a tag one smaller. It hands on
+// the reference to the log that it was lent, and answers a number: so the compiler makes the calls a loop.
+pub fn search_back(log: &&[u32], server: usize, tag: usize) -> usize
     requires { ⌜ (server < 16) × HasEntry (now (now log)) tag ⌝ }
-    ensures { λ r. ⌜ r ≡ latestNumber (latestOf (now (now (log .entry))) server tag) ⌝ }
+    ensures { λ r. ⌜ r ≡ latestTag (now (now (log .entry))) server tag ⌝ }
 {
     let entries = *log;
     if tag == 0 {
-        return entry_number(entries, 0);
+        return 0;
     }
     if keys::has_server(log::entry_mask(entries, tag), server) {
-        return entry_number(entries, tag);
+        return tag;
     }
     search_back(log, server, tag - 1)
 }
@@ -60,8 +52,8 @@ pub fn latest_entry(log: &[u32], server: usize, tag: usize) -> Latest
 {
     let found = search_back(&log, server, tag);
     Latest {
-        key: Key::at_word(found / 256),
-        tag: found % 256,
+        key: log::entry_key(log, found),
+        tag: found as u32,
     }
 }
 

@@ -1,9 +1,8 @@
--- `coordinator::search_back` meets its contract: each way of the search is a case law of `latestOf`, told as a number. The measure is the tag, which
--- falls by one at each call.
-use mathlib.Core.Path.{refl, _∙_}
+-- `coordinator::search_back` meets its contract: each way of the search is a case law of `latestTag`. The measure is the tag, which falls by one at
+-- each call.
+use mathlib.Core.Path.{_∙_}
 use borrow.Author.Needs.{needs}
 use native.Mathlib.Omega.{arith}
-use Rattle.coordinator.specs.Latest.{latestNumber}
 use Rattle.coordinator.specs.LatestLaws.{latest-first, latest-here, latest-before}
 use Prim.Native.Nat.{ℕ, _<_}
 use borrow.Fn.Kinds.{In}
@@ -13,7 +12,6 @@ use Rattle.coordinator.proofs.search_back.Kinds as search-back-kinds
 use Rattle.coordinator.proofs.+search_back.Lts-search_back as search-back-lts
 use Rattle.keys.proofs.has_server.Reads as has-server-reads
 use Rattle.tables.proofs.log.entry_mask.Reads as entry-mask-reads
-use Rattle.coordinator.proofs.entry_number.Reads as entry-number-reads
 use Rattle.coordinator.proofs.+search_back.{statement}
 use Rattle.coordinator.proofs.+search_back.Tie.{close}
 
@@ -30,8 +28,6 @@ search-back-below t =
 
 pub +search-back-spec : {M : Type 1} → statement M
 +search-back-spec = close μ-search-back λ t. search-back-lts.spec (
-  entry-number-reads.Asked,
-  entry-number-reads.Learnt,
   entry-mask-reads.Asked,
   entry-mask-reads.Learnt,
   has-server-reads.Asked,
@@ -41,18 +37,16 @@ pub +search-back-spec : {M : Type 1} → statement M
 )
     (search-back-at t)
     search-back.Post
-    (λ c κs. search needs)
-    (λ c. let a = c .before .before .before .args in
-    latest-first latestNumber (a .log .now .now) (a .server) (a .tag) (c .before .if1 .taken) (c .entry-number .ensures))
-    (λ c κs. search needs)
+    (λ c. let a = c .before .before .args in
+    latest-first (a .log .now .now) (a .server) (a .tag) (c .if1 .taken))
     (λ c κs. search needs)
     (λ c κs. search needs)
-    (λ c. let a = c .before .before .before .before .before .before .args in
-    latest-here latestNumber (a .log .now .now) (a .server) (a .tag)
-    (c .before .before .before .entry-mask .ensures) (c .before .before .has-server .ensures) (c .before .if2 .taken) (c .entry-number2 .ensures))
+    (λ c. let a = c .before .before .before .before .before .args in
+    latest-here (a .log .now .now) (a .server) (a .tag)
+    (c .before .before .entry-mask .ensures) (c .before .has-server .ensures) (c .if2 .taken))
     (λ c. search needs)
     (λ c κs. let p = c .before .before .before .before .before .pre in (omega arith, (omega arith, record { place = omega arith; there = omega arith })))
     (λ c. let a = c .before .before .before .before .before .before .args in
     c .search-back .ensures
-    ∙ latest-before latestNumber (a .log .now .now) (a .server) (a .tag)
-    (c .before .before .before .entry-mask .ensures) (c .before .before .has-server .ensures) (c .before .before .before .before .if1 .left) (c .before .if2 .left) refl)
+    ∙ latest-before (a .log .now .now) (a .server) (a .tag)
+    (c .before .before .before .entry-mask .ensures) (c .before .before .has-server .ensures) (c .before .before .before .before .if1 .left) (c .before .if2 .left))

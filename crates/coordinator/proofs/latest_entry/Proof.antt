@@ -1,19 +1,25 @@
--- `coordinator::latest_entry` meets its contract: the number that the search answers is taken apart, and a key made a word is the key again.
-use mathlib.Core.Path.{ap, _∙_}
-use Rattle.keys.specs.Keys.{keyAtWord, word-back, at-word-fits}
-use Rattle.coordinator.specs.LatestLaws.{number-key, number-tag}
+-- `coordinator::latest_entry` meets its contract: the entry at the tag that the search answers, which is at most the tag asked for.
+use native.Mathlib.Omega.{arith}
+use Rattle.coordinator.specs.LatestLaws.{latest-within}
 use borrow.Author.Needs.{needs}
 use Rattle.coordinator.proofs.latest_entry.Statement.{statement}
 use Rattle.coordinator.proofs.latest_entry.Tie as tie
 
-returns : tie.Need-returns
-returns c =
-    let start = c .before .before .before .before in
+-- the tag found is at most the tag asked for, so its entry is there
+there : tie.Need-entry-key-requires
+there c κs =
+    let start = c .before .before .before in
     let a = start .args in
-    let log = a .t1 .now in
-    let found = c .before .search-back .ensures in
-    let key = c .at-word .ensures ∙ ap keyAtWord (number-key log (a .server) (a .tag) (start .pre .1 .place) found) ∙ word-back _ (at-word-fits _) in
-    rw (key, number-tag log (a .server) (a .tag) (start .pre .1 .place) found)
+    let found = c .search-back .ensures in
+    let there = start .pre .1 .there in
+    omega (arith, latest-within (a .t1 .now) (a .server) (a .tag))
+
+returns : tie.Need-returns
+returns c = rw (c .entry-key .ensures, c .before .search-back .ensures)
 
 pub latest-entry-spec : {M : Type 1} → statement M
-latest-entry-spec = tie.close (tie.spec (λ c κs. search needs) (λ c κs. search needs) returns)
+latest-entry-spec =
+    tie.close (tie.spec (λ c κs. search needs) there
+    (λ c. let start = c .before .before .before .before in
+    search (needs, start .pre .1 .place, c .before .search-back .ensures, latest-within (start .args .t1 .now) (start .args .server) (start .args .tag)))
+    returns)
