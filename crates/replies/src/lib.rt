@@ -19,6 +19,7 @@ use rules::Arrival;
 use rules::Delivered;
 use rules::states;
 use rules::words;
+use rules::words::Shown;
 use tables::clients;
 use tables::counts;
 use tables::links;
@@ -145,26 +146,26 @@ fn keys_told(
     rules::showing_nothing(Arrival::Next)
 }
 
-// A READ ends: the client is idle, the record gets tag and end, and the answer shows the setpoints beside the tags given.
+// A READ ends: the client is idle, the record gets tag and end, and the answer shows the setpoints and tags given.
 fn finish(
     clients: &mut [u32],
     reads: &mut [u32],
     client: usize,
-    mask: u32,
     place: u32,
     tag: u32,
-    tags: [u32; 16],
+    shown: Shown,
     step: u32,
 ) -> Delivered
     requires { ⌜ (HasRow clientWidth (now clients) client) × (HasRow recordWidth (now reads) place) ⌝ }
-    ensures { λ r. ⌜ Finished (now (clients .entry)) (now (reads .entry)) client mask place tag tags step r (now (clients .exit)) (now (reads .exit)) ⌝ }
+    ensures { λ r. ⌜ Finished (now (clients .entry)) (now (reads .entry)) client place tag shown step r (now (clients .exit)) (now (reads .exit)) ⌝ }
 {
-    let shown = words::shown_words(&*clients, client, clients::SETPOINTS, mask);
     clients::put_client_word(clients, client, clients::STATE, states::IDLE);
     history::end_read(reads, place as usize, tag, step);
+    let setpoints = shown.setpoints;
+    let tags = shown.tags;
     Delivered {
         arrival: Arrival::Read(tag),
-        setpoints: shown,
+        setpoints: setpoints,
         tags: tags,
     }
 }
@@ -199,8 +200,8 @@ fn got(
     if rules::is_pending(&*links, client) {
         return rules::showing_nothing(Arrival::Wait);
     }
-    let tags = words::shown_words(&*clients, client, clients::TAGS, mask);
-    finish(clients, reads, client, mask, place, tag, tags, step)
+    let shown = words::shown_words(&*clients, client, mask);
+    finish(clients, reads, client, place, tag, shown, step)
 }
 
 // A READ ends under C: the tag is chosen, the setpoints at it are kept, and the READ finishes, showing the tags that they come from.
@@ -231,7 +232,20 @@ fn finish_by_c(
         entries as usize,
     ) as u32;
     let tags = choice::conclude(clients, keys, values, log, client, mask, servers, tag);
-    finish(clients, reads, client, mask, place, tag, tags, step)
+    let shown = words::shown_words(&*clients, client, mask);
+    let setpoints = shown.setpoints;
+    finish(
+        clients,
+        reads,
+        client,
+        place,
+        tag,
+        Shown {
+            setpoints: setpoints,
+            tags: tags,
+        },
+        step,
+    )
 }
 
 // State 5: an n has come; when all replies are in, the READ ends.

@@ -39,12 +39,11 @@ returns-2 c =
     let at-client-word = at-client-word2 .before .before in
     let start = at-client-word .before .before .before .before .before .before in
     let a = start .args in
-    let f = at-finish .finish .ensures in
     λ keys values log writes. got-ends (a .client) (a .target)
     (tablesOf (a .counts .now) (a .clients .now) (a .links .now) keys values log writes (a .reads .now))
     (at-settle .settle .ensures) (at-is-pending .is-pending .ensures) (a .contents) (at-put-client-word .put-client-word .ensures) (at-if1 .if1 .left)
     (at-client-word .client-word .ensures) (at-client-word2 .client-word2 .ensures) (at-client-word3 .client-word3 .ensures)
-    (at-shown-words .shown-words .ensures) (f .shown) (f .idled) (f .recorded)
+    (at-shown-words .shown-words .ensures) (at-finish .finish .ensures)
 
 pub got-spec : {M : Type 1} → statement M
 got-spec =
