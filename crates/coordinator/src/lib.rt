@@ -4,7 +4,7 @@ ghost use Prim.Native.Nat.{_≤_, _<_};
 ghost use lib.ListN.{length};
 ghost use Rattle.ranges.specs.Laid.{laid};
 ghost use Rattle.coordinator.specs.Log.{LogRoom, HasEntry, enterLeft, entered};
-ghost use Rattle.coordinator.specs.Latest.{latestTag, latestOf, latestWord, latestTagAt};
+ghost use Rattle.coordinator.specs.Latest.{entryAt, latestOf, latestWord, latestTagAt};
 use keys::Key;
 use tables::counts;
 use tables::log;
@@ -29,11 +29,11 @@ pub struct Latest {
     pub tag: u32,
 }
 
-// The tag of the latest entry, at the tag or before it, whose mask has the server. The search back calls itself with a tag one smaller. It hands on
-// the reference to the log that it was lent, and answers a number: so the compiler makes the calls a loop.
+// The latest entry, at the tag or before it, whose mask has the server: its tag, at which the log has its key. The search back calls itself with a
+// tag one smaller. It hands on the reference to the log that it was lent, and answers a number: so the compiler makes the calls a loop.
 pub fn search_back(log: &&[u32], server: usize, tag: usize) -> usize
     requires { ⌜ (server < 16) × HasEntry (now (now log)) tag ⌝ }
-    ensures { λ r. ⌜ r ≡ latestTag (now (now (log .entry))) server tag ⌝ }
+    ensures { λ r. ⌜ entryAt (now (now (log .entry))) r ≡ latestOf (now (now (log .entry))) server tag ⌝ }
 {
     let entries = *log;
     if tag == 0 {

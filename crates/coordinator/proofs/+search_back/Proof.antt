@@ -1,8 +1,9 @@
 -- `coordinator::search_back` meets its contract: each way of the search is a case law of `latestTag`. The measure is the tag, which falls by one at
 -- each call.
-use mathlib.Core.Path.{_∙_}
+use mathlib.Core.Path.{ap, _∙_}
 use borrow.Author.Needs.{needs}
 use native.Mathlib.Omega.{arith}
+use Rattle.coordinator.specs.Latest.{entryAt}
 use Rattle.coordinator.specs.LatestLaws.{latest-first, latest-here, latest-before}
 use Prim.Native.Nat.{ℕ, _<_}
 use borrow.Fn.Kinds.{In}
@@ -38,15 +39,15 @@ pub +search-back-spec : {M : Type 1} → statement M
     (search-back-at t)
     search-back.Post
     (λ c. let a = c .before .before .args in
-    latest-first (a .log .now .now) (a .server) (a .tag) (c .if1 .taken))
+    ap (entryAt (a .log .now .now)) (latest-first (a .log .now .now) (a .server) (a .tag) (c .if1 .taken)))
     (λ c κs. search needs)
     (λ c κs. search needs)
     (λ c. let a = c .before .before .before .before .before .args in
-    latest-here (a .log .now .now) (a .server) (a .tag)
-    (c .before .before .entry-mask .ensures) (c .before .has-server .ensures) (c .if2 .taken))
+    ap (entryAt (a .log .now .now)) (latest-here (a .log .now .now) (a .server) (a .tag)
+    (c .before .before .entry-mask .ensures) (c .before .has-server .ensures) (c .if2 .taken)))
     (λ c. search needs)
     (λ c κs. let p = c .before .before .before .before .before .pre in (omega arith, (omega arith, record { place = omega arith; there = omega arith })))
     (λ c. let a = c .before .before .before .before .before .before .args in
     c .search-back .ensures
-    ∙ latest-before (a .log .now .now) (a .server) (a .tag)
-    (c .before .before .before .entry-mask .ensures) (c .before .before .has-server .ensures) (c .before .before .before .before .if1 .left) (c .before .if2 .left))
+    ∙ ap (entryAt (a .log .now .now)) (latest-before (a .log .now .now) (a .server) (a .tag)
+    (c .before .before .before .entry-mask .ensures) (c .before .before .has-server .ensures) (c .before .before .before .before .if1 .left) (c .before .if2 .left)))
