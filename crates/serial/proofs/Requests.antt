@@ -203,13 +203,13 @@ module _ (floor : ℕ → ℕ) (p : Press) (h : History) (tied : Tied floor p h)
     mask-new = entry-mask-same (s .log) (s .entries) (w .key) (w .number) logged
 
     found-masked : (i : ℕ) → hasServer (w .number) i ≡ true → latestOf (s″ .log) i (s .entries) ≡ entryAt (s″ .log) (s .entries)
-    found-masked i e = sym (latest-here (λ y. y) (s″ .log) i (s .entries) (sym mask-new) refl e refl)
+    found-masked i e = ap (entryAt (s″ .log)) (sym (latest-here (s″ .log) i (s .entries) (sym mask-new) refl e))
 
     found-other : (i : ℕ) → hasServer (w .number) i ≡ false → latestOf (s″ .log) i (s .entries) ≡ latestOf (s″ .log) i (h .tags)
     found-other i e =
         let t : s .entries - 1 ≡ h .tags = omega (arith, tied .entries) in
-        sym (latest-before (λ y. y) (s″ .log) i (s .entries) (sym mask-new) refl (λ y. omega (arith, tied .entries)) e
-        (ap (λ (u : ℕ). latestOf (s″ .log) i u) (sym t)))
+        let before = latest-before (s″ .log) i (s .entries) (sym mask-new) refl (λ y. omega (arith, tied .entries)) e in
+        ap (entryAt (s″ .log)) (sym before ∙ ap (latestTag (s″ .log) i) t)
 
     key-masked : (i : ℕ) → hasServer (w .number) i ≡ true → z .key (s .entries) i ≡ w .key
     key-masked i e =
