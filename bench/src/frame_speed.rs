@@ -75,7 +75,8 @@ impl Lent {
     pub fn of(library: FrameLibrary, kind: u32, entries: u32) -> Lent {
         let fixed = message(kind, entries);
         let keys: Vec<u32> = (0..entries).map(|entry| 256 * (1 + entry % 255) + entry % 16).collect();
-        let numbers: Vec<u32> = (0..entries).map(|entry| 1 + entry * 251 % 65535).collect();
+        let most = if kind == 6 { 255 } else { 65535 };
+        let numbers: Vec<u32> = (0..entries).map(|entry| 1 + entry * 251 % most).collect();
         let mut frame = vec![0; MOST_BYTES];
         let length = library.write(&fixed, &keys, &numbers, &mut frame).expect("a good message");
         frame.truncate(length);

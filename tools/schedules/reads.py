@@ -61,12 +61,13 @@ def refuse_more(script):
 
 def made():
     script = Script()
-    before = [10, 20, 30]
+    before = [(10, 0), (20, 0), (30, 0)]
     script.say("O 2 3 6 10 20 30", "ok")
     writes, reads = [], []
     for turn in range(1, ROUNDS + 1):
         setpoints = [1000 * turn + station for station in range(3)]
-        after = [setpoints[station] if station in stations(write_mask(turn)) else before[station] for station in range(3)]
+        # round r's WRITE is tag r
+        after = [(setpoints[station], turn) if station in stations(write_mask(turn)) else before[station] for station in range(3)]
         write_began, began = begin_all(script, turn, setpoints)
         for panel in EARLY:
             script.say(f"> {panel} 16", "ok")

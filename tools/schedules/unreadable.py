@@ -169,6 +169,6 @@ def made():
     script.say("> 0 1", "ok")  # step 6
     script.say("< 0 1", "wait")  # step 7
     # "A line ends at byte 10 or at the end of the text"
-    script.say("< 0 0", "read 0 0=0 1=4294967295")  # step 8
+    script.say("< 0 0", "read 0 0=0@0 1=4294967295@0")  # step 8
     script.register = ["R 0 0 2 8 0"]
     return script.stdin(last_byte=b""), script.stdout()

@@ -66,8 +66,8 @@ def read_all(script, panel, tag, values):
 
 def made():
     script = Script()
-    values = [1000 + station for station in range(STATIONS)]
-    script.say(f"O 3 {STATIONS} 16 " + " ".join(map(str, values)), "ok")
+    values = [(1000 + station, 0) for station in range(STATIONS)]
+    script.say(f"O 3 {STATIONS} 16 " + " ".join(str(setpoint) for setpoint, _ in values), "ok")
     spans, rows = [], []
     for turn in range(ROUNDS):
         numbers = {panel: AT_ONCE * turn + place + 1 for place, panel in enumerate(PANELS)}
@@ -83,7 +83,7 @@ def made():
             script.say(f"> {panel} 16", "ok")
             # the row: each WRITE in the order of tags sets its stations' values
             for station in stations(masks[panel]):
-                values[station] = setpoints_of(numbers[panel])[station]
+                values[station] = (setpoints_of(numbers[panel])[station], tags[panel])
         for panel in PANELS:
             ended = script.say(f"< {panel} 16", f"write {tags[panel]}")
             spans.append((begun[panel], ended))

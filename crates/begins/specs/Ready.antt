@@ -4,7 +4,7 @@ use mathlib.Core.Path.{_≡_}
 use mathlib.Core.List.{List}
 use lib.ListN.{length}
 use Rattle.tables.specs.Rows.{HasRow}
-use Rattle.tables.specs.Layout.{countAt, countWords, clientWidth, clientWord, countField, serversField, entriesField, writesField, entryWidth}
+use Rattle.tables.specs.Layout.{countAt, countWords, clientWidth, clientWord, countField, serversField, entriesField, writesField, logPlaces, entryWidth}
 use Rattle.tables.specs.Links.{HasLinks}
 use Rattle.history.specs.Ready.{BeginReady}
 
@@ -15,6 +15,7 @@ pub record AskReady (counts clients links log : List ℕ) (q : ℕ) : Type 0 whe
   pub row : HasRow clientWidth clients q
   pub linked : HasLinks links q
   pub entered : 0 < countAt counts entriesField
+  pub few : countAt counts entriesField ≤ logPlaces
   pub logged : entryWidth * countAt counts entriesField ≤ length log
 
 -- a WRITE: besides, a count that can grow, and a setpoint for each server

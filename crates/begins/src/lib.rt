@@ -7,10 +7,13 @@ ghost use mathlib.Core.Bool.{cond};
 ghost use Rattle.keys.specs.Masks.{hasServer};
 ghost use Rattle.tables.specs.Tables.{tablesOf};
 ghost use Rattle.tables.specs.Rows.{HasRow};
-ghost use Rattle.tables.specs.Layout.{clientWidth, entryWidth, countWords, countAt, methodField, serversField, readsField};
+ghost use Rattle.tables.specs.Layout.{clientWidth, tagsField, countWords, countAt, methodField, serversField, readsField};
 ghost use Rattle.tables.specs.Links.{linkWidth, linkRow, HasLinks, putLink};
 ghost use Rattle.rules.specs.Common.{startedClient, request};
-ghost use Rattle.rules.specs.Begin.{sentSets, sentGets, sentAsks, sendGet, begunWrite};
+ghost use Rattle.coordinator.specs.Log.{HasEntry};
+ghost use Rattle.coordinator.specs.Latest.{latestTagAt};
+ghost use Rattle.rules.specs.Words.{keepWord};
+ghost use Rattle.rules.specs.Begin.{sentSets, sentGets, keptTags, sentAsks, sendGet, begunWrite};
 ghost use Rattle.rules.specs.Begin.{asking, askingByA, askingByB, askingByC, askingBy, begunRead};
 ghost use Rattle.history.specs.Ready.{BeginReady};
 ghost use Rattle.begins.specs.Ready.{AskReady, WriteReady};
@@ -74,20 +77,34 @@ fn send_sets(links: &mut [u32], client: usize, mask: u32, key: Key, setpoints: &
     }
 }
 
-// A get request, for its key at a tag, to a server that the mask has.
-fn send_get(links: &mut [u32], log: &[u32], client: usize, mask: u32, tag: usize, server: usize)
-    requires { ⌜ (HasRow linkWidth (now links) (linkRow client server)) × (server < 16) ⌝ }
-    requires { ⌜ HasRow entryWidth (now log) tag ⌝ }
-    ensures { λ _. ⌜ now (links .exit) ≡ cond (hasServer mask server) (sendGet client (now (log .entry)) tag server (now (links .entry))) (now (links .entry)) ⌝ }
+// A get request, for its key at a tag, to a server that the mask has; the client keeps the tag that the key comes from.
+fn send_get(
+    clients: &mut [u32],
+    links: &mut [u32],
+    log: &[u32],
+    client: usize,
+    mask: u32,
+    tag: usize,
+    server: usize,
+)
+    requires { ⌜ (HasRow clientWidth (now clients) client) × (HasRow linkWidth (now links) (linkRow client server)) ⌝ }
+    requires { ⌜ (server < 16) × HasEntry (now log) tag ⌝ }
+    ensures clients { λ _. ⌜ now (clients .exit)
+        ≡ cond (hasServer mask server) (keepWord tagsField (latestTagAt (now (log .entry)) tag) client server (now (clients .entry))) (now (clients .entry)) ⌝ }
+    ensures links { λ _. ⌜ now (links .exit)
+        ≡ cond (hasServer mask server) (sendGet client (now (log .entry)) tag server (now (links .entry))) (now (links .entry)) ⌝ }
 {
     if keys::has_server(mask, server) {
-        let key = coordinator::latest_key(log, server, tag);
+        let latest = coordinator::latest_entry(log, server, tag);
+        let key = latest.key;
+        clients::put_client_word(clients, client, clients::TAGS + server, latest.tag);
         send(links, client, server, key, 0);
     }
 }
 
-// A get request, for its key at a tag, to each masked server.
+// A get request, for its key at a tag, to each masked server; the client keeps the tags that the keys come from.
 pub fn send_gets(
+    clients: &mut [u32],
     links: &mut [u32],
     log: &[u32],
     client: usize,
@@ -95,13 +112,14 @@ pub fn send_gets(
     tag: usize,
     servers: usize,
 )
-    requires { ⌜ (HasLinks (now links) client) × (servers ≤ 16) ⌝ }
-    requires { ⌜ HasRow entryWidth (now log) tag ⌝ }
-    ensures { λ _. ⌜ now (links .exit) ≡ sentGets client mask (now (log .entry)) tag servers (now (links .entry)) ⌝ }
+    requires { ⌜ (HasRow clientWidth (now clients) client) × (HasLinks (now links) client) ⌝ }
+    requires { ⌜ (servers ≤ 16) × HasEntry (now log) tag ⌝ }
+    ensures clients { λ _. ⌜ now (clients .exit) ≡ keptTags client mask (now (log .entry)) tag servers (now (clients .entry)) ⌝ }
+    ensures links { λ _. ⌜ now (links .exit) ≡ sentGets client mask (now (log .entry)) tag servers (now (links .entry)) ⌝ }
 {
     let mut server = 0;
     while server < servers {
-        send_get(links, log, client, mask, tag, server);
+        send_get(clients, links, log, client, mask, tag, server);
         server += 1;
     }
 }
@@ -193,7 +211,15 @@ fn ask_by_a(
         counts::count_at(counts, counts::READS),
     );
     clients::put_client_word(clients, client, clients::TAG, tag);
-    send_gets(links, log, client, mask, tag as usize, servers as usize);
+    send_gets(
+        clients,
+        links,
+        log,
+        client,
+        mask,
+        tag as usize,
+        servers as usize,
+    );
 }
 
 // B: asks the coordinator.

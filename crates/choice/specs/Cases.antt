@@ -4,7 +4,7 @@ use mathlib.Core.Path.{_≡_, sym, _∙_}
 use mathlib.Core.Bool.{Bool, true, false}
 use mathlib.Core.List.{List}
 use native.Mathlib.Omega.{arith}
-use lib.ListN.{getD, replicate, getD-replicate}
+use lib.ListN.{length, getD, replicate, getD-replicate}
 use borrow.Author.Tests.{ltb-true}
 use Rattle.ranges.specs.AllLaws.{all-at}
 use Rattle.tables.specs.Layout.{setpointsField, receivedField, tagField, putClientWord}
@@ -14,9 +14,11 @@ use Rattle.keys.specs.Masks.{hasServer}
 use Rattle.server.specs.Held.{firstBearing}
 use Rattle.coordinator.specs.Latest.{latestKey}
 use Rattle.rules.specs.Words.{every, keptWords, laidWords}
-use Rattle.rules.specs.WordsLaws.{kept-same, kept-laid, has-every}
-use Rattle.rules.specs.Choice.{hasVersion, serves, qualifies}
+use Rattle.rules.specs.WordsLaws.{kept-same, kept-laid, laid-length, has-every}
+use Rattle.rules.specs.Choice.{hasVersion, serves, qualifies, chosenSetpoint}
 use Rattle.rules.specs.Reply.{receivedIn, forgotten, concludedRow}
+use Rattle.choice.specs.declared.Values.{Values}
+use Rattle.choice.specs.Values.{chosenValues}
 
 -- has is what was asked of the mask, b what was asked of the versions
 module _ (keys log : List ℕ) (mask : ℕ) (received : ℕ → ℕ) (t i : ℕ) {has : Bool} (m : has ≡ hasServer mask i) where
@@ -37,6 +39,11 @@ kept-place keys log clients q t i {n} {place} c k p e =
 pub has-wanted : (keys log : List ℕ) (mask : ℕ) (received : ℕ → ℕ) (k t i : ℕ) →
     qualifies keys log mask received k t ≡ true → i < k → hasServer mask i ≡ true → hasVersion keys log received t i ≡ true
 has-wanted keys log mask received k t i e below b = rw b at (all-at (serves keys log mask received t) k e i below)
+
+-- the setpoints chosen are 16
+pub chosen-length : (keys values log : List ℕ) (received : ℕ → ℕ) (mask k t : ℕ) {x : Values} →
+    x ≡ chosenValues keys values log received mask k t → length (x .setpoints) ≡ 16
+chosen-length keys values log received mask k t e = rw e (laid-length (hasServer mask) (chosenSetpoint keys values log received t) k)
 
 -- a row of zeros kept for every target is the n forgotten
 pub none-kept : (q : ℕ) (clients : List ℕ) →

@@ -7,10 +7,11 @@ ghost use Rattle.tables.specs.Rows.{HasRow};
 ghost use mathlib.Core.Bool.{true, cond};
 ghost use Rattle.ranges.specs.Picked.{picked};
 ghost use Rattle.keys.specs.Masks.{hasServer};
-ghost use Rattle.tables.specs.Layout.{clientWidth, entryWidth, serverPlaces, entryKey, entryMask};
+ghost use Rattle.tables.specs.Layout.{clientWidth, logPlaces, entryWidth, serverPlaces, entryKey, entryMask};
+ghost use Rattle.coordinator.specs.Log.{HasEntry};
 ghost use Rattle.rules.specs.Choice.{holdsKey, hasVersion, serves, qualifies, chosenTag, chosenSetpoint};
-ghost use Rattle.rules.specs.Reply.{receivedIn, forgotten, concludedRow};
-ghost use Rattle.rules.specs.Words.{laidWords};
+ghost use Rattle.rules.specs.Reply.{receivedIn, forgotten, concludedRow, chosenTags};
+ghost use Rattle.choice.specs.Values.{chosenValue, chosenValues};
 ghost use Rattle.choice.specs.Ready.{Received, ChoiceReady};
 ghost use Rattle.keys.specs.Bits.{without, addServer, gathered};
 ghost use Rattle.choice.specs.Holders.{slots, tabled, slotOf, marked, markVersions, markServers, Marked};
@@ -32,11 +33,12 @@ fn has_version(
     tag: usize,
 ) -> bool
     requires { ⌜ Received (now clients) (now keys) client server ⌝ }
-    requires { ⌜ HasRow entryWidth (now log) tag ⌝ }
+    requires { ⌜ HasEntry (now log) tag ⌝ }
     ensures { λ r. ⌜ r ≡ hasVersion (now (keys .entry)) (now (log .entry)) (receivedIn (now (clients .entry)) client) tag server ⌝ }
 {
     let received = clients::client_word(clients, client, clients::RECEIVED + server) as usize;
-    let key = coordinator::latest_key(log, server, tag);
+    let latest = coordinator::latest_entry(log, server, tag);
+    let key = latest.key;
     let place = server::find(keys, server, received, key);
     place < received
 }
@@ -52,7 +54,7 @@ fn serves(
     tag: usize,
 ) -> bool
     requires { ⌜ Received (now clients) (now keys) client server ⌝ }
-    requires { ⌜ HasRow entryWidth (now log) tag ⌝ }
+    requires { ⌜ HasEntry (now log) tag ⌝ }
     ensures { λ r. ⌜ r ≡ serves (now (keys .entry)) (now (log .entry)) mask (receivedIn (now (clients .entry)) client) tag server ⌝ }
 {
     if keys::has_server(mask, server) {
@@ -72,7 +74,7 @@ fn all_serve(
     tag: usize,
 ) -> bool
     requires { ⌜ (servers ≤ 16) × (((i : ℕ) → i < servers → Received (now clients) (now keys) client i)) ⌝ }
-    requires { ⌜ HasRow entryWidth (now log) tag ⌝ }
+    requires { ⌜ HasEntry (now log) tag ⌝ }
     ensures { λ r. ⌜ r ≡ qualifies (now (keys .entry)) (now (log .entry)) mask (receivedIn (now (clients .entry)) client) servers tag ⌝ }
 {
     let mut server = 0;
@@ -363,7 +365,7 @@ pub fn chosen_tag(
     entries: usize,
 ) -> usize
     requires { ⌜ (servers ≤ 16) × (((i : ℕ) → i < servers → Received (now clients) (now keys) client i)) ⌝ }
-    requires { ⌜ entryWidth * entries ≤ length (now log) ⌝ }
+    requires { ⌜ (entries ≤ logPlaces) × (entryWidth * entries ≤ length (now log)) ⌝ }
     ensures { λ r. ⌜ r ≡ chosenTag (now (keys .entry)) (now (log .entry)) mask (receivedIn (now (clients .entry)) client) servers entries ⌝ }
 {
     if entries < 2 {
@@ -376,8 +378,20 @@ pub fn chosen_tag(
     greatest_tag(clients, keys, log, client, wanted, servers, entries)
 }
 
-// The setpoint of a server at a tag, as the versions received have it.
-fn chosen_setpoint(
+// What a READ shows of a server: its setpoint, and the tag of the WRITE that put it there.
+pub struct Value {
+    pub setpoint: u32,
+    pub tag: u32,
+}
+
+// What a READ shows of 16 servers, 0 of those it does not show.
+pub struct Values {
+    pub setpoints: [u32; 16],
+    pub tags: [u32; 16],
+}
+
+// A server's value at a tag, as the versions received have it.
+fn chosen_value(
     clients: &[u32],
     keys: &[u32],
     values: &[u32],
@@ -385,21 +399,25 @@ fn chosen_setpoint(
     client: usize,
     tag: usize,
     server: usize,
-) -> u32
+) -> Value
     requires { ⌜ Received (now clients) (now keys) client server ⌝ }
-    requires { ⌜ (HasRow entryWidth (now log) tag) × (HasRow serverPlaces (now values) server) ⌝ }
+    requires { ⌜ HasEntry (now log) tag × HasRow serverPlaces (now values) server ⌝ }
     requires { ⌜ hasVersion (now keys) (now log) (receivedIn (now clients) client) tag server ≡ true ⌝ }
-    ensures { λ r. ⌜ r ≡ chosenSetpoint (now (keys .entry)) (now (values .entry)) (now (log .entry))
+    ensures { λ r. ⌜ r ≡ chosenValue (now (keys .entry)) (now (values .entry)) (now (log .entry))
         (receivedIn (now (clients .entry)) client) tag server ⌝ }
 {
     let received = clients::client_word(clients, client, clients::RECEIVED + server) as usize;
-    let key = coordinator::latest_key(log, server, tag);
+    let latest = coordinator::latest_entry(log, server, tag);
+    let key = latest.key;
     let place = server::find(keys, server, received, key);
-    versions::version_setpoint(values, server, place)
+    Value {
+        setpoint: versions::version_setpoint(values, server, place),
+        tag: latest.tag,
+    }
 }
 
-// The setpoints of the masked servers at a tag that qualifies, 0 elsewhere.
-fn chosen_setpoints(
+// The values of the masked servers at a tag that qualifies, 0 elsewhere.
+fn chosen_values(
     clients: &[u32],
     keys: &[u32],
     values: &[u32],
@@ -408,23 +426,28 @@ fn chosen_setpoints(
     mask: u32,
     servers: usize,
     tag: usize,
-) -> [u32; 16]
+) -> Values
     requires { ⌜ ChoiceReady (now clients) (now keys) (now values) client servers ⌝ }
-    requires { ⌜ HasRow entryWidth (now log) tag ⌝ }
+    requires { ⌜ HasEntry (now log) tag ⌝ }
     requires { ⌜ qualifies (now keys) (now log) mask (receivedIn (now clients) client) servers tag ≡ true ⌝ }
-    ensures { λ r. ⌜ r ≡ laidWords (hasServer mask)
-        (chosenSetpoint (now (keys .entry)) (now (values .entry)) (now (log .entry))
-        (receivedIn (now (clients .entry)) client) tag) servers ⌝ }
+    ensures { λ r. ⌜ r ≡ chosenValues (now (keys .entry)) (now (values .entry)) (now (log .entry))
+        (receivedIn (now (clients .entry)) client) mask servers tag ⌝ }
 {
     let mut setpoints = [0u32; 16];
+    let mut tags = [0u32; 16];
     let mut server = 0;
     while server < servers {
         if keys::has_server(mask, server) {
-            setpoints[server] = chosen_setpoint(clients, keys, values, log, client, tag, server);
+            let value = chosen_value(clients, keys, values, log, client, tag, server);
+            setpoints[server] = value.setpoint;
+            tags[server] = value.tag;
         }
         server += 1;
     }
-    setpoints
+    Values {
+        setpoints: setpoints,
+        tags: tags,
+    }
 }
 
 // The n received are forgotten.
@@ -443,7 +466,7 @@ fn forget_received(clients: &mut [u32], client: usize)
     );
 }
 
-// The client's row at the end of a READ under C: the setpoints at the tag, the n forgotten, the tag.
+// The client's row at the end of a READ under C: the setpoints at the tag, the n forgotten, the tag. It answers the tags that they come from.
 pub fn conclude(
     clients: &mut [u32],
     keys: &[u32],
@@ -453,14 +476,16 @@ pub fn conclude(
     mask: u32,
     servers: usize,
     tag: u32,
-)
+) -> [u32; 16]
     requires { ⌜ ChoiceReady (now clients) (now keys) (now values) client servers ⌝ }
-    requires { ⌜ (HasRow clientWidth (now clients) client) × (HasRow entryWidth (now log) tag) ⌝ }
+    requires { ⌜ (HasRow clientWidth (now clients) client) × HasEntry (now log) tag ⌝ }
     requires { ⌜ qualifies (now keys) (now log) mask (receivedIn (now clients) client) servers tag ≡ true ⌝ }
-    ensures { λ _. ⌜ now (clients .exit)
-        ≡ concludedRow (chosenSetpoint (now (keys .entry)) (now (values .entry)) (now (log .entry)) (receivedIn (now (clients .entry)) client) tag) tag client mask servers (now (clients .entry)) ⌝ }
+    ensures clients { λ _. ⌜ now (clients .exit)
+        ≡ concludedRow (chosenSetpoint (now (keys .entry)) (now (values .entry)) (now (log .entry))
+        (receivedIn (now (clients .entry)) client) tag) tag client mask servers (now (clients .entry)) ⌝ }
+    ensures tags { λ r. ⌜ r ≡ chosenTags (now (log .entry)) mask servers tag ⌝ }
 {
-    let setpoints = chosen_setpoints(
+    let chosen = chosen_values(
         &*clients,
         keys,
         values,
@@ -470,6 +495,7 @@ pub fn conclude(
         servers,
         tag as usize,
     );
+    let setpoints = chosen.setpoints;
     words::keep_words(
         clients,
         client,
@@ -480,4 +506,5 @@ pub fn conclude(
     );
     forget_received(clients, client);
     clients::put_client_word(clients, client, clients::TAG, tag);
+    chosen.tags
 }

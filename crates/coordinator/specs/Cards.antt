@@ -5,7 +5,7 @@ use mathlib.Core.List.{List, [], _∷_}
 use Rattle.ranges.specs.Last.{lastBelow}
 use Rattle.keys.specs.Keys.{keyOf, opening}
 use Rattle.tables.specs.Layout.{putEntry}
-use Rattle.coordinator.specs.Latest.{latestKey}
+use Rattle.coordinator.specs.Latest.{latestKey, latestTag}
 
 abbrev log : List ℕ
 log = putEntry (putEntry (0 ∷ 0 ∷ 0 ∷ 0 ∷ []) 0 opening 3) 1 (keyOf 1 0) 1
@@ -13,3 +13,8 @@ log = putEntry (putEntry (0 ∷ 0 ∷ 0 ∷ 0 ∷ []) 0 opening 3) 1 (keyOf 1 0)
 pub log-card : (latestKey log 0 1 ≡ keyOf 1 0) × (latestKey log 1 1 ≡ keyOf 0 0)
 unfolding lastBelow
 log-card = (refl, refl)
+
+-- and the tags that they come from: 0 for the opening
+pub log-tags : (latestTag log 0 1 ≡ 1) × (latestTag log 1 1 ≡ 0)
+unfolding lastBelow
+log-tags = (refl, refl)

@@ -2,13 +2,12 @@
 use Prim.Native.Nat.{ℕ, _+_}
 use mathlib.Core.Bool.{Bool}
 use mathlib.Core.List.{List}
-use lib.ListN.{set}
 use Rattle.ranges.specs.Last.{lastBelow}
-use Rattle.ranges.specs.Turns.{turns}
 use Rattle.keys.specs.declared.Key.{Key}
 use Rattle.keys.specs.Keys.{keyWord}
 use Rattle.keys.specs.Masks.{hasServer}
 use Rattle.tables.specs.Layout.{entryKey, entryMask}
+use Rattle.coordinator.specs.declared.Latest.{Latest}
 
 -- the entry at a tag wrote the server
 abbrev pub wrote : List ℕ → ℕ → ℕ → Bool
@@ -21,9 +20,16 @@ latestTag log i t = lastBelow (wrote log i) (t + 1)
 abbrev pub latestKey : List ℕ → ℕ → ℕ → Key
 latestKey log i t = entryKey log (latestTag log i t)
 
--- "its reply has the last tag and all k keys": the words of the keys of the first k servers at a tag, from the front of a list
-abbrev pub putKey : List ℕ → ℕ → ℕ → List ℕ → List ℕ
-putKey log t i words = set words i (keyWord (latestKey log i t))
+-- "The search back through the log therefore promises key and tag."
+abbrev pub entryAt : List ℕ → ℕ → Latest
+entryAt log t = record { key = entryKey log t; tag = t }
 
-abbrev pub putKeys : List ℕ → ℕ → ℕ → List ℕ → List ℕ
-putKeys log t k words = turns (putKey log t) k words
+abbrev pub latestOf : List ℕ → ℕ → ℕ → Latest
+latestOf log i t = entryAt log (latestTag log i t)
+
+-- "its reply has the last tag and all k keys", and each key the tag that it comes from: a server's at a tag
+abbrev pub latestWord : List ℕ → ℕ → ℕ → ℕ
+latestWord log t i = keyWord (latestKey log i t)
+
+abbrev pub latestTagAt : List ℕ → ℕ → ℕ → ℕ
+latestTagAt log t i = latestTag log i t

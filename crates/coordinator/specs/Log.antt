@@ -9,6 +9,7 @@ use borrow.Author.Tests.{lt-ltb, le-ltb}
 use lib.Seq.{getD-set-other}
 use Rattle.ranges.specs.Tests.{by-test, not-both}
 use Rattle.keys.specs.declared.Key.{Key}
+use Rattle.tables.specs.Rows.{HasRow}
 use Rattle.tables.specs.Layout.{countAt, countWords, entriesField, logPlaces, entryWidth, putEntry}
 
 -- what an entry leaves, and whether it was made
@@ -34,6 +35,11 @@ entered counts log key mask =
 pub record LogRoom (counts log : List ℕ) : Type 0 where
   pub counted : countWords ≤ length counts
   pub logged : entryWidth * logPlaces ≤ length log
+
+-- a tag of the log: an entry stands there, and the log has no more than its 256 places
+pub record HasEntry (log : List ℕ) (tag : ℕ) : Type 0 where
+  pub place : tag < logPlaces
+  pub there : HasRow entryWidth log tag
 
 -- the cases of an entry, as the code meets them; n is what was read of the counts
 module _ (counts log : List ℕ) (key : Key) (mask : ℕ) {n : ℕ} (d : n ≡ entriesIn counts) where

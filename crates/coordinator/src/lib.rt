@@ -2,11 +2,9 @@
 ghost use mathlib.Core.Path.{_≡_};
 ghost use Prim.Native.Nat.{_≤_, _<_};
 ghost use lib.ListN.{length};
-ghost use Rattle.keys.specs.Keys.{keyWord};
-ghost use Rattle.tables.specs.Rows.{HasRow};
-ghost use Rattle.tables.specs.Layout.{entryWidth};
-ghost use Rattle.coordinator.specs.Log.{LogRoom, enterLeft, entered};
-ghost use Rattle.coordinator.specs.Latest.{latestKey, putKeys};
+ghost use Rattle.ranges.specs.Laid.{laid};
+ghost use Rattle.coordinator.specs.Log.{LogRoom, HasEntry, enterLeft, entered};
+ghost use Rattle.coordinator.specs.Latest.{entryAt, latestOf, latestWord, latestTagAt};
 use keys::Key;
 use tables::counts;
 use tables::log;
@@ -25,39 +23,52 @@ pub fn enter(counts: &mut [u32], log: &mut [u32], key: Key, mask: u32) -> bool
     true
 }
 
-// The key of the latest entry, at the tag or before it, whose mask has the server, as one number. The search back calls itself with a tag one smaller.
-// It hands on the reference to the log that it was lent, and answers a number: so the compiler makes the calls a loop.
-fn latest_word(log: &&[u32], server: usize, tag: usize) -> u32
-    requires { ⌜ (server < 16) × HasRow entryWidth (now (now log)) tag ⌝ }
-    ensures { λ r. ⌜ r ≡ keyWord (latestKey (now (now (log .entry))) server tag) ⌝ }
+// What the search back finds for a server: the key of the latest entry that wrote it, and the tag of that entry.
+pub struct Latest {
+    pub key: Key,
+    pub tag: u32,
+}
+
+// The latest entry, at the tag or before it, whose mask has the server: its tag, at which the log has its key. The search back calls itself with a
+// tag one smaller. It hands on the reference to the log that it was lent, and answers a number: so the compiler makes the calls a loop.
+pub fn search_back(log: &&[u32], server: usize, tag: usize) -> usize
+    requires { ⌜ (server < 16) × HasEntry (now (now log)) tag ⌝ }
+    ensures { λ r. ⌜ entryAt (now (now (log .entry))) r ≡ latestOf (now (now (log .entry))) server tag ⌝ }
 {
     let entries = *log;
     if tag == 0 {
-        return log::entry_key(entries, 0).word();
+        return 0;
     }
     if keys::has_server(log::entry_mask(entries, tag), server) {
-        return log::entry_key(entries, tag).word();
+        return tag;
     }
-    latest_word(log, server, tag - 1)
+    search_back(log, server, tag - 1)
 }
 
-// The key of the latest entry, at the tag or before it, whose mask has the server.
-pub fn latest_key(log: &[u32], server: usize, tag: usize) -> Key
-    requires { ⌜ (server < 16) × HasRow entryWidth (now log) tag ⌝ }
-    ensures { λ r. ⌜ r ≡ latestKey (now (log .entry)) server tag ⌝ }
+// The key and the tag of the latest entry, at the tag or before it, whose mask has the server.
+pub fn latest_entry(log: &[u32], server: usize, tag: usize) -> Latest
+    requires { ⌜ (server < 16) × HasEntry (now log) tag ⌝ }
+    ensures { λ r. ⌜ r ≡ latestOf (now (log .entry)) server tag ⌝ }
 {
-    Key::at_word(latest_word(&log, server, tag))
+    let found = search_back(&log, server, tag);
+    Latest {
+        key: log::entry_key(log, found),
+        tag: found as u32,
+    }
 }
 
-// The keys of the first servers at a tag, as words into the front of lent space.
-pub fn keys_at(log: &[u32], servers: usize, tag: usize, words: &mut [u32])
-    requires { ⌜ (servers ≤ 16) × (servers ≤ length (now words)) ⌝ }
-    requires { ⌜ HasRow entryWidth (now log) tag ⌝ }
-    ensures { λ _. ⌜ now (words .exit) ≡ putKeys (now (log .entry)) tag servers (now (words .entry)) ⌝ }
+// The keys of the first servers at a tag, as words, and the tags that they come from, into the fronts of lent spaces.
+pub fn latest_entries(log: &[u32], servers: usize, tag: usize, keys: &mut [u32], tags: &mut [u32])
+    requires { ⌜ (servers ≤ 16) × ((servers ≤ length (now keys)) × (servers ≤ length (now tags))) ⌝ }
+    requires { ⌜ HasEntry (now log) tag ⌝ }
+    ensures keys { λ _. ⌜ now (keys .exit) ≡ laid (latestWord (now (log .entry)) tag) servers (now (keys .entry)) ⌝ }
+    ensures tags { λ _. ⌜ now (tags .exit) ≡ laid (latestTagAt (now (log .entry)) tag) servers (now (tags .entry)) ⌝ }
 {
     let mut server = 0;
     while server < servers {
-        words[server] = latest_key(log, server, tag).word();
+        let latest = latest_entry(log, server, tag);
+        keys[server] = latest.key.word();
+        tags[server] = latest.tag;
         server += 1;
     }
 }

@@ -1,4 +1,4 @@
--- The entries beside a frame's fixed values: keys as numbers, and setpoints or masks; and their values in a frame, three for each entry.
+-- The entries beside a frame's fixed values: keys as numbers, and tags, setpoints or masks; their values in a frame, three for each entry.
 use Prim.Native.Nat.{ℕ, _+_, _*_, _/_, _%_}
 use mathlib.Core.List.{List, _++_}
 use mathlib.Core.Bool.{Bool, cond}
@@ -7,14 +7,14 @@ use lib.ListN.{getD}
 use Rattle.ranges.specs.Laid.{built}
 use Rattle.formats.specs.Table.{hasNumbers, entryPlace, ownerPlace, numberPlace, entryFields}
 
--- of entry i among a frame's values: its key as a number, as `keyWord` has it, and its setpoint or mask
+-- of entry i among a frame's values: its key as a number, as `keyWord` has it, and its tag, setpoint or mask
 abbrev pub keyIn : List ℕ → ℕ → ℕ
 keyIn vs i = getD vs (entryPlace + entryFields * i) 0 * 256 + getD vs (ownerPlace + entryFields * i) 0
 
 abbrev pub numberIn : List ℕ → ℕ → ℕ
 numberIn vs i = getD vs (numberPlace + entryFields * i) 0
 
--- value j of the entries: count, client, and setpoint or mask, or 0 where the kind's entries have none
+-- value j of the entries: count, client, and tag, setpoint or mask; or 0 where the kind's entries have none
 unfoldable pub entryValue : Bool → List ℕ → List ℕ → ℕ → ℕ
 entryValue numbered keys numbers j =
     cond (eqb (j % entryFields) 0) (getD keys (j / entryFields) 0 / 256)

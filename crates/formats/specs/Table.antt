@@ -61,8 +61,9 @@ keys = 13
 abbrev pub less : ℕ
 less = 14
 
--- How the table is laid out: these numbers stand here only. A row's places, from 0: the first field of the fixed body, the field that says how many
--- entries there are, an entry's first field, which is its key's count, its key's client, and its last, which is its setpoint or mask; and how many places a row has.
+-- How the table is laid out: these numbers stand here only. A row's places, from 0: the first field of the fixed body, the field that says
+-- how many entries there are, an entry's first field, which is its key's count, its key's client, and its last, which is its tag, setpoint
+-- or mask; and how many places a row has.
 abbrev pub bodyPlace : ℕ
 bodyPlace = 3
 
@@ -111,7 +112,7 @@ byKind =
     ∷ (coord ∷ 28 ∷ 0 ∷ [])
     ∷ (coord ∷ 8 ∷ 0 ∷ [])
     ∷ (coord ∷ 0 ∷ 0 ∷ [])
-    ∷ (coord ∷ 13 ∷ 12 ∷ [])
+    ∷ (coord ∷ 13 ∷ 20 ∷ [])
     ∷ (server ∷ 12 ∷ 0 ∷ [])
     ∷ (server ∷ 32 ∷ 0 ∷ [])
     ∷ (server ∷ 0 ∷ 0 ∷ [])
@@ -128,7 +129,7 @@ abbrev pub shapeOf : ℕ → Shape
 shapeOf kind = shape (getD byKind kind [])
 
 -- Beside the table, which fields make up those bits: of the fixed body tag, key's count and client, setpoint or mask, how many entries;
--- of an entry key's count and client, setpoint or mask. `row-right` proves that their bits are the table's.
+-- of an entry key's count and client, and tag, setpoint or mask. `row-right` proves that their bits are the table's.
 abbrev pub fields : ℕ → ℕ → ℕ → ℕ → ℕ → ℕ → ℕ → ℕ → List ℕ
 fields t c p x n c′ p′ x′ = t ∷ c ∷ p ∷ x ∷ n ∷ c′ ∷ p′ ∷ x′ ∷ []
 
@@ -143,7 +144,7 @@ bodies =
     ∷ fields none count1 own mask none none none none
     ∷ fields tag1 none none none none none none none
     ∷ bare
-    ∷ fields tag none none none keys count of none
+    ∷ fields tag none none none keys count of tag
     ∷ fields none count of none none none none none
     ∷ fields none none none value none none none none
     ∷ bare
@@ -213,6 +214,6 @@ entriesSaid vs = entriesIn (getD vs 0 0) (getD vs manyPlace 0)
 abbrev pub valuesFor : ℕ → ℕ
 valuesFor entries = fixedFields + entryFields * entries
 
--- an entry has a setpoint or a mask beside its key
+-- an entry has a number beside its key: its tag, setpoint or mask
 unfoldable pub hasNumbers : ℕ → Bool
 hasNumbers kind = not (eqb (sortAt kind numberPlace) none)

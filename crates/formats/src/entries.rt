@@ -1,4 +1,4 @@
-// The entries beside a frame's fixed values, in two lent slices: keys, as numbers, and setpoints or masks.
+// The entries beside a frame's fixed values, in two lent slices: keys, as numbers, and tags, setpoints or masks.
 // As values they are three for each entry: its key's count and client, and its number. In a frame they stand in columns.
 use crate::table::Column;
 use crate::table::ENTRY_FIELDS;
@@ -72,7 +72,7 @@ pub fn store_keys(bytes: &[u8], counts: Column, owners: Column, keys: &mut [u32]
     }
 }
 
-// Their setpoints or masks: what stands in a column.
+// Their tags, setpoints or masks: what stands in a column.
 pub fn store_column(bytes: &[u8], column: Column, numbers: &mut [u32], entries: usize)
     requires { ⌜ Near column × (entries ≤ mostEntries) × (entries ≤ length (now numbers)) ⌝ }
     ensures { λ _. ⌜ now (numbers .exit) ≡ laid (columnAt (now (bytes .entry)) column) entries (now (numbers .entry)) ⌝ }

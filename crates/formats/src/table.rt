@@ -39,7 +39,8 @@ const KEYS: u8 = 13; // how many keys
 const LESS: u8 = 14; // how many entries, less 1
 
 // How the table is laid out: these numbers stand here only. A row's places, from 0: the field that says how many entries there are,
-// an entry's first field, which is its key's count, its key's client, and its last, which is its setpoint or mask; and how many places a row has.
+// an entry's first field, which is its key's count, its key's client, and its last, which is its tag, setpoint or mask; and how many places
+// a row has.
 pub const MANY: usize = 7;
 
 pub const ENTRY: usize = 8;
@@ -72,7 +73,7 @@ const BY_KIND: [[u8; 3]; KINDS] = [
     [COORD, 28, 0], // 3 enter
     [COORD, 8, 0], // 4 entered
     [COORD, 0, 0], // 5 which keys
-    [COORD, 13, 12], // 6 keys
+    [COORD, 13, 20], // 6 keys
     [SERVER, 12, 0], // 7 get
     [SERVER, 32, 0], // 8 got
     [SERVER, 0, 0], // 9 get all
@@ -112,7 +113,7 @@ pub fn shape_of(kind: u32) -> Shape
 
 // What the fields of a frame of this kind hold, place by place: kind, client, and target, which is the table's. Then, beside the table,
 // which fields make up the bits that it gives: of the fixed body tag, key's count and client, setpoint or mask, how many entries; of each
-// entry key's count and client, setpoint or mask. Where there is no such kind, no field follows the header.
+// entry key's count and client, and tag, setpoint or mask. Where there is no such kind, no field follows the header.
 // It is a `match` since a constant array of so many rows would be built on the stack anew for each frame.
 pub fn row_of(kind: u32, target: u8) -> [u8; PLACES]
     requires { ⌜ target ≡ shapeOf kind .target ⌝ }
@@ -124,7 +125,7 @@ pub fn row_of(kind: u32, target: u8) -> [u8; PLACES]
         3 => [KIND, CLIENT, target, NO, COUNT1, OWN, MASK, NO, NO, NO, NO],
         4 => [KIND, CLIENT, target, TAG1, NO, NO, NO, NO, NO, NO, NO],
         5 => [KIND, CLIENT, target, NO, NO, NO, NO, NO, NO, NO, NO],
-        6 => [KIND, CLIENT, target, TAG, NO, NO, NO, KEYS, COUNT, OF, NO],
+        6 => [KIND, CLIENT, target, TAG, NO, NO, NO, KEYS, COUNT, OF, TAG],
         7 => [KIND, CLIENT, target, NO, COUNT, OF, NO, NO, NO, NO, NO],
         8 => [KIND, CLIENT, target, NO, NO, NO, VALUE, NO, NO, NO, NO],
         9 => [KIND, CLIENT, target, NO, NO, NO, NO, NO, NO, NO, NO],

@@ -1,6 +1,6 @@
 // Writes a frame of every kind, the longest of kinds 6, 10 and 12 among them, reads each back, and cuts each short at every byte.
 // A line for each kind: the kind, the frame's length, how many of its proper prefixes give 10, 1 where it is read and written
-// again as the same bytes, and the bytes themselves of a frame of up to 28.
+// again as the same bytes, and the bytes themselves of a frame of up to 44.
 use frames::Message;
 use frames::Reading;
 use frames::Written;
@@ -143,7 +143,7 @@ fn report(kind: u32, bytes: &[u8]) {
     io::print_decimal(STDOUT_FILENO, cut(bytes) as u64);
     io::write_all(STDOUT_FILENO, b" ");
     io::print_decimal(STDOUT_FILENO, again(bytes) as u64);
-    if bytes.len() <= 28 {
+    if bytes.len() <= 44 {
         io::write_all(STDOUT_FILENO, b" ");
         print_bytes(bytes);
     }

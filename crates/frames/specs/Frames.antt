@@ -17,7 +17,7 @@ use Rattle.ranges.specs.Laid.{laid}
 use Rattle.frames.specs.Messages.{entriesOf, messageOf}
 use Rattle.frames.specs.Entries.{kindOf, valuesOf}
 
--- as many places for keys as there are entries, and for numbers where the entries of the kind have them: those of kind 6 have none
+-- as many places for keys as there are entries, and for numbers where the kind has entries with a number beside the key: kinds 6, 10, 12
 abbrev pub enough : ℕ → ℕ → ℕ → ℕ → Bool
 enough kind entries keys numbers = leb entries keys && (not (hasNumbers kind) || leb entries numbers)
 

@@ -1,5 +1,6 @@
--- Document 01's starred cards of frames, one checked table; with two more that tell 10 from 11, and the longest frames.
+-- Document 01's starred cards of frames, one checked table; with two more that tell 10 from 11, a frame of kind 6, and the longest frames.
 use mathlib.Core.Path.{_≡_, refl}
+use mathlib.Core.Bool.{true, false}
 use mathlib.Core.List.{List, [], _∷_}
 use Prim.Native.Nat.{ℕ}
 use Rattle.fields.specs.Bits.{bitOf, withBit, bitAt, setBit, fieldAt, putField}
@@ -9,14 +10,14 @@ use Rattle.formats.specs.Table.{sortAt, bitsOf, leastOf, mostOf, shapeOf, entri
 use Rattle.formats.specs.Format.{fieldOf, within, leftAfter, placeAfter, nextOf, entries, fixed, format}
 use Rattle.keys.specs.Keys.{keyOf}
 use Rattle.frames.specs.declared.Message.{Message}
-use Rattle.frames.specs.declared.Message.the-variants.{Set}
+use Rattle.frames.specs.declared.Message.the-variants.{Set, Keys}
 use Rattle.frames.specs.declared.Reading.{Reading}
 use Rattle.frames.specs.declared.Reading.the-variants.{Read, Refused}
 use Rattle.ranges.specs.Laid.{built}
 use Rattle.frames.specs.Messages.{messageAt, messageOf}
 use Rattle.formats.specs.Entries.{entryValue}
 use Rattle.frames.specs.Entries.{valuesOf}
-use Rattle.frames.specs.Frames.{hasPlaces, frameOf, readingOf, found}
+use Rattle.frames.specs.Frames.{hasPlaces, writable, frameOf, readingOf, keysRead, numbersRead, found}
 
 -- kind 1, client 2, server 3, key (1, 2), 1800
 abbrev pub setMessage : Message
@@ -25,6 +26,14 @@ setMessage = Set 2 3 (keyOf 1 2) 1800
 -- its first seven bytes
 abbrev pub setFrame : List ℕ → List ℕ
 setFrame rest = 0x12 ∷ 0x18 ∷ 0x09 ∷ 0x00 ∷ 0x00 ∷ 0x03 ∷ 0x84 ∷ rest
+
+-- kind 6, client 2, the log's last tag 0; one entry: key (1, 2) with tag 255. The two tags are not tied to one another.
+abbrev pub keysMessage : Message
+keysMessage = Keys 2 0 1
+
+-- 0110 0010 10000 00000000 00001, then 00000001 0010 11111111, then two bits of padding
+abbrev pub keysFrame : List ℕ
+keysFrame = 0x62 ∷ 0x80 ∷ 0x00 ∷ 0x40 ∷ 0x4B ∷ 0xFC ∷ []
 
 -- read with no places for entries
 abbrev pub reads : List ℕ → Reading
@@ -39,13 +48,23 @@ pub record Cards : Type 0 where
   -- the count is a field of its own, and the first fault decides
   pub count-zero : reads (0x10 ∷ 0x00 ∷ 0x00 ∷ []) ≡ Refused 11
   pub cut-behind-count : reads (0x10 ∷ 0x00 ∷ 0x08 ∷ []) ≡ Refused 10
+  -- "an 8-bit tag after each key": it is the entry's number; it is read back, needs its place, and is not writable above 255
+  pub keys-written : frameOf keysMessage (258 ∷ []) (255 ∷ []) ≡ keysFrame
+  pub keys-back : readingOf (found keysFrame) (0 ∷ []) (0 ∷ []) ≡ Read keysMessage
+  pub key-stored : keysRead (found keysFrame) (0 ∷ []) (0 ∷ []) ≡ 258 ∷ []
+  pub tag-stored : numbersRead (found keysFrame) (0 ∷ []) (0 ∷ []) ≡ 255 ∷ []
+  pub no-place-for-tag : readingOf (found keysFrame) (0 ∷ []) [] ≡ Refused 12
+  pub tag-writable : writable keysMessage (258 ∷ []) (255 ∷ []) ≡ true
+  pub tag-too-great : writable keysMessage (258 ∷ []) (256 ∷ []) ≡ false
   -- the longest frames of kinds 6, 10 and 12
-  pub longest-keys : lengthBy (shapeOf 6) 16 ≡ 28
+  pub longest-keys : lengthBy (shapeOf 6) 16 ≡ 44
   pub longest-all : lengthBy (shapeOf 10) 256 ≡ 1411
   pub longest-log : lengthBy (shapeOf 12) 256 ≡ 899
 
 pub cards : Cards
-unfolding bitOf withBit bitAt setBit fieldAt putField ahead judged ended read good size lay frame sortAt bitsOf leastOf mostOf entriesIn hasNumbers lengthBy fieldOf within leftAfter placeAfter nextOf entries fixed format built messageAt messageOf entryValue valuesOf hasPlaces frameOf readingOf
+unfolding bitOf withBit bitAt setBit fieldAt putField ahead judged ended read good size lay frame sortAt bitsOf leastOf mostOf entriesIn
+    hasNumbers lengthBy fieldOf within leftAfter placeAfter nextOf entries fixed format built messageAt messageOf entryValue valuesOf
+    hasPlaces writable frameOf readingOf keysRead numbersRead
 cards =
     record {
       written = refl;
@@ -55,6 +74,13 @@ cards =
       no-bytes = refl;
       count-zero = refl;
       cut-behind-count = refl;
+      keys-written = refl;
+      keys-back = refl;
+      key-stored = refl;
+      tag-stored = refl;
+      no-place-for-tag = refl;
+      tag-writable = refl;
+      tag-too-great = refl;
       longest-keys = refl;
       longest-all = refl;
       longest-log = refl;

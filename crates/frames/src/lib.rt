@@ -1,5 +1,6 @@
 // Frames: the messages that cross the wire, from bytes and to bytes.
-// A message holds what is fixed; the entries of kinds 6, 10 and 12 stand beside it, in two lent slices: keys, as numbers, and setpoints or masks.
+// A message holds what is fixed; the entries of kinds 6, 10 and 12 stand beside it, in two lent slices: keys, as numbers, and the numbers
+// beside them: tags of kind 6, setpoints of kind 10, masks of kind 12.
 use formats::table::ENTRY_FIELDS;
 use formats::table::FIXED_FIELDS;
 use formats::table::MOST_ENTRIES;

@@ -18,7 +18,7 @@ use Rattle.coordinator.specs.Log.{enterLeft}
 use Rattle.rules.specs.Request.{storedBy, enteredBy}
 use Rattle.soundness.specs.Sound.{keyInRange}
 use Rattle.soundness.specs.Facts.{EntryFacts, WriteFacts, Sound}
-use Rattle.soundness.specs.Room.{server-fits, keys-row, next-entry}
+use Rattle.soundness.specs.Room.{few-servers, server-fits, keys-row, next-entry}
 use Rattle.keeping.specs.Frame.{Numbers, Grows, Kept, kept, client-kept, write-kept, read-kept}
 use Rattle.keeping.specs.Records.{tagged-word, tagged-other, tagged-here, tagged-open, open-kept}
 
@@ -91,7 +91,7 @@ module _ (q i : ℕ) (key : Key) (setpoint : ℕ) (t : Tables) (s : Sound t) (cl
         held = λ j h. by-equal j i (λ e. rw (e, one-more) (omega arith)) (λ d. rw (held-other j d) (s .server j h .held .most));
         key = λ j place h l m. new-key j place l m;
         entry = λ tag l m. let z : ⊥ = omega (arith, entries) in absurd z;
-        client = client-kept t after stored-numbers q (λ f l. refl) (λ j f l m. refl) (s .client q client);
+        client = client-kept t after stored-numbers q (few-servers t s) (λ f l. refl) (λ j f l m. refl) (s .client q client);
         counts = rw writes (s .counts);
         write = λ n h. write-kept t after stored-numbers n refl refl (rw entries (s .write n (rw writes at h) .tag)) (s .write n (rw writes at h));
         read = λ n h. read-kept t after stored-numbers n refl refl (rw entries (s .read n (rw reads at h) .tag)) (s .read n (rw reads at h));
@@ -176,7 +176,7 @@ module _ (q : ℕ) (key : Key) (mask : ℕ) (t : Tables) (s : Sound t) (client :
         held = λ j h. rw (held-alike j) (s .server j h .held .most);
         key = λ j place h l m. let z : ⊥ = omega (arith, held-alike j) in absurd z;
         entry = new-entry;
-        client = client-kept t longer entered-numbers q (λ f l. refl) (λ j f l m. refl) (s .client q client);
+        client = client-kept t longer entered-numbers q (few-servers t s) (λ f l. refl) (λ j f l m. refl) (s .client q client);
         counts = rw writes (s .counts);
         write = λ n h. entered-write n (rw writes at h);
         read = λ n h. read-kept t longer entered-numbers n refl refl (rw entry-more (omega (arith, s .read n (rw reads at h) .tag))) (s .read n (rw reads at h));

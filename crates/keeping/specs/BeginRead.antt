@@ -16,10 +16,10 @@ use Rattle.coordinator.specs.Latest.{latestKey}
 use Rattle.tables.specs.Rows.{HasRow}
 use Rattle.tables.specs.Layout.{writesField, readsField, clientWidth, clientWord, recordPlaces, recordWidth, clientOfRecord, countField, maskField, numberOfRecord, receivedField, recordField, setpointsField, stateField, tagField, tagOfRecord}
 use Rattle.tables.specs.Links.{targets, HasLinks, linkWidth, link-length}
-use Rattle.tables.specs.Tables.{Tables, methodOf, serversOf, clientsOf, stepOf, entriesOf, writesOf, readsOf, stateOf, countOf, maskOf, recordOf, receivedOf}
+use Rattle.tables.specs.Tables.{Tables, methodOf, serversOf, clientsOf, stepOf, entriesOf, writesOf, readsOf, stateOf, countOf, maskOf, recordOf, receivedOf, keptTagOf}
 use Rattle.tables.specs.declared.links.Content.{Content}
 use Rattle.rules.specs.Common.{askingKeys, askingSetpoints, askingAll, coordinator, request}
-use Rattle.rules.specs.Begin.{lastTag, sentGets, sendAsk, sentAsks, asking, begunReadWith, begunRead}
+use Rattle.rules.specs.Begin.{lastTag, sentGets, keptTags, sendAsk, sentAsks, asking, begunReadWith, begunRead}
 use Rattle.soundness.specs.Sound.{isWriting, isReading, uses}
 use Rattle.soundness.specs.Facts.{ClientFacts, ReadFacts, RecordsFacts, Sound}
 use Rattle.soundness.specs.Room.{few-servers, client-row, client-links, link-row, next-read}
@@ -29,15 +29,17 @@ use Rattle.keeping.specs.States.{masked-below, not-all, received-none, a
 use Rattle.keeping.specs.Frame.{Kept, write-kept, read-kept}
 use Rattle.keeping.specs.Moves.{Moves, moves-numbers, same-entries, moved-kept}
 use Rattle.keeping.specs.Records.{begun-word, begun-here, begun-places, records-begun, records-idle}
-use Rattle.keeping.specs.Rows.{put, Put, putAll, lastPut, inRow, under, put-read, put-before, put-elsewhere, put-length}
+use Rattle.keeping.specs.Rows.{put, Put, putAll, lastPut}
+use Rattle.keeping.specs.Asked.{Asked, asked-puts, asked-tags}
 use Rattle.keeping.specs.Rounds.{Sent, sent-client, idle-empty, sent-there, sent-not, sent-others, sent-length}
 use Rattle.keeping.specs.Gets.{gets-sent}
 use Rattle.keeping.specs.Begins.{begun-other, begun-more, begun-step, begun-length}
 
--- A begin of a READ, whatever links it leaves. It puts words into the row, below the setpoints, and no count.
-module _ (q mask : ℕ) (puts : List Put) (links′ : List ℕ) (t : Tables) (s : Sound t) (b : Beginnable q mask t) (few : readsOf t < recordPlaces) (low : under setpointsField puts ≡ true) (inside : inRow puts ≡ true) where
+-- A begin of a READ, whatever links it leaves. It puts words into the row, below the setpoints, and no count; by A it keeps tags too.
+module _ (q mask : ℕ) (puts : List Put) (clients′ links′ : List ℕ) (t : Tables) (s : Sound t) (b : Beginnable q mask t) (few : readsOf t < recordPlaces)
+    (asked : Asked q puts t clients′) where
   abbrev after : Tables
-  after = begunReadWith q mask (asking (putAll puts q (t .clients)) links′) t
+  after = begunReadWith q mask (asking clients′ links′) t
 
   more-reads : readsOf after ≡ readsOf t + 1
   more-reads = begun-more readsField (t .counts) (s .long .counts) (omega arith) (λ e. omega arith)
@@ -48,11 +50,10 @@ module _ (q mask : ℕ) (puts : List Put) (links′ : List ℕ) (t : Tables) (s 
   record-room : HasRow recordWidth (t .reads) (readsOf t)
   record-room = next-read t s few
 
-  word : (g : ℕ) → g < clientWidth → clientWord (after .clients) q g ≡ lastPut puts (clientWord (t .clients) q g) g
-  word g h = put-read q puts (t .clients) g (clientWord (t .clients) q g) (client-row t s q (b .client)) inside h refl
-
   none-received : (i : ℕ) → i < targets → receivedOf after q i ≡ 0
-  none-received i h = put-before q puts (t .clients) setpointsField (receivedField + i) low (omega arith) ∙ received-none t q i (not-all t q i (λ e. omega (arith, b .free))) (s .client q (b .client) .received i h)
+  none-received i h =
+      asked .beyond (receivedField + i) (omega arith) (omega arith)
+      ∙ received-none t q i (not-all t q i (λ e. omega (arith, b .free))) (s .client q (b .client) .received i h)
 
   -- the links of the others stay
   begun-moves : ((p i f : ℕ) → (p ≡ q → ⊥) → i < targets → f < linkWidth → linkWord links′ p i f ≡ linkWord (t .links) p i f) → length links′ ≡ length (t .links) → Moves q t after
@@ -62,11 +63,11 @@ module _ (q mask : ℕ) (puts : List Put) (links′ : List ℕ) (t : Tables) (s 
         keys = refl;
         values = refl;
         log = refl;
-        row = λ p f d h. put-elsewhere q puts (t .clients) p f inside h d;
+        row = asked .elsewhere;
         link = others;
         lengths = record {
           counts = begun-length readsField (t .counts) (s .long .counts) (omega arith) (λ z. omega arith);
-          clients = put-length q puts (t .clients);
+          clients = asked .long;
           links = long;
           keys = refl;
           values = refl;
@@ -75,6 +76,9 @@ module _ (q mask : ℕ) (puts : List Put) (links′ : List ℕ) (t : Tables) (s 
           reads = begun-places (t .reads) (readsOf t) q mask (stepOf t + 1);
         };
       }
+
+  tags-within : Moves q t after → (i : ℕ) → i < serversOf after → keptTagOf after q i < entriesOf after
+  tags-within m i h = rw (same-entries q t after m) (asked .tags i (rw (moves-numbers q t after m .servers) at h))
 
   module _ (m : Moves q t after) (reading : isReading (stateOf after q) ≡ true) (writes : isWriting (stateOf after q) ≡ false) (count : countOf after q ≡ countOf t q)
       (place : recordOf after q ≡ readsOf t) (c : ClientFacts after q) where
@@ -154,20 +158,26 @@ module _ (q mask : ℕ) (t : Tables) (s : Sound t) (b : Beginnable q mask t) (fe
     abbrev get : ℕ → Content
     get i = request (latestKey (t .log) i (lastTag t)) 0
 
+    abbrev rowA : List ℕ
+    rowA = keptTags q mask (t .log) (lastTag t) k (putAll putsA q (t .clients))
+
     abbrev afterA : Tables
-    afterA = begunReadWith q mask (asking (putAll putsA q (t .clients)) linksA) t
-
-    wordA : (g : ℕ) → g < clientWidth → clientWord (afterA .clients) q g ≡ lastPut putsA (clientWord (t .clients) q g) g
-    wordA = word q mask putsA linksA t s b few refl refl
-
-    movesA : Moves q t afterA
-    movesA =
-        begun-moves q mask putsA linksA t s b few refl refl
-        (λ p i f d h g. sent-others q k (hasServer mask) get (t .links) servers-few links-room f g p i d h)
-        (sent-length q k (hasServer mask) get (t .links) servers-few links-room)
+    afterA = begunReadWith q mask (asking rowA linksA) t
 
     last-within : lastTag t < entriesOf t
     last-within = omega (arith, s .scalars .entries .least)
+
+    row-askedA : Asked q putsA t rowA
+    row-askedA = asked-tags q putsA t (client-row t s q (b .client)) refl refl (c .kept) (few-servers t s) mask (lastTag t) last-within
+
+    wordA : (g : ℕ) → g < setpointsField → clientWord (afterA .clients) q g ≡ lastPut putsA (clientWord (t .clients) q g) g
+    wordA = row-askedA .word
+
+    movesA : Moves q t afterA
+    movesA =
+        begun-moves q mask putsA rowA linksA t s b few row-askedA
+        (λ p i f d h g. sent-others q k (hasServer mask) get (t .links) servers-few links-room f g p i d h)
+        (sent-length q k (hasServer mask) get (t .links) servers-few links-room)
 
     sentA : Sent afterA q
     sentA =
@@ -175,11 +185,12 @@ module _ (q mask : ℕ) (t : Tables) (s : Sound t) (b : Beginnable q mask t) (fe
         (allowed-by-A (methodOf t) q part reader)
         (rw (wordA countField (omega arith)) counted)
         (rw (wordA tagField (omega arith), same-entries q t afterA movesA) last-within)
-        (none-received q mask putsA linksA t s b few refl refl)
+        (tags-within q mask putsA rowA linksA t s b few row-askedA movesA)
+        (none-received q mask putsA rowA linksA t s b few row-askedA)
 
     keptA : Kept q t afterA
     keptA =
-        begun-kept q mask putsA linksA t s b few refl refl movesA (rw (wordA stateField (omega arith))) (rw (wordA stateField (omega arith))) (wordA countField (omega arith)) (wordA recordField (omega arith)) (sent-client afterA q sentA)
+        begun-kept q mask putsA rowA linksA t s b few row-askedA movesA (rw (wordA stateField (omega arith))) (rw (wordA stateField (omega arith))) (wordA countField (omega arith)) (wordA recordField (omega arith)) (sent-client afterA q sentA)
 
   -- "B: ask the head"
   module _ (part : methodOf t ≡ 2) where
@@ -189,15 +200,21 @@ module _ (q mask : ℕ) (t : Tables) (s : Sound t) (b : Beginnable q mask t) (fe
     abbrev linksB : List ℕ
     linksB = sendAsk q coordinator (t .links)
 
-    abbrev afterB : Tables
-    afterB = begunReadWith q mask (asking (putAll putsB q (t .clients)) linksB) t
+    abbrev rowB : List ℕ
+    rowB = putAll putsB q (t .clients)
 
-    wordB : (g : ℕ) → g < clientWidth → clientWord (afterB .clients) q g ≡ lastPut putsB (clientWord (t .clients) q g) g
-    wordB = word q mask putsB linksB t s b few refl refl
+    abbrev afterB : Tables
+    afterB = begunReadWith q mask (asking rowB linksB) t
+
+    row-askedB : Asked q putsB t rowB
+    row-askedB = asked-puts q putsB t (client-row t s q (b .client)) refl refl (c .kept)
+
+    wordB : (g : ℕ) → g < setpointsField → clientWord (afterB .clients) q g ≡ lastPut putsB (clientWord (t .clients) q g) g
+    wordB = row-askedB .word
 
     movesB : Moves q t afterB
     movesB =
-        begun-moves q mask putsB linksB t s b few refl refl
+        begun-moves q mask putsB rowB linksB t s b few row-askedB
         (λ p i f d h g. put-other (t .links) q coordinator ask p i f (omega arith) h (λ e. d (e .0)) g)
         (link-length (t .links) q coordinator ask)
 
@@ -212,16 +229,17 @@ module _ (q mask : ℕ) (t : Tables) (s : Sound t) (b : Beginnable q mask t) (fe
           count = rw (state, wordB countField (omega arith)) (record { least = omega arith; most = counted });
           mask = rw (masked, n .servers) (b .masked);
           tag = rw (wordB tagField (omega arith), same-entries q t afterB movesB) (c .tag);
+          kept = tags-within q mask putsB rowB linksB t s b few row-askedB movesB;
           some = (coordinator, omega arith, used coordinator);
           asked = λ i h u. let e = eqb-true i coordinator (sym (used i) ∙ u) in rw e (put-same (t .links) q coordinator ask 0 (link-row t s q (b .client) coordinator (omega arith)) (omega arith));
           good = λ i h u. rw state (request-keys afterB q _ _);
           rest = λ i h u. put-beside (t .links) q coordinator ask i 0 (eqb-false i coordinator (sym (used i) ∙ u)) (omega arith) ∙ empty i h;
-          received = none-received q mask putsB linksB t s b few refl refl;
+          received = none-received q mask putsB rowB linksB t s b few row-askedB;
         }
 
     keptB : Kept q t afterB
     keptB =
-        begun-kept q mask putsB linksB t s b few refl refl movesB (rw (wordB stateField (omega arith))) (rw (wordB stateField (omega arith))) (wordB countField (omega arith)) (wordB recordField (omega arith)) (sent-client afterB q sentB)
+        begun-kept q mask putsB rowB linksB t s b few row-askedB movesB (rw (wordB stateField (omega arith))) (rw (wordB stateField (omega arith))) (wordB countField (omega arith)) (wordB recordField (omega arith)) (sent-client afterB q sentB)
 
   -- "C: ask all masked stations and the head together"
   module _ (other : methodOf t ≡ 1 → ⊥) (another : methodOf t ≡ 2 → ⊥) where
@@ -234,18 +252,24 @@ module _ (q mask : ℕ) (t : Tables) (s : Sound t) (b : Beginnable q mask t) (fe
     abbrev linksC : List ℕ
     linksC = sendAsk q coordinator asks
 
-    abbrev afterC : Tables
-    afterC = begunReadWith q mask (asking (putAll putsC q (t .clients)) linksC) t
+    abbrev rowC : List ℕ
+    rowC = putAll putsC q (t .clients)
 
-    wordC : (g : ℕ) → g < clientWidth → clientWord (afterC .clients) q g ≡ lastPut putsC (clientWord (t .clients) q g) g
-    wordC = word q mask putsC linksC t s b few refl refl
+    abbrev afterC : Tables
+    afterC = begunReadWith q mask (asking rowC linksC) t
+
+    row-askedC : Asked q putsC t rowC
+    row-askedC = asked-puts q putsC t (client-row t s q (b .client)) refl refl (c .kept)
+
+    wordC : (g : ℕ) → g < setpointsField → clientWord (afterC .clients) q g ≡ lastPut putsC (clientWord (t .clients) q g) g
+    wordC = row-askedC .word
 
     asks-length : length asks ≡ length (t .links)
     asks-length = sent-length q k (hasServer mask) (λ j. ask) (t .links) servers-few links-room
 
     movesC : Moves q t afterC
     movesC =
-        begun-moves q mask putsC linksC t s b few refl refl
+        begun-moves q mask putsC rowC linksC t s b few row-askedC
         (λ p i f d h g. put-other asks q coordinator ask p i f (omega arith) h (λ e. d (e .0)) g ∙ sent-others q k (hasServer mask) (λ j. ask) (t .links) servers-few links-room f g p i d h)
         (link-length asks q coordinator ask ∙ asks-length)
 
@@ -275,16 +299,17 @@ module _ (q mask : ℕ) (t : Tables) (s : Sound t) (b : Beginnable q mask t) (fe
           count = rw (state, wordC countField (omega arith)) (record { least = omega arith; most = counted });
           mask = rw (masked, n .servers) (b .masked);
           tag = rw (wordC tagField (omega arith), same-entries q t afterC movesC) (c .tag);
+          kept = tags-within q mask putsC rowC linksC t s b few row-askedC movesC;
           some = (coordinator, omega arith, used coordinator ∙ or-true (hasServer mask coordinator));
           asked = λ i h u. askedC i (sym (used i) ∙ u);
           good = λ i h u. rw state (request-all afterC q _ _);
           rest = λ i h u. restC i h (sym (used i) ∙ u);
-          received = none-received q mask putsC linksC t s b few refl refl;
+          received = none-received q mask putsC rowC linksC t s b few row-askedC;
         }
 
     keptC : Kept q t afterC
     keptC =
-        begun-kept q mask putsC linksC t s b few refl refl movesC (rw (wordC stateField (omega arith))) (rw (wordC stateField (omega arith))) (wordC countField (omega arith)) (wordC recordField (omega arith)) (sent-client afterC q sentC)
+        begun-kept q mask putsC rowC linksC t s b few row-askedC movesC (rw (wordC stateField (omega arith))) (rw (wordC stateField (omega arith))) (wordC countField (omega arith)) (wordC recordField (omega arith)) (sent-client afterC q sentC)
 
   begun-read : (eqb (methodOf t) 1 && not (eqb q 0)) ≡ false → Kept q t (begunRead q mask t)
   unfolding begunRead

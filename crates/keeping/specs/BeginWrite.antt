@@ -12,7 +12,7 @@ use Rattle.ranges.specs.SumLaws.{sum-set, sum-part}
 use Rattle.keys.specs.Keys.{keyOf}
 use Rattle.keys.specs.Masks.{hasServer, some-server}
 use Rattle.tables.specs.Rows.{HasRow}
-use Rattle.tables.specs.Layout.{writesField, readsField, clientWidth, clientWord, recordPlaces, recordWidth, clientOfRecord, countField, maskField, numberOfRecord, receivedField, recordField, setpointsField, stateField, tagField, tagOfRecord}
+use Rattle.tables.specs.Layout.{writesField, readsField, clientWidth, clientWord, recordPlaces, recordWidth, clientOfRecord, countField, maskField, numberOfRecord, receivedField, recordField, setpointsField, stateField, tagField, tagOfRecord, tagsField}
 use Rattle.tables.specs.Links.{targets, HasLinks, linkWidth, contentWords}
 use Rattle.tables.specs.declared.links.Content.{Content}
 use Rattle.tables.specs.Tables.{Tables, tablesOf, methodOf, serversOf, clientsOf, stepOf, writesOf, readsOf, stateOf, countOf, maskOf, recordOf, receivedOf}
@@ -26,7 +26,7 @@ use Rattle.soundness.specs.Room.{few-servers, client-fits, client-row, client-l
 use Rattle.keeping.specs.Accepted.{Beginnable, Writable}
 use Rattle.keeping.specs.Links.{linkWord}
 use Rattle.keeping.specs.States.{masked-below, key-own, not-all, received-none, allowed-writing, uses-writing, request-writing}
-use Rattle.keeping.specs.Frame.{Kept, write-kept, read-kept}
+use Rattle.keeping.specs.Frame.{Kept, write-kept, read-kept, tags-stay}
 use Rattle.keeping.specs.Moves.{Moves, moves-numbers, same-entries, moved-kept}
 use Rattle.keeping.specs.Records.{begun-word, begun-here, begun-places, records-begun, records-idle}
 use Rattle.keeping.specs.Rows.{put, Put, putAll, lastPut, put-read, put-before, put-elsewhere, put-length}
@@ -174,6 +174,9 @@ module _ (q mask : ℕ) (setpoints : List ℕ) (t : Tables) (s : Sound t) (b : B
         count = rw (state, word countField (omega arith)) (record { least = omega arith; most = small });
         mask = rw (masked, n .servers) (b .masked);
         tag = rw (word tagField (omega arith), same-entries q t after begun-moves) (c .tag);
+        kept = tags-stay t after n q (few-servers t s)
+            (λ i h. spared q (tagsField + i) (omega arith) (λ y. omega (arith, y .2, setpoints-room))
+            ∙ put-before q puts (t .clients) setpointsField (tagsField + i) refl (omega arith)) (c .kept);
         some = let x = some-server mask (serversOf t) (b .masked) in (x .0, omega (arith, x .1, servers-few), has (x .0) ∙ x .2);
         asked = λ i h u. let e = sym (has i) ∙ u in sent i 0 (omega arith) (below i e) e;
         good = λ i h u.

@@ -1,6 +1,6 @@
 -- What a step of one client leaves to the others. A client's part of soundness mentions the rest only through numbers that grow
 -- (the log's entries, the versions held), so one law carries every other client over a step.
-use Prim.Native.Nat.{ℕ, _≤_, _<_}
+use Prim.Native.Nat.{ℕ, _+_, _≤_, _<_}
 use mathlib.Core.Path.{_≡_, refl, sym, _∙_}
 use mathlib.Core.Bool.{Bool, true, false, cond, _&&_, _||_}
 use native.Mathlib.Omega.{arith}
@@ -10,13 +10,13 @@ use borrow.Author.Tests.{eq-eqb, ne-eqb, ltb-true, ltb-false, lt-ltb}
 use Rattle.ranges.specs.Tests.{by-test, by-equal, both, both-left, both-right}
 use Rattle.ranges.specs.Sum.{sumBelow}
 use Rattle.tables.specs.Rows.{wordAt}
-use Rattle.tables.specs.Layout.{lastStep, clientWidth, clientWord, serverPlaces, logPlaces, recordPlaces, entryWidth, versionWord, recordWord, clientOfRecord, numberOfRecord, tagOfRecord, countField, maskField, stateField, tagField}
+use Rattle.tables.specs.Layout.{lastStep, clientWidth, clientWord, serverPlaces, logPlaces, recordPlaces, entryWidth, versionWord, recordWord, clientOfRecord, numberOfRecord, tagOfRecord, countField, maskField, stateField, tagField, tagsField}
 use Rattle.tables.specs.Links.{targets, linkWidth, isEmpty}
-use Rattle.tables.specs.Tables.{Tables, methodOf, serversOf, clientsOf, stepOf, entriesOf, writesOf, readsOf, heldOf, stateOf, countOf, maskOf, tagOf, receivedOf, contentAt}
+use Rattle.tables.specs.Tables.{Tables, methodOf, serversOf, clientsOf, stepOf, entriesOf, writesOf, readsOf, heldOf, stateOf, countOf, maskOf, tagOf, receivedOf, contentAt, keptTagOf}
 use Rattle.rules.specs.Common.{entering, askingKeys, askingAll, coordinator}
 use Rattle.soundness.specs.Sound.{between, uses, holding, keyInRange, requestSound, replySound, receivedSound}
 use Rattle.soundness.specs.Facts.{Between, between-facts, facts-between, Long, Press, ServerFacts, EntryFacts, LogFacts, LinkFacts, ClientFacts, WriteFacts, ReadFacts, RecordsFacts, Sound}
-use Rattle.soundness.specs.Room.{server-fits}
+use Rattle.soundness.specs.Room.{server-fits, few-servers}
 use Rattle.keeping.specs.Links.{linkWord, empty-same-words, pending-same, link-asks, asks-link}
 
 -- The press stays; the log and the servers' versions only grow in number.
@@ -69,10 +69,17 @@ module _ (t t′ : Tables) (n : Numbers t t′) where
         rw (state, mask, r, empty-same-words (t .links) (t′ .links) q i words)
         (received-more (eqb (stateOf t q) askingAll && (uses (stateOf t q) (maskOf t q) i && isEmpty (contentAt t q i))) (receivedOf t q i) (holding t i) (holding t′ i) (holding-more i h) e)
 
+  -- the tags that a client keeps, where their words stay
+  pub tags-stay : (q : ℕ) → serversOf t ≤ 16 → ((i : ℕ) → i < 16 → keptTagOf t′ q i ≡ keptTagOf t q i) →
+      ((i : ℕ) → i < serversOf t → keptTagOf t q i < entriesOf t) → (i : ℕ) → i < serversOf t′ → keptTagOf t′ q i < entriesOf t′
+  tags-stay q few same c i h =
+      let l : i < serversOf t = rw (n .servers) at h in
+      rw (same i (omega arith)) (omega (arith, c i l, n .entries))
+
   -- a client whose row and links stay
-  pub client-kept : (q : ℕ) → ((f : ℕ) → f < clientWidth → clientWord (t′ .clients) q f ≡ clientWord (t .clients) q f) →
+  pub client-kept : (q : ℕ) → serversOf t ≤ 16 → ((f : ℕ) → f < clientWidth → clientWord (t′ .clients) q f ≡ clientWord (t .clients) q f) →
       ((i f : ℕ) → i < targets → f < linkWidth → linkWord (t′ .links) q i f ≡ linkWord (t .links) q i f) → ClientFacts t q → ClientFacts t′ q
-  client-kept q row words c =
+  client-kept q few row words c =
       let state : stateOf t′ q ≡ stateOf t q = row stateField (omega arith) in
       let mask : maskOf t′ q ≡ maskOf t q = row maskField (omega arith) in
       let count : countOf t′ q ≡ countOf t q = row countField (omega arith) in
@@ -83,6 +90,7 @@ module _ (t t′ : Tables) (n : Numbers t t′) where
         mask = rw (n .servers, mask) (c .mask);
         masked = λ d. rw mask (c .masked (λ e. d (state ∙ e)));
         tag = omega (arith, c .tag, n .entries);
+        kept = tags-stay q few (λ i h. row (tagsField + i) (omega arith)) (c .kept);
         link = λ i h. link-kept q i h state mask (λ f g. words i f h g) (c .link i h);
         received = λ i h. received-kept q i h state mask (λ f g. words i f h g) (row _ (omega arith)) (c .received i h);
         busy = λ d. rw (pending-same (t .links) (t′ .links) q words) (c .busy (λ e. d (state ∙ e)));
@@ -189,7 +197,7 @@ module _ (q : ℕ) (t t′ : Tables) (s : Sound t) (g : Grows q t t′) where
         scalars = record { press = press-kept; step = r .step; entries = record { least = omega (arith, s .scalars .entries .least, g .numbers .entries); most = r .entries }; writes = r .writes; reads = r .reads };
         server = λ i h. server-kept r i (rw (g .numbers .servers) at h);
         log = log-kept r;
-        client = λ p h. by-equal p q (λ e. rw e (r .client)) (λ d. client-kept t t′ (g .numbers) p (λ f l. g .row p f d l) (λ i f l m. g .link p i f d l m) (s .client p (rw (g .numbers .clients) at h)));
+        client = λ p h. by-equal p q (λ e. rw e (r .client)) (λ d. client-kept t t′ (g .numbers) p (few-servers t s) (λ f l. g .row p f d l) (λ i f l m. g .link p i f d l m) (s .client p (rw (g .numbers .clients) at h)));
         counts = rw (g .numbers .clients) (r .counts);
         write = r .write;
         read = r .read;

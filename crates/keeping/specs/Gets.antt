@@ -12,7 +12,7 @@ use Rattle.coordinator.specs.LatestLaws.{latest-within}
 use Rattle.tables.specs.Rows.{wordAt}
 use Rattle.tables.specs.Layout.{entryWidth}
 use Rattle.tables.specs.Links.{targets, HasLinks, linkWidth}
-use Rattle.tables.specs.Tables.{Tables, methodOf, serversOf, clientsOf, entriesOf, stateOf, countOf, maskOf, tagOf, receivedOf}
+use Rattle.tables.specs.Tables.{Tables, methodOf, serversOf, clientsOf, entriesOf, stateOf, countOf, maskOf, tagOf, receivedOf, keptTagOf}
 use Rattle.tables.specs.declared.links.Content.{Content}
 use Rattle.rules.specs.Common.{askingSetpoints, request}
 use Rattle.rules.specs.Begin.{sentGets}
@@ -51,13 +51,15 @@ module _ (q mask tag : ℕ) (links : List ℕ) (t t′ : Tables) (s : Sound t) (
   got : (i f : ℕ) → f < linkWidth → hasServer mask i ≡ true → linkWord (t′ .links) q i f ≡ getD (1 ∷ keyWord (latestKey (t .log) i tag) ∷ 0 ∷ []) f 0
   got i f g e = ap (λ (xs : List ℕ). linkWord xs q i f) sends ∙ sent-there q (serversOf t) (hasServer mask) get links few long f g i (below i e) e
 
-  pub gets-sent : stateAllowed (methodOf t) q askingSetpoints ≡ true → countOf t′ q ≤ 255 → tagOf t′ q < entriesOf t′ → ((i : ℕ) → i < targets → receivedOf t′ q i ≡ 0) → Sent t′ q
-  gets-sent allowed count tagged received =
+  pub gets-sent : stateAllowed (methodOf t) q askingSetpoints ≡ true → countOf t′ q ≤ 255 → tagOf t′ q < entriesOf t′ →
+      ((i : ℕ) → i < serversOf t′ → keptTagOf t′ q i < entriesOf t′) → ((i : ℕ) → i < targets → receivedOf t′ q i ≡ 0) → Sent t′ q
+  gets-sent allowed count tagged kept received =
       record {
         allowed = rw (n .method, state) allowed;
         count = rw state (record { least = omega arith; most = count });
         mask = rw (mask′, n .servers) masked;
         tag = tagged;
+        kept = kept;
         some = let x = some-server mask (serversOf t) masked in (x .0, omega (arith, x .1, few), has (x .0) ∙ x .2);
         asked = λ i h u. got i 0 (omega arith) (sym (has i) ∙ u);
         good = λ i h u. rw (state, got i 1 (omega arith) (sym (has i) ∙ u), request-setpoints, n .clients) (latest-in-range t i tag s within);

@@ -3,6 +3,7 @@
 pub mod Accepted
 pub mod Links
 pub mod Rows
+pub mod Asked
 pub mod Records
 pub mod States
 pub mod Rounds

@@ -11,9 +11,9 @@ use Rattle.ranges.specs.Tests.{by-test, by-equal, both}
 use Rattle.ranges.specs.LastLaws.{last-below}
 use Rattle.keys.specs.Masks.{hasServer}
 use Rattle.tables.specs.Rows.{word-same}
-use Rattle.tables.specs.Layout.{clientWidth, clientWord, setpointsField, receivedField, countField, maskField, stateField, tagField}
+use Rattle.tables.specs.Layout.{clientWidth, clientWord, setpointsField, receivedField, countField, maskField, stateField, tagField, tagsField}
 use Rattle.tables.specs.Links.{targets, isEmpty, contentsOf}
-use Rattle.tables.specs.Tables.{Tables, serversOf, entriesOf, stateOf, maskOf, receivedOf, contentAt}
+use Rattle.tables.specs.Tables.{Tables, serversOf, entriesOf, stateOf, maskOf, receivedOf, contentAt, keptTagOf}
 use Rattle.tables.specs.declared.links.Contents.{Contents}
 use Rattle.rules.specs.Words.{every}
 use Rattle.rules.specs.WordsLaws.{kept-other, kept-there, kept-length}
@@ -25,7 +25,7 @@ use Rattle.soundness.specs.Facts.{Between}
 use Rattle.soundness.specs.Room.{few-servers}
 use Rattle.keeping.specs.Links.{kindOn, numberOn, kind-empty, none-pending}
 use Rattle.keeping.specs.States.{holding-log, arrived, received-some, some-received, uses-all, all-told}
-use Rattle.keeping.specs.Frame.{Kept}
+use Rattle.keeping.specs.Frame.{Kept, tags-stay}
 use Rattle.keeping.specs.Moves.{moves-numbers, same-entries, same-holding}
 use Rattle.keeping.specs.Rows.{put, Put, putAll, lastPut, put-read, put-before, put-skip, put-elsewhere, put-length}
 use Rattle.keeping.specs.Rounds.{idle-client}
@@ -63,6 +63,10 @@ module _ (q i : ℕ) (t : Tables) (a : Came q i t) (state : stateOf t q ≡ aski
   n-beside : (j : ℕ) → (j ≡ i → ⊥) → receivedIn row q j ≡ receivedOf t q j
   n-beside j e = put-skip q gotN (t .clients) (receivedField + j) (λ z. e (omega arith), tt)
 
+  -- the n received stand before the tags kept
+  n-tags : (j : ℕ) → j < 16 → clientWord row q (tagsField + j) ≡ keptTagOf t q j
+  n-tags j h = put-before q gotN (t .clients) tagsField (tagsField + j) (rw (lt-ltb (receivedField + i) tagsField (omega (arith, a .target)))) (omega arith)
+
   n-moving : Moving q row rest t
   n-moving = record { row = λ p f e h. put-elsewhere q gotN (t .clients) p f (rw n-inside) h e; link = elsewhere a; clients = put-length q gotN (t .clients); links = rest-long a }
 
@@ -75,7 +79,7 @@ module _ (q i : ℕ) (t : Tables) (a : Came q i t) (state : stateOf t q ≡ aski
       (eq-eqb (stateOf after q) askingAll (n-low stateField (omega arith) ∙ state))
       (both (uses (stateOf after q) (maskOf after q) i) (isEmpty (contentAt after q i)) (rw (n-low stateField (omega arith), n-low maskField (omega arith)) (used a)) (kind-empty rest q i (gone a))) in
       let held : holding after i ≡ holding t i = same-holding q t after m i in
-      waiting-kept a row n-moving (λ f h. n-low f (omega arith)) (λ j h e. n-beside j e) more
+      waiting-kept a row n-moving (λ f h. n-low f (omega arith)) n-tags (λ j h e. n-beside j e) more
       (some-received after q i here (rw (n-here, held) n-between))
 
   -- all replies are in: the number of log entries received is that of the coordinator's reply, now or before
@@ -159,6 +163,12 @@ module _ (q i : ℕ) (t : Tables) (a : Came q i t) (state : stateOf t q ≡ aski
         put-before q putsEnd forgot setpointsField (receivedField + j) refl (omega arith)
         ∙ kept-there receivedField every (λ x. 0) q targets (omega arith) shown j (rw shown-long (row-room a)) h refl
 
+    end-tags : (j : ℕ) → j < 16 → clientWord endRow q (tagsField + j) ≡ keptTagOf t q j
+    end-tags j h =
+        put-before q putsEnd forgot setpointsField (tagsField + j) refl (omega arith)
+        ∙ (forgot-other q (tagsField + j) (omega arith) (λ z. omega (arith, z .2))
+        ∙ (shown-other q (tagsField + j) (omega arith) (λ z. omega (arith, z .2, few-servers t (a .sound))) ∙ n-tags j h))
+
     all-ends : Kept q t (endedByC chosen row q rest t .tables)
     all-ends =
         let m = finished-moves q chosen endRow rest t (a .sound) (a .client) (a .early) end-moving (rw state) (rw state) chosen-within in
@@ -169,6 +179,7 @@ module _ (q i : ℕ) (t : Tables) (a : Came q i t) (state : stateOf t q ≡ aski
           count = rw count (facts a .count .most);
           mask = rw (end-word maskField (omega arith) ∙ low-word maskField (omega arith), moves-numbers q t _ m .servers) (facts a .mask);
           tag = rw (end-word tagField (omega arith), same-entries q t _ m) chosen-within;
+          kept = tags-stay t _ (moves-numbers q t _ m) q (few-servers t (a .sound)) end-tags (facts a .kept);
           link = λ j h. none-pending rest q j h (kinds a j h) none;
           received = end-received;
         }))

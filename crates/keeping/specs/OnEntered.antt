@@ -3,16 +3,17 @@ use Prim.Native.Nat.{ℕ, _+_, _<_}
 use mathlib.Core.Path.{_≡_, refl, _∙_}
 use mathlib.Core.List.{List, [], _∷_}
 use native.Mathlib.Omega.{arith}
-use Rattle.tables.specs.Layout.{clientWidth, clientWord, countField, maskField, receivedField, setpointsField, stateField, tagField}
+use Rattle.tables.specs.Layout.{clientWidth, clientWord, countField, maskField, receivedField, setpointsField, stateField, tagField, tagsField}
 use Rattle.tables.specs.Links.{contentsOf}
 use Rattle.tables.specs.Tables.{Tables, entriesOf, stateOf, maskOf}
 use Rattle.tables.specs.declared.links.Contents.{Contents}
 use Rattle.rules.specs.Common.{idle, entering, askingAll}
 use Rattle.rules.specs.Reply.{emptied, onEntered}
 use Rattle.soundness.specs.Sound.{keyOn}
+use Rattle.soundness.specs.Room.{few-servers}
 use Rattle.keeping.specs.Links.{numberOn}
 use Rattle.keeping.specs.States.{uses-entering, entered-tag}
-use Rattle.keeping.specs.Frame.{Kept}
+use Rattle.keeping.specs.Frame.{Kept, tags-stay}
 use Rattle.keeping.specs.Moves.{moves-numbers, same-entries}
 use Rattle.keeping.specs.Rows.{put, Put, putAll, lastPut, put-read, put-before, put-elsewhere, put-length}
 use Rattle.keeping.specs.Rounds.{idle-client}
@@ -55,6 +56,7 @@ module _ (q i : ℕ) (t : Tables) (a : Came q i t) (state : stateOf t q ≡ ente
         count = rw (entered-word countField (omega arith)) (facts a .count .most);
         mask = rw (entered-word maskField (omega arith), n .servers) (facts a .mask);
         tag = rw (entered-word tagField (omega arith), same-entries q t after m) tag-within;
+        kept = tags-stay t after n q (few-servers t (a .sound)) (λ j h. put-before q putsEntered (t .clients) setpointsField (tagsField + j) refl (omega arith)) (facts a .kept);
         link = none-beside a (λ j. rw state (uses-entering (maskOf t q) j));
         received = λ j h. put-before q putsEntered (t .clients) setpointsField (receivedField + j) refl (omega arith) ∙ received-zero a not-five j h;
       }))

@@ -5,13 +5,13 @@ use mathlib.Core.List.{List, [], _∷_}
 use native.Mathlib.Omega.{arith}
 use Rattle.keys.specs.Masks.{hasServer}
 use Rattle.coordinator.specs.Latest.{latestKey}
-use Rattle.tables.specs.Layout.{clientWidth, clientWord, countField, maskField, receivedField, recordField, setpointsField, stateField, tagField}
+use Rattle.tables.specs.Layout.{clientWord, countField, maskField, receivedField, recordField, setpointsField, stateField, tagField}
 use Rattle.tables.specs.Links.{targets, HasLinks, contentsOf}
 use Rattle.tables.specs.Tables.{Tables, methodOf, serversOf, entriesOf, stateOf, maskOf}
 use Rattle.tables.specs.declared.links.Contents.{Contents}
 use Rattle.tables.specs.declared.links.Content.{Content}
 use Rattle.rules.specs.Common.{askingKeys, askingSetpoints, request}
-use Rattle.rules.specs.Begin.{sentGets}
+use Rattle.rules.specs.Begin.{sentGets, keptTags}
 use Rattle.rules.specs.Reply.{emptied, onKeys}
 use Rattle.soundness.specs.Sound.{keyOn}
 use Rattle.soundness.specs.Room.{few-servers, client-links}
@@ -19,7 +19,8 @@ use Rattle.keeping.specs.Links.{numberOn}
 use Rattle.keeping.specs.States.{uses-keys, keys-target, holding-log, keys-told, allowed-setpoints}
 use Rattle.keeping.specs.Frame.{Kept}
 use Rattle.keeping.specs.Moves.{moves-numbers, same-entries}
-use Rattle.keeping.specs.Rows.{put, Put, putAll, lastPut, put-read, put-before, put-elsewhere, put-length}
+use Rattle.keeping.specs.Rows.{put, Put, putAll, lastPut}
+use Rattle.keeping.specs.Asked.{Asked, asked-tags}
 use Rattle.keeping.specs.Rounds.{sent-client, sent-others, sent-length}
 use Rattle.keeping.specs.Gets.{gets-sent}
 use Rattle.keeping.specs.Replied.{Moving, going-moves, going-kept}
@@ -41,6 +42,10 @@ module _ (q i : ℕ) (t : Tables) (a : Came q i t) (state : stateOf t q ≡ aski
   abbrev putsKeys : List Put
   putsKeys = put tagField lastKnown ∷ put stateField askingSetpoints ∷ []
 
+  -- the row as the words put and the tags kept leave it
+  abbrev row : List ℕ
+  row = keptTags q (maskOf t q) (t .log) lastKnown (serversOf t) (putAll putsKeys q (t .clients))
+
   abbrev get : ℕ → Content
   get j = request (latestKey (t .log) j lastKnown) 0
 
@@ -59,29 +64,33 @@ module _ (q i : ℕ) (t : Tables) (a : Came q i t) (state : stateOf t q ≡ aski
   few : serversOf t ≤ targets
   few = omega (arith, few-servers t (a .sound))
 
-  keys-moving : Moving q (putAll putsKeys q (t .clients)) gets t
+  row-asked : Asked q putsKeys t row
+  row-asked =
+      asked-tags q putsKeys t (row-room a) refl refl (facts a .kept) (few-servers t (a .sound)) (maskOf t q) lastKnown known-within
+
+  keys-moving : Moving q row gets t
   keys-moving =
       record {
-        row = λ p f e h. put-elsewhere q putsKeys (t .clients) p f refl h e;
+        row = row-asked .elsewhere;
         link = λ p j f e h g. sent-others q (serversOf t) (hasServer (maskOf t q)) get rest few rest-room f g p j e h ∙ elsewhere a p j f e h g;
-        clients = put-length q putsKeys (t .clients);
+        clients = row-asked .long;
         links = sent-length q (serversOf t) (hasServer (maskOf t q)) get rest few rest-room ∙ rest-long a;
       }
 
-  keys-word : (g : ℕ) → g < clientWidth → clientWord (putAll putsKeys q (t .clients)) q g ≡ lastPut putsKeys (clientWord (t .clients) q g) g
-  keys-word g h = put-read q putsKeys (t .clients) g (clientWord (t .clients) q g) (row-room a) refl h refl
+  keys-word : (g : ℕ) → g < setpointsField → clientWord row q g ≡ lastPut putsKeys (clientWord (t .clients) q g) g
+  keys-word = row-asked .word
 
   pub keys-delivered : Kept q t (onKeys w q i t .tables)
   unfolding onKeys
   keys-delivered =
-      let clients′ = putAll putsKeys q (t .clients) in
       let after = onKeys w q i t .tables in
-      let m = going-moves q clients′ gets t (a .sound) (a .client) (a .early) keys-moving in
+      let m = going-moves q row gets t (a .sound) (a .client) (a .early) keys-moving in
       let n = moves-numbers q t after m in
-      going-kept q clients′ gets t (a .sound) (a .client) (a .early) keys-moving (rw (keys-word stateField (omega arith), state)) (rw (keys-word stateField (omega arith), state)) (keys-word countField (omega arith)) (keys-word recordField (omega arith))
+      going-kept q row gets t (a .sound) (a .client) (a .early) keys-moving (rw (keys-word stateField (omega arith), state)) (rw (keys-word stateField (omega arith), state)) (keys-word countField (omega arith)) (keys-word recordField (omega arith))
       (sent-client after q
       (gets-sent q (maskOf t q) lastKnown rest t after (a .sound) n (a .client) known-within (busy a (λ e. omega (arith, state))) (none-beside a (λ j. rw state (uses-keys (maskOf t q) j))) rest-room refl (keys-word stateField (omega arith)) (keys-word maskField (omega arith))
       (allowed-setpoints (methodOf t) q (rw state at (facts a .allowed)))
       (rw (keys-word countField (omega arith)) (facts a .count .most))
       (rw (keys-word tagField (omega arith), same-entries q t after m) known-within)
-      (λ j h. put-before q putsKeys (t .clients) setpointsField (receivedField + j) refl (omega arith) ∙ received-zero a (λ e. omega (arith, state)) j h)))
+      (λ j h. rw (same-entries q t after m) (row-asked .tags j (rw (n .servers) at h)))
+      (λ j h. row-asked .beyond (receivedField + j) (omega arith) (omega arith) ∙ received-zero a (λ e. omega (arith, state)) j h)))

@@ -10,7 +10,7 @@ use borrow.Author.Tests.{eqb-true, eqb-false}
 use Rattle.ranges.specs.Tests.{by-test, both}
 use Rattle.keys.specs.Keys.{keyOf, keyWord}
 use Rattle.keys.specs.Masks.{maskWithin, within-test}
-use Rattle.tables.specs.Layout.{clientWidth, clientWord, countField, maskField, receivedField, recordField, setpointsField, stateField, tagField}
+use Rattle.tables.specs.Layout.{clientWidth, clientWord, countField, maskField, receivedField, recordField, setpointsField, stateField, tagField, tagsField}
 use Rattle.tables.specs.Links.{linkWidth, putLink, link-length, contentsOf}
 use Rattle.tables.specs.Tables.{Tables, methodOf, serversOf, clientsOf, stateOf, countOf, maskOf}
 use Rattle.tables.specs.declared.links.Contents.{Contents}
@@ -19,10 +19,10 @@ use Rattle.rules.specs.Common.{writing, entering, askingAll, coordinator, reque
 use Rattle.rules.specs.Reply.{emptied, onSetDone}
 use Rattle.soundness.specs.Sound.{uses, keyOn, ownKey}
 use Rattle.soundness.specs.Facts.{Between}
-use Rattle.soundness.specs.Room.{client-fits, link-row}
+use Rattle.soundness.specs.Room.{client-fits, link-row, few-servers}
 use Rattle.keeping.specs.Links.{linkWord, numberOn, none-pending, put-same, put-other, put-beside}
 use Rattle.keeping.specs.States.{key-own, none-received, not-all, uses-entering, request-entering, allowed-entering}
-use Rattle.keeping.specs.Frame.{Kept}
+use Rattle.keeping.specs.Frame.{Kept, tags-stay}
 use Rattle.keeping.specs.Moves.{Moves, moves-numbers, same-entries}
 use Rattle.keeping.specs.Rows.{put, Put, putAll, lastPut, put-read, put-before, put-elsewhere, put-length}
 use Rattle.keeping.specs.Rounds.{Sent, sent-client}
@@ -44,7 +44,7 @@ module _ (q i : ℕ) (t : Tables) (a : Came q i t) (state : stateOf t q ≡ writ
 
   set-waits : pending rest q ≡ true → Kept q t (repliedTables (t .clients) rest (t .writes) (t .reads) t)
   set-waits more =
-      waiting-kept a (t .clients) stays (λ f h. refl) (λ j h e. refl) more
+      waiting-kept a (t .clients) stays (λ f h. refl) (λ j h. refl) (λ j h e. refl) more
       (none-received (repliedTables (t .clients) rest (t .writes) (t .reads) t) q i (not-all (repliedTables (t .clients) rest (t .writes) (t .reads) t) q i not-five) (received-zero a not-five i (a .target)))
 
   -- "key and mask go to the head"
@@ -94,6 +94,7 @@ module _ (q i : ℕ) (t : Tables) (a : Came q i t) (state : stateOf t q ≡ writ
         count = rw (st, next-word countField (omega arith)) count;
         mask = rw (mask, n .servers) masked;
         tag = rw (next-word tagField (omega arith), same-entries q t next next-moves) (facts a .tag);
+        kept = tags-stay t next n q (few-servers t (a .sound)) (λ j h. put-before q putsNext (t .clients) setpointsField (tagsField + j) refl (omega arith)) (facts a .kept);
         some = (coordinator, omega arith, only coordinator);
         asked = λ j h u. rw (eqb-true j coordinator (sym (only j) ∙ u)) (enter-word 0 (omega arith));
         good = λ j h u.

@@ -14,7 +14,7 @@ use Rattle.ranges.specs.PickedLaws.{is-picked}
 use Rattle.ranges.specs.Words.{zeros}
 use Rattle.keys.specs.Masks.{Within}
 use Rattle.tables.specs.Rows.{wordAt, HasRow, word-same, word-other, word-length, row-same, row-length, sets-at, sets-behind}
-use Rattle.tables.specs.Layout.{countWords, clientWidth, clientWord, serverPlaces, versionWord, putVersionWord, heldField, entryWidth, entryMask, clientsField, countField, entriesField, maskField, methodField, readsField, receivedField, serversField, stateField, stepField, tagField, writesField}
+use Rattle.tables.specs.Layout.{countWords, clientWidth, clientWord, serverPlaces, versionWord, putVersionWord, heldField, entryWidth, entryMask, clientsField, countField, entriesField, maskField, methodField, readsField, receivedField, serversField, stateField, stepField, tagField, writesField, tagsField}
 use Rattle.tables.specs.Tables.{Tables, methodOf, serversOf, clientsOf, stepOf, entriesOf, writesOf, readsOf, heldOf, countOf}
 use Rattle.tables.specs.Links.{linkWidth, linkRow}
 use Rattle.rules.specs.Open.{cleared, holdOne, openedCounts, allServers, opened}
@@ -158,6 +158,7 @@ module _ (m k p : ℕ) (setpoints : List ℕ) (t : Tables) (press : Press m k p)
         count = rw (o .word q countField) (omega arith);
         mask = rw (o .word q maskField, o .servers) (omega (arith, two));
         tag = rw (o .word q tagField, o .entries) (omega arith);
+        kept = λ i h. rw (o .word q (tagsField + i), o .entries) (omega arith);
         link = λ i h. o .link q i 0;
         received = λ i h. o .word q (receivedField + i);
       })

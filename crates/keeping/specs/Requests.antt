@@ -22,13 +22,13 @@ use Rattle.tables.specs.declared.links.Contents.{Contents}
 use Rattle.tables.specs.declared.links.Content.{Content}
 use Rattle.tables.specs.declared.links.Content.the-variants.{Nothing, Request, Reply}
 use Rattle.soundness.specs.Facts.{facts-between, ClientFacts, LinkFacts, Sound}
-use Rattle.soundness.specs.Room.{link-row}
+use Rattle.soundness.specs.Room.{few-servers, link-row}
 use Rattle.keeping.specs.Accepted.{Deliverable, target-below, holding-some}
 use Rattle.keeping.specs.Links.{linkWord, kindOn, numberOn, kind-full, pending-at, LinkAsks, request-kind, request-words, put-same, put-other, link-asks, asks-link}
 use Rattle.keeping.specs.States.{received-none, none-received, not-empty, by-state, keys-target, masked-server, holding-log, own-key, own-in-range, uses-writing, request-writing, request-entering, reply-writing, reply-entering, reply-keys, reply-setpoints, reply-all}
 use Rattle.keeping.specs.Appends.{stored-step, stored-kept, entered-step, entry-more, entered-kept}
 use Rattle.keeping.specs.Moves.{Moves, Anew, moves-numbers, moved-kept, counted-other, counted-step, counted-length}
-use Rattle.keeping.specs.Frame.{Numbers, Kept, kept-same, kept-then, reply-kept, link-kept, received-kept, write-kept, read-kept}
+use Rattle.keeping.specs.Frame.{Numbers, Kept, kept-same, kept-then, reply-kept, link-kept, received-kept, write-kept, read-kept, tags-stay}
 
 -- The reply takes the request's place.
 module _ (q i number : ℕ) (t : Tables) (s : Sound t) (client : q < clientsOf t) (target : i < targets) (early : stepOf t < lastStep)
@@ -89,6 +89,7 @@ module _ (q i number : ℕ) (t : Tables) (s : Sound t) (client : q < clientsOf t
         mask = rw (same serversField (λ e. omega arith)) (c .mask);
         masked = c .masked;
         tag = rw (same entriesField (λ e. omega arith)) (c .tag);
+        kept = tags-stay t after answered-numbers q (few-servers t s) (λ i h. refl) (c .kept);
         link = λ j h. by-equal j i (λ e. rw e answered-link) (λ d. link-kept t after answered-numbers q j h refl refl (λ f l. other q j f (λ e. d (e .1)) h l) (c .link j h));
         received = λ j h. by-equal j i (λ e. rw e answered-received) (λ d. received-kept t after answered-numbers q j h refl refl (λ f l. other q j f (λ e. d (e .1)) h l) refl (c .received j h));
         busy = λ d. pending-at (after .links) q i target (answered-link .kind) answered-full;

@@ -11,7 +11,7 @@ use Rattle.ranges.specs.Picked.{picked}
 use Rattle.ranges.specs.PickedLaws.{is-picked, not-picked}
 use Rattle.keys.specs.Masks.{Within}
 use Rattle.tables.specs.Links.{targets, HasLinks, linkWidth, putLink, link-length, contentWords}
-use Rattle.tables.specs.Tables.{Tables, methodOf, serversOf, entriesOf, stateOf, countOf, maskOf, tagOf, receivedOf}
+use Rattle.tables.specs.Tables.{Tables, methodOf, serversOf, entriesOf, stateOf, countOf, maskOf, tagOf, receivedOf, keptTagOf}
 use Rattle.tables.specs.declared.links.Content.{Content}
 use Rattle.rules.specs.Common.{idle}
 use Rattle.soundness.specs.Sound.{uses, requestSound, keyOn, isWriting, stateAllowed}
@@ -39,6 +39,7 @@ pub record Idle (t : Tables) (q : ℕ) : Type 0 where
   pub count : countOf t q ≤ 255
   pub mask : maskOf t q < 2 ^ serversOf t
   pub tag : tagOf t q < entriesOf t
+  pub kept : (i : ℕ) → i < serversOf t → keptTagOf t q i < entriesOf t
   pub link : (i : ℕ) → i < targets → kindOn t q i ≡ 0
   pub received : (i : ℕ) → i < targets → receivedOf t q i ≡ 0
 
@@ -50,6 +51,7 @@ idle-client t q c =
       mask = c .mask;
       masked = λ d. absurd (d (c .state));
       tag = c .tag;
+      kept = c .kept;
       link = λ i h. link-empty t q i (c .link i h);
       received = λ i h. none-received t q i (not-all t q i (λ e. omega (arith, c .state))) (c .received i h);
       busy = λ d. absurd (d (c .state));
@@ -65,6 +67,7 @@ pub record Sent (t : Tables) (q : ℕ) : Type 0 where
   pub count : Between (cond (isWriting (stateOf t q)) 1 0) (countOf t q) 255
   pub mask : Within (maskOf t q) (serversOf t)
   pub tag : tagOf t q < entriesOf t
+  pub kept : (i : ℕ) → i < serversOf t → keptTagOf t q i < entriesOf t
   pub some : (i : ℕ) × (i < targets) × (uses (stateOf t q) (maskOf t q) i ≡ true)
   pub asked : (i : ℕ) → i < targets → uses (stateOf t q) (maskOf t q) i ≡ true → kindOn t q i ≡ 1
   pub good : (i : ℕ) → i < targets → uses (stateOf t q) (maskOf t q) i ≡ true → requestSound (stateOf t q) q (keyOn t q i) (numberOn t q i) t ≡ true
@@ -94,6 +97,7 @@ module _ (t : Tables) (q : ℕ) (c : Sent t q) where
         mask = c .mask .below;
         masked = λ d. c .mask .some;
         tag = c .tag;
+        kept = c .kept;
         link = sent-link;
         received = λ i h. none-received t q i (none-arrived i h) (c .received i h);
         busy = λ d. let x = c .some in pending-at (t .links) q (x .0) (x .1) (sent-link (x .0) (x .1) .kind) (λ e. omega (arith, c .asked (x .0) (x .1) (x .2)));

@@ -2,3 +2,4 @@
 pub mod Played
 pub mod PlayedLaws
 pub mod Playable
+pub mod PlayableLaws

@@ -64,20 +64,22 @@ pub record Played : Type 0 where
 abbrev pub showing : Shown → Tables → Played
 showing s t = record { shown = s; tables = t }
 
--- a word with no setpoints beside it
+-- a word with nothing shown beside it
 abbrev pub noted : Word → ℕ → Shown
-noted w mask = record { word = w; mask = mask; setpoints = replicate 16 0 }
+noted w mask = record { word = w; mask = mask; setpoints = replicate 16 0; tags = replicate 16 0 }
 
 abbrev pub plainly : Word → Shown
 plainly w = noted w 0
 
--- an opening, a begin and a delivered request show no setpoint
+-- an opening, a begin and a delivered request show nothing
 abbrev pub leftPlayed : Left → Played
 leftPlayed l = showing (plainly (answerWord (l .answer))) (l .tables)
 
 -- a delivered reply shows those of its client's mask
 abbrev pub arrivedPlayed : ℕ → Arrived → Played
-arrivedPlayed mask a = showing (record { word = arrivalWord (a .delivered .arrival); mask = mask; setpoints = a .delivered .setpoints }) (a .tables)
+arrivedPlayed mask a =
+    let d = a .delivered in
+    showing (record { word = arrivalWord (d .arrival); mask = mask; setpoints = d .setpoints; tags = d .tags }) (a .tables)
 
 -- the mask of a client, 0 where it has no row
 abbrev pub maskOrZero : List ℕ → ℕ → ℕ
@@ -98,7 +100,7 @@ playedLine line t = let n = stepOf line in played (n .step) (n .setpoints) t
 
 -- "It prints line number, from 1, and answer"
 abbrev pub shownText : ℕ → Shown → List ℕ
-shownText number s = answerText number (s .word) (s .mask) (s .setpoints)
+shownText number s = answerText number (s .word) (s .mask) (s .setpoints) (s .tags)
 
 -- A line is played: what is printed into the lent space from a place on, and the tables then
 pub record LinePlayed (number : ℕ) (line : List ℕ) (t : Tables) (out : List ℕ) (at next : ℕ) (left : List ℕ) (t′ : Tables) : Type 0 where

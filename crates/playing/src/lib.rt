@@ -20,11 +20,12 @@ use tables::clients::MASK;
 use tables::clients::WIDTH;
 use tables::counts::METHOD;
 
-// What is printed of a step: its word; for a READ the mask and the setpoints of the servers.
+// What is printed of a step: its word; for a READ the mask, and the setpoints of the servers with the tags that they come from.
 pub struct Shown {
     pub word: Word,
     pub mask: u32,
     pub setpoints: [u32; 16],
+    pub tags: [u32; 16],
 }
 
 // The word of an opening, a begin and a delivered request.
@@ -50,7 +51,7 @@ fn arrival_word(arrival: Arrival) -> Word
     }
 }
 
-// What is printed of a step that shows no setpoint.
+// What is printed of a step that shows nothing.
 fn noted(word: Word, mask: u32) -> Shown
     ensures { λ r. ⌜ r ≡ noted word mask ⌝ }
 {
@@ -58,6 +59,7 @@ fn noted(word: Word, mask: u32) -> Shown
         word: word,
         mask: mask,
         setpoints: [0; 16],
+        tags: [0; 16],
     }
 }
 
@@ -80,11 +82,13 @@ pub fn arrived(delivered: Delivered, mask: u32) -> Shown
     ensures { λ r. ⌜ ((t : Tables) → showing r t ≡ arrivedPlayed mask (arrived delivered t)) ⌝ }
 {
     let setpoints = delivered.setpoints;
+    let tags = delivered.tags;
     let arrival = delivered.arrival;
     Shown {
         word: arrival_word(arrival),
         mask: mask,
         setpoints: setpoints,
+        tags: tags,
     }
 }
 
@@ -346,8 +350,9 @@ fn print_shown(number: u64, shown: Shown, out: &mut [u8], at: usize) -> usize
     ensures { λ r. ⌜ Printed (now (out .entry)) at (shownText number shown) r (now (out .exit)) × (r ≤ at + answerMost) ⌝ }
 {
     let setpoints = shown.setpoints;
+    let tags = shown.tags;
     let word = shown.word;
-    printing::print_answer(number, word, shown.mask, &setpoints, out, at)
+    printing::print_answer(number, word, shown.mask, &setpoints, &tags, out, at)
 }
 
 // One line of a schedule: its step, and its answer behind what is printed so far. It answers where the print ends then.

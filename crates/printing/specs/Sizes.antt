@@ -1,21 +1,21 @@
 -- How many bytes the texts have at most: the space that a function asks for, and where it promises to end.
 use Prim.Native.Nat.{ℕ, _+_, _*_}
 
--- a space and a number of 32 bits, which has ten digits
-abbrev pub spacedMost : ℕ
-spacedMost = 1 + 10
+-- a byte and a number of 32 bits, which has ten digits
+abbrev pub markedMost : ℕ
+markedMost = 1 + 10
 
--- ` station=setpoint`: a station has two digits
-abbrev pub pairMost : ℕ
-pairMost = 1 + 2 + 1 + 10
+-- ` station=setpoint@tag`: a station has two digits
+abbrev pub serverMost : ℕ
+serverMost = 1 + 2 + markedMost + markedMost
 
 -- those of 16 stations
 abbrev pub shownMost : ℕ
-shownMost = 16 * pairMost
+shownMost = 16 * serverMost
 
--- the longest answer: ` read`, the tag, and a setpoint of each station
+-- the longest answer: ` read`, the tag, and what it shows of each station
 abbrev pub wordMost : ℕ
-wordMost = 5 + spacedMost + shownMost
+wordMost = 5 + markedMost + shownMost
 
 -- its line: a line's number, which has 20 digits, and byte 10 besides
 abbrev pub answerMost : ℕ
@@ -23,4 +23,4 @@ answerMost = 20 + wordMost + 1
 
 -- a line of the register: a letter, five numbers and byte 10
 abbrev pub recordMost : ℕ
-recordMost = 1 + 5 * spacedMost + 1
+recordMost = 1 + 5 * markedMost + 1

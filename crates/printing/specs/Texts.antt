@@ -1,4 +1,5 @@
--- "It prints line number, from 1, and answer (a READ's setpoints as `station=setpoint`, stations rising), `no` and the number when refused, then, at the end of the text, the register". Texts are lists of bytes.
+-- "It prints line number, from 1, and answer (a READ's setpoints as `station=setpoint`, stations rising), `no` and the number when refused, then,
+-- at the end of the text, the register"; document 02: "The yard prints `0=1800@1`". Texts are lists of bytes.
 use Prim.Native.Nat.{ℕ}
 use mathlib.Core.Bool.{cond}
 use mathlib.Core.List.{List, [], _∷_, _++_}
@@ -10,34 +11,37 @@ use Rattle.schedule.specs.Decimal.{decimal, spacedAll}
 use Rattle.printing.specs.declared.Word.{Word}
 use Rattle.printing.specs.declared.Word.the-variants.{Ok, Wait, Next, Write, Read, No}
 
--- a number behind one space
-abbrev pub spaced : ℕ → List ℕ
-spaced n = 32 ∷ decimal n
+-- a number behind a byte, and behind one space
+abbrev pub marked : ℕ → ℕ → List ℕ
+marked byte n = byte ∷ decimal n
 
--- ` station=setpoint`
-abbrev pub pairText : ℕ → ℕ → List ℕ
-pairText server setpoint = (spaced server ++ (61 ∷ [])) ++ decimal setpoint
+abbrev pub spaced : ℕ → List ℕ
+spaced n = marked 32 n
+
+-- ` station=setpoint@tag`
+abbrev pub serverText : ℕ → ℕ → ℕ → List ℕ
+serverText server setpoint tag = (spaced server ++ marked 61 setpoint) ++ marked 64 tag
 
 -- a server's, where the mask has it
-abbrev pub serverText : ℕ → List ℕ → ℕ → List ℕ
-serverText mask setpoints server = cond (hasServer mask server) (pairText server (getD setpoints server 0)) []
+abbrev pub maskedText : ℕ → List ℕ → List ℕ → ℕ → List ℕ
+maskedText mask setpoints tags server = cond (hasServer mask server) (serverText server (getD setpoints server 0) (getD tags server 0)) []
 
 -- those of the servers below n, rising
-abbrev pub serversBelow : ℕ → List ℕ → ℕ → List ℕ
-serversBelow mask setpoints n = turns (λ server text. text ++ serverText mask setpoints server) n []
+abbrev pub serversBelow : ℕ → List ℕ → List ℕ → ℕ → List ℕ
+serversBelow mask setpoints tags n = turns (λ server text. text ++ maskedText mask setpoints tags server) n []
 
--- ` ok`, ` wait`, ` next`, ` write TAG`, ` read TAG` with the setpoints of the mask's servers, ` no NUMBER`
-abbrev pub wordText : Word → ℕ → List ℕ → List ℕ
-wordText Ok mask setpoints = 32 ∷ 111 ∷ 107 ∷ []
-wordText Wait mask setpoints = 32 ∷ 119 ∷ 97 ∷ 105 ∷ 116 ∷ []
-wordText Next mask setpoints = 32 ∷ 110 ∷ 101 ∷ 120 ∷ 116 ∷ []
-wordText (Write tag) mask setpoints = (32 ∷ 119 ∷ 114 ∷ 105 ∷ 116 ∷ 101 ∷ []) ++ spaced tag
-wordText (Read tag) mask setpoints = ((32 ∷ 114 ∷ 101 ∷ 97 ∷ 100 ∷ []) ++ spaced tag) ++ serversBelow mask setpoints 16
-wordText (No number) mask setpoints = (32 ∷ 110 ∷ 111 ∷ []) ++ spaced number
+-- ` ok`, ` wait`, ` next`, ` write TAG`, ` read TAG` with setpoints and tags of the mask's servers, ` no NUMBER`
+abbrev pub wordText : Word → ℕ → List ℕ → List ℕ → List ℕ
+wordText Ok mask setpoints tags = 32 ∷ 111 ∷ 107 ∷ []
+wordText Wait mask setpoints tags = 32 ∷ 119 ∷ 97 ∷ 105 ∷ 116 ∷ []
+wordText Next mask setpoints tags = 32 ∷ 110 ∷ 101 ∷ 120 ∷ 116 ∷ []
+wordText (Write tag) mask setpoints tags = (32 ∷ 119 ∷ 114 ∷ 105 ∷ 116 ∷ 101 ∷ []) ++ spaced tag
+wordText (Read tag) mask setpoints tags = ((32 ∷ 114 ∷ 101 ∷ 97 ∷ 100 ∷ []) ++ spaced tag) ++ serversBelow mask setpoints tags 16
+wordText (No number) mask setpoints tags = (32 ∷ 110 ∷ 111 ∷ []) ++ spaced number
 
 -- the line that answers the line of a number
-abbrev pub answerText : ℕ → Word → ℕ → List ℕ → List ℕ
-answerText number word mask setpoints = (decimal number ++ wordText word mask setpoints) ++ (10 ∷ [])
+abbrev pub answerText : ℕ → Word → ℕ → List ℕ → List ℕ → List ℕ
+answerText number word mask setpoints tags = (decimal number ++ wordText word mask setpoints tags) ++ (10 ∷ [])
 
 -- the end step, `-` where there is none: an end of 0
 abbrev pub endText : ℕ → List ℕ

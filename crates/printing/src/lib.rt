@@ -3,16 +3,16 @@ ghost use Prim.Native.Nat.{_+_, _*_, _≤_, _<_};
 ghost use mathlib.Core.List.{[], _∷_, _++_};
 ghost use lib.ListN.{length};
 ghost use Rattle.schedule.specs.Decimal.{decimal, spacedAll};
-ghost use Rattle.printing.specs.Texts.{spaced, pairText, serverText, serversBelow, wordText, answerText, endText, writeText, readText};
+ghost use Rattle.printing.specs.Texts.{marked, spaced, serverText, maskedText, serversBelow, wordText, answerText, endText, writeText, readText};
 ghost use Rattle.printing.specs.Printed.{Printed};
-ghost use Rattle.printing.specs.Sizes.{spacedMost, pairMost, shownMost, wordMost, answerMost, recordMost};
+ghost use Rattle.printing.specs.Sizes.{markedMost, serverMost, shownMost, wordMost, answerMost, recordMost};
 
-// The longest answer in bytes, made as `Sizes` makes it: the line's number, ` read`, the tag, each station with its setpoint, and byte 10.
-const SPACED: usize = 1 + 10;
+// The longest answer in bytes, made as `Sizes` makes it: the line's number, ` read`, the tag, each station with its setpoint and tag, and byte 10.
+const MARKED: usize = 1 + 10;
 
-const PAIR: usize = 1 + 2 + 1 + 10;
+const SERVER: usize = 1 + 2 + MARKED + MARKED;
 
-pub const ANSWER: usize = 20 + (5 + SPACED + 16 * PAIR) + 1;
+pub const ANSWER: usize = 20 + (5 + MARKED + 16 * SERVER) + 1;
 
 // One byte.
 fn put_byte(byte: u8, out: &mut [u8], at: usize) -> usize
@@ -49,19 +49,27 @@ fn print_bytes(text: &[u8], out: &mut [u8], at: usize) -> usize
     next
 }
 
+// A number behind a byte.
+fn print_marked(byte: u8, number: u32, out: &mut [u8], at: usize) -> usize
+    requires { ⌜ at + markedMost ≤ length (now out) ⌝ }
+    ensures { λ r. ⌜ Printed (now (out .entry)) at (marked byte number) r (now (out .exit)) × (r ≤ at + markedMost) ⌝ }
+{
+    let next = put_byte(byte, out, at);
+    print_decimal(number as u64, out, next)
+}
+
 // A number behind one space.
 fn print_spaced(number: u32, out: &mut [u8], at: usize) -> usize
-    requires { ⌜ at + spacedMost ≤ length (now out) ⌝ }
-    ensures { λ r. ⌜ Printed (now (out .entry)) at (spaced number) r (now (out .exit)) × (r ≤ at + spacedMost) ⌝ }
+    requires { ⌜ at + markedMost ≤ length (now out) ⌝ }
+    ensures { λ r. ⌜ Printed (now (out .entry)) at (spaced number) r (now (out .exit)) × (r ≤ at + markedMost) ⌝ }
 {
-    let next = put_byte(b' ', out, at);
-    print_decimal(number as u64, out, next)
+    print_marked(b' ', number, out, at)
 }
 
 // Some numbers, each behind one space.
 fn print_numbers(numbers: &[u32], out: &mut [u8], at: usize) -> usize
-    requires { ⌜ at + spacedMost * length (now numbers) ≤ length (now out) ⌝ }
-    ensures { λ r. ⌜ Printed (now (out .entry)) at (spacedAll (now (numbers .entry))) r (now (out .exit)) × (r ≤ at + spacedMost * length (now (numbers .entry))) ⌝ }
+    requires { ⌜ at + markedMost * length (now numbers) ≤ length (now out) ⌝ }
+    ensures { λ r. ⌜ Printed (now (out .entry)) at (spacedAll (now (numbers .entry))) r (now (out .exit)) × (r ≤ at + markedMost * length (now (numbers .entry))) ⌝ }
 {
     let mut next = at;
     let mut i = 0;
@@ -72,36 +80,47 @@ fn print_numbers(numbers: &[u32], out: &mut [u8], at: usize) -> usize
     next
 }
 
-// A server with its setpoint.
-fn print_pair(server: u32, setpoint: u32, out: &mut [u8], at: usize) -> usize
-    requires { ⌜ (server < 16) × (at + pairMost ≤ length (now out)) ⌝ }
-    ensures { λ r. ⌜ Printed (now (out .entry)) at (pairText server setpoint) r (now (out .exit)) × (r ≤ at + pairMost) ⌝ }
+// A server with its setpoint and the tag that it comes from.
+fn print_server(server: u32, setpoint: u32, tag: u32, out: &mut [u8], at: usize) -> usize
+    requires { ⌜ (server < 16) × (at + serverMost ≤ length (now out)) ⌝ }
+    ensures { λ r. ⌜ Printed (now (out .entry)) at (serverText server setpoint tag) r (now (out .exit)) × (r ≤ at + serverMost) ⌝ }
 {
     let behind = print_spaced(server, out, at);
-    let next = put_byte(b'=', out, behind);
-    print_decimal(setpoint as u64, out, next)
+    let next = print_marked(b'=', setpoint, out, behind);
+    print_marked(b'@', tag, out, next)
 }
 
-// A server with its setpoint, where the mask has it.
-fn print_server(mask: u32, setpoints: &[u32], server: usize, out: &mut [u8], at: usize) -> usize
-    requires { ⌜ ((server < 16) × (server < length (now setpoints))) × (at + pairMost ≤ length (now out)) ⌝ }
-    ensures { λ r. ⌜ Printed (now (out .entry)) at (serverText mask (now (setpoints .entry)) server) r (now (out .exit)) × (r ≤ at + pairMost) ⌝ }
+// A server with its setpoint and tag, where the mask has it.
+fn print_masked(
+    mask: u32,
+    setpoints: &[u32],
+    tags: &[u32],
+    server: usize,
+    out: &mut [u8],
+    at: usize,
+) -> usize
+    requires { ⌜ (server < 16) × ((server < length (now setpoints)) × (server < length (now tags))) ⌝ }
+    requires { ⌜ at + serverMost ≤ length (now out) ⌝ }
+    ensures { λ r. ⌜ Printed (now (out .entry)) at (maskedText mask (now (setpoints .entry)) (now (tags .entry)) server) r (now (out .exit))
+        × (r ≤ at + serverMost) ⌝ }
 {
     if keys::has_server(mask, server) {
-        return print_pair(server as u32, setpoints[server], out, at);
+        return print_server(server as u32, setpoints[server], tags[server], out, at);
     }
     at
 }
 
-// The servers of a mask, rising, each with its setpoint.
-fn print_setpoints(mask: u32, setpoints: &[u32], out: &mut [u8], at: usize) -> usize
-    requires { ⌜ (16 ≤ length (now setpoints)) × (at + shownMost ≤ length (now out)) ⌝ }
-    ensures { λ r. ⌜ Printed (now (out .entry)) at (serversBelow mask (now (setpoints .entry)) 16) r (now (out .exit)) × (r ≤ at + shownMost) ⌝ }
+// The servers of a mask, rising, each with its setpoint and tag.
+fn print_servers(mask: u32, setpoints: &[u32], tags: &[u32], out: &mut [u8], at: usize) -> usize
+    requires { ⌜ (16 ≤ length (now setpoints)) × (16 ≤ length (now tags)) ⌝ }
+    requires { ⌜ at + shownMost ≤ length (now out) ⌝ }
+    ensures { λ r. ⌜ Printed (now (out .entry)) at (serversBelow mask (now (setpoints .entry)) (now (tags .entry)) 16) r (now (out .exit))
+        × (r ≤ at + shownMost) ⌝ }
 {
     let mut next = at;
     let mut server = 0;
     while server < 16 {
-        next = print_server(mask, setpoints, server, out, next);
+        next = print_masked(mask, setpoints, tags, server, out, next);
         server += 1;
     }
     next
@@ -109,20 +128,29 @@ fn print_setpoints(mask: u32, setpoints: &[u32], out: &mut [u8], at: usize) -> u
 
 // A word, and a tag or a number behind it.
 fn print_tagged(text: &[u8], tag: u32, out: &mut [u8], at: usize) -> usize
-    requires { ⌜ at + length (now text) + spacedMost ≤ length (now out) ⌝ }
-    ensures { λ r. ⌜ Printed (now (out .entry)) at (now (text .entry) ++ spaced tag) r (now (out .exit)) × (r ≤ at + length (now (text .entry)) + spacedMost) ⌝ }
+    requires { ⌜ at + length (now text) + markedMost ≤ length (now out) ⌝ }
+    ensures { λ r. ⌜ Printed (now (out .entry)) at (now (text .entry) ++ spaced tag) r (now (out .exit)) × (r ≤ at + length (now (text .entry)) + markedMost) ⌝ }
 {
     let next = print_bytes(text, out, at);
     print_spaced(tag, out, next)
 }
 
-// A READ's tag and its setpoints.
-fn print_read(tag: u32, mask: u32, setpoints: &[u32], out: &mut [u8], at: usize) -> usize
-    requires { ⌜ (16 ≤ length (now setpoints)) × (at + wordMost ≤ length (now out)) ⌝ }
-    ensures { λ r. ⌜ Printed (now (out .entry)) at (wordText (Word.Read tag) mask (now (setpoints .entry))) r (now (out .exit)) × (r ≤ at + wordMost) ⌝ }
+// A READ's tag, and what it shows.
+fn print_read(
+    tag: u32,
+    mask: u32,
+    setpoints: &[u32],
+    tags: &[u32],
+    out: &mut [u8],
+    at: usize,
+) -> usize
+    requires { ⌜ (16 ≤ length (now setpoints)) × (16 ≤ length (now tags)) ⌝ }
+    requires { ⌜ at + wordMost ≤ length (now out) ⌝ }
+    ensures { λ r. ⌜ Printed (now (out .entry)) at (wordText (Word.Read tag) mask (now (setpoints .entry)) (now (tags .entry))) r (now (out .exit))
+        × (r ≤ at + wordMost) ⌝ }
 {
     let next = print_tagged(b" read", tag, out, at);
-    print_setpoints(mask, setpoints, out, next)
+    print_servers(mask, setpoints, tags, out, next)
 }
 
 // What a step answers, in the words that are printed.
@@ -132,48 +160,60 @@ pub enum Word {
     Next,
     // with the tag
     Write(u32),
-    // with the tag; the setpoints stand beside it
+    // with the tag; setpoints and tags stand beside it
     Read(u32),
     // refused, with the number
     No(u32),
 }
 
 // The answer behind the line's number.
-fn print_word(word: Word, mask: u32, setpoints: &[u32], out: &mut [u8], at: usize) -> usize
-    requires { ⌜ (16 ≤ length (now setpoints)) × (at + wordMost ≤ length (now out)) ⌝ }
-    ensures { λ r. ⌜ Printed (now (out .entry)) at (wordText word mask (now (setpoints .entry))) r (now (out .exit)) × (r ≤ at + wordMost) ⌝ }
+fn print_word(
+    word: Word,
+    mask: u32,
+    setpoints: &[u32],
+    tags: &[u32],
+    out: &mut [u8],
+    at: usize,
+) -> usize
+    requires { ⌜ (16 ≤ length (now setpoints)) × (16 ≤ length (now tags)) ⌝ }
+    requires { ⌜ at + wordMost ≤ length (now out) ⌝ }
+    ensures { λ r. ⌜ Printed (now (out .entry)) at (wordText word mask (now (setpoints .entry)) (now (tags .entry))) r (now (out .exit))
+        × (r ≤ at + wordMost) ⌝ }
 {
     match word {
         Word::Ok => print_bytes(b" ok", out, at),
         Word::Wait => print_bytes(b" wait", out, at),
         Word::Next => print_bytes(b" next", out, at),
         Word::Write(tag) => print_tagged(b" write", tag, out, at),
-        Word::Read(tag) => print_read(tag, mask, setpoints, out, at),
+        Word::Read(tag) => print_read(tag, mask, setpoints, tags, out, at),
         Word::No(number) => print_tagged(b" no", number, out, at),
     }
 }
 
-// The line that answers the line of a number. The mask and the setpoints count for a READ alone.
+// The line that answers the line of a number. Mask, setpoints and tags count for a READ alone.
 pub fn print_answer(
     number: u64,
     word: Word,
     mask: u32,
     setpoints: &[u32],
+    tags: &[u32],
     out: &mut [u8],
     at: usize,
 ) -> usize
-    requires { ⌜ (16 ≤ length (now setpoints)) × (at + answerMost ≤ length (now out)) ⌝ }
-    ensures { λ r. ⌜ Printed (now (out .entry)) at (answerText number word mask (now (setpoints .entry))) r (now (out .exit)) × (r ≤ at + answerMost) ⌝ }
+    requires { ⌜ (16 ≤ length (now setpoints)) × (16 ≤ length (now tags)) ⌝ }
+    requires { ⌜ at + answerMost ≤ length (now out) ⌝ }
+    ensures { λ r. ⌜ Printed (now (out .entry)) at (answerText number word mask (now (setpoints .entry)) (now (tags .entry))) r (now (out .exit))
+        × (r ≤ at + answerMost) ⌝ }
 {
     let behind = print_decimal(number, out, at);
-    let next = print_word(word, mask, setpoints, out, behind);
+    let next = print_word(word, mask, setpoints, tags, out, behind);
     put_byte(b'\n', out, next)
 }
 
 // The end step of a WRITE.
 fn print_end_step(end: u32, out: &mut [u8], at: usize) -> usize
-    requires { ⌜ at + spacedMost ≤ length (now out) ⌝ }
-    ensures { λ r. ⌜ Printed (now (out .entry)) at (endText end) r (now (out .exit)) × (r ≤ at + spacedMost) ⌝ }
+    requires { ⌜ at + markedMost ≤ length (now out) ⌝ }
+    ensures { λ r. ⌜ Printed (now (out .entry)) at (endText end) r (now (out .exit)) × (r ≤ at + markedMost) ⌝ }
 {
     if end == 0 {
         return print_bytes(b" -", out, at);
@@ -183,8 +223,8 @@ fn print_end_step(end: u32, out: &mut [u8], at: usize) -> usize
 
 // A byte, and some numbers behind it.
 fn print_lettered(byte: u8, numbers: &[u32], out: &mut [u8], at: usize) -> usize
-    requires { ⌜ at + 1 + spacedMost * length (now numbers) ≤ length (now out) ⌝ }
-    ensures { λ r. ⌜ Printed (now (out .entry)) at ((byte ∷ []) ++ spacedAll (now (numbers .entry))) r (now (out .exit)) × (r ≤ at + 1 + spacedMost * length (now (numbers .entry))) ⌝ }
+    requires { ⌜ at + 1 + markedMost * length (now numbers) ≤ length (now out) ⌝ }
+    ensures { λ r. ⌜ Printed (now (out .entry)) at ((byte ∷ []) ++ spacedAll (now (numbers .entry))) r (now (out .exit)) × (r ≤ at + 1 + markedMost * length (now (numbers .entry))) ⌝ }
 {
     let next = put_byte(byte, out, at);
     print_numbers(numbers, out, next)

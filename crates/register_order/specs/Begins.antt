@@ -1,5 +1,5 @@
 -- Begins keep the tie: the record stands in the next place, and the step's number is the transaction's begin.
-use Prim.Native.Nat.{ℕ, suc, _+_, _<_}
+use Prim.Native.Nat.{ℕ, suc, _+_, _≤_, _<_}
 use mathlib.Core.Path.{_≡_, refl, _∙_, subst}
 use mathlib.Core.Bool.{true}
 use mathlib.Core.List.{List, [], _∷_}
@@ -8,13 +8,16 @@ use native.Mathlib.Numerals.{add-one}
 use lib.ListN.{getD}
 use lib.Dec.{eqb}
 use Rattle.ranges.specs.Tests.{either}
-use Rattle.tables.specs.Layout.{clientWidth, clientWord, stateField, countField, maskField, tagField, recordField, setpointsField, entriesField, writesField, readsField, putBegun}
+use Rattle.keys.specs.Masks.{hasServer}
+use Rattle.coordinator.specs.Latest.{latestTagAt}
+use Rattle.tables.specs.Layout.{clientWidth, clientWord, stateField, countField, maskField, tagField, recordField, setpointsField}
+use Rattle.tables.specs.Layout.{tagsField, entriesField, writesField, readsField, putBegun}
 use Rattle.tables.specs.Tables.{Tables, methodOf, serversOf, clientsOf, stepOf, entriesOf, writesOf, readsOf}
 use Rattle.rules.specs.Words.{every}
 use Rattle.rules.specs.WordsLaws.{kept-other}
 use Rattle.rules.specs.Common.{askingKeys, askingSetpoints, askingAll}
 use Rattle.rules.specs.Common as rules
-use Rattle.rules.specs.Begin.{nextCount, begunWrite, Asking, askingBy, lastTag, begunRead}
+use Rattle.rules.specs.Begin.{nextCount, begunWrite, keptTags, Asking, askingByA, askingBy, lastTag, begunRead}
 use Rattle.soundness.specs.Sound.{isReading}
 use Rattle.soundness.specs.Room.{few-servers, client-row}
 use Rattle.rules.specs.declared.Answer.the-variants.{Ok}
@@ -34,6 +37,14 @@ module _ (t : Tables) (h : History) (numbers : List ℕ) (a : Agrees t h numbers
   -- the rules' step + 1 is the count's next
   pub as-next : (t′ : Tables) (h′ : History) → Agrees t′ h′ (more numbers (stepOf t + 1)) → Agrees t′ h′ (more numbers (suc (stepOf t)))
   as-next t′ h′ b = subst (λ (n : ℕ). Agrees t′ h′ (more numbers n)) (add-one (stepOf t)) b
+
+  -- the tags that a client keeps stand behind its state and the place of its record
+  pub tags-behind : (q mask tag : ℕ) (clients : List ℕ) (f : ℕ) → f < tagsField →
+      clientWord (keptTags q mask (t .log) tag (serversOf t) clients) q f ≡ clientWord clients q f
+  tags-behind q mask tag clients f l =
+      let room : tagsField + serversOf t ≤ clientWidth = omega (arith, few-servers t (a .sound)) in
+      kept-other tagsField (hasServer mask) (latestTagAt (t .log) tag) q (serversOf t) room clients q f
+      (omega arith) (λ e. omega (arith, e .1))
 
   module _ (q mask : ℕ) (setpoints : List ℕ) (b : Writable q mask setpoints t) where
     abbrev puts : List Put
@@ -98,6 +109,9 @@ module _ (t : Tables) (h : History) (numbers : List ℕ) (a : Agrees t h numbers
     asked : (puts : List Put) → inRow puts ≡ true → (f : ℕ) → f < clientWidth → clientWord (putAll puts q (t .clients)) q f ≡ lastPut puts (clientWord (t .clients) q f) f
     asked puts inside f l = put-read q puts (t .clients) f _ (client-row t (a .sound) q reader) inside l refl
 
+    askedA : (f : ℕ) → f < tagsField → clientWord (askingByA q mask t .clients) q f ≡ lastPut readPutsA (clientWord (t .clients) q f) f
+    askedA f l = tags-behind q mask (lastTag t) (putAll readPutsA q (t .clients)) f l ∙ asked readPutsA refl f (omega arith)
+
     -- whatever the method, the client reads and knows the place of its record
     abbrev Asks : Asking → Type 0
     Asks x = (isReading (clientWord (x .clients) q stateField) ≡ true) × (clientWord (x .clients) q recordField ≡ readsOf t)
@@ -105,7 +119,7 @@ module _ (t : Tables) (h : History) (numbers : List ℕ) (a : Agrees t h numbers
     asks : Asks (askingBy (methodOf t) q mask t)
     asks =
         either Asks (eqb (methodOf t) 1)
-        (rw (asked readPutsA refl stateField (omega arith)) refl, asked readPutsA refl recordField (omega arith))
+        (rw (askedA stateField (omega arith)) refl, askedA recordField (omega arith))
         (either Asks (eqb (methodOf t) 2)
         (rw (asked (readPuts askingKeys) refl stateField (omega arith)) refl, asked (readPuts askingKeys) refl recordField (omega arith))
         (rw (asked (readPuts askingAll) refl stateField (omega arith)) refl, asked (readPuts askingAll) refl recordField (omega arith)))

@@ -214,7 +214,7 @@ module _ (t t′ : Tables) (h : History) (numbers : List ℕ) (a : Agrees t h nu
     tag-beside f g d = rw tags (tagged-word (t .writes) own-place (entriesOf t) own-place f g d)
 
     abbrev new : Transaction
-    new = writeOf q (u .mask) (valueWritten (u .setpoints)) (suc (h .tags)) (u .begin) none
+    new = writeOf q (u .mask) (valueWritten (suc (h .tags)) (u .setpoints)) (suc (h .tags)) (u .begin) none
 
     new-tells : Tells numbers′ new (ofRecord true 0 (t′ .writes) own-place)
     new-tells = record {

@@ -18,8 +18,9 @@ use Rattle.rules.specs.declared.Arrival.the-variants.{Wait, Next, Write, Refuse
 use Rattle.rules.specs.Answers.{Arrived, nothingShown}
 use Rattle.rules.specs.Common.{idle, entering, askingKeys, askingSetpoints, askingAll, coordinator, request, pending}
 use Rattle.rules.specs.Common as rules
-use Rattle.rules.specs.Begin.{sentGets}
-use Rattle.rules.specs.Reply.{said, moved, emptied, readShown, endedRead, onSetDone, onEntered, onKeys, gotSetpoint, onGot, gotNumber, tagChosen, concluded, endedByC, onAll, onReplyIn, onReply, replyDelivered}
+use Rattle.rules.specs.Begin.{sentGets, keptTags}
+use Rattle.rules.specs.Reply.{said, moved, emptied, readShown, endedRead, shownTags, onSetDone, onEntered, onKeys, gotSetpoint, onGot}
+use Rattle.rules.specs.Reply.{gotNumber, tagChosen, concluded, chosenTags, endedByC, onAll, onReplyIn, onReply, replyDelivered}
 use Rattle.soundness.specs.Sound.{isReading, keyOn}
 use Rattle.soundness.specs.Room.{client-row, link-row}
 use Rattle.keeping.specs.Accepted.{Deliverable, target-below}
@@ -35,7 +36,7 @@ use Rattle.register_order.specs.Agreement.{Untagged, Reading, Activity, 
 use Rattle.register_order.specs.Machines.{Follows}
 use Rattle.register_order.specs.Grown.{more, be-storing, be-asking, be-reading, untagged-on, reading-on}
 use Rattle.register_order.specs.Laws.{Counts, passed-agrees, quiet-passed, quiet-turned, write-ends, read-ends}
-use Rattle.register_order.specs.Begins.{as-next}
+use Rattle.register_order.specs.Begins.{as-next, tags-behind}
 
 module _ (t : Tables) (h : History) (numbers : List ℕ) (a : Agrees t h numbers) (q i : ℕ) where
   abbrev pub AnswersReply : Arrived → Type 0
@@ -98,20 +99,21 @@ module _ (t : Tables) (h : History) (numbers : List ℕ) (a : Agrees t h numbers
       read-asks = record { agrees = as-next t h numbers a going (after (replied q i (nothingShown Next)) h) (rw (x .is) goes); step = next-step going refl }
 
     -- a READ ends
-    module _ (tag : ℕ) (clients links : List ℕ) (reads : isReading (stateOf t q) ≡ true) (k : Kept q t (endedRead q tag clients links t .tables)) where
+    module _ (tag : ℕ) (tags clients links : List ℕ) (reads : isReading (stateOf t q) ≡ true)
+        (k : Kept q t (endedRead q tag tags clients links t .tables)) where
       abbrev over : Tables
-      over = endedRead q tag clients links t .tables
+      over = endedRead q tag tags clients links t .tables
 
       over-idle : stateOf over q ≡ idle
       over-idle =
           word-same clientWidth clients q stateField idle (omega (arith, word-length clientWidth clients q stateField idle, k .grows .lengths .clients, row-has)) (omega arith)
 
-      read-over : AnswersReply (endedRead q tag clients links t)
+      read-over : AnswersReply (endedRead q tag tags clients links t)
       read-over =
           let x = activity .reading reads in
-          let shown = readShown tag clients q (maskOf t q) in
+          let shown = readShown tag tags clients q (maskOf t q) in
           let b = read-ends t over h numbers a q client k reads x tag shown refl refl (counts over refl) over-idle in
-          record { agrees = as-next t h numbers a over (after (replied q i (readShown tag clients q (maskOf t q))) h) (rw (x .is) b); step = next-step over refl }
+          record { agrees = as-next t h numbers a over (after (replied q i shown) h) (rw (x .is) b); step = next-step over refl }
 
     abbrev rest : List ℕ
     rest = emptied q i t
@@ -175,11 +177,18 @@ module _ (t : Tables) (h : History) (numbers : List ℕ) (a : Agrees t h numbers
     keys-answers : stateOf t q ≡ askingKeys → Kept q t (onKeys w q i t .tables) → AnswersReply (onKeys w q i t)
     unfolding onKeys
     keys-answers state k =
-        let row = putClientWord (t .clients) q tagField (w .number - 1) in
-        let asks-again : clientWord (putClientWord row q stateField askingSetpoints) q stateField ≡ askingSetpoints = word-same clientWidth row q stateField askingSetpoints (rw (word-length clientWidth (t .clients) q tagField (w .number - 1)) row-has) (omega arith) in
-        read-asks (putClientWord row q stateField askingSetpoints) (sentGets q (maskOf t q) (t .log) (w .number - 1) (serversOf t) rest) (rw state) (rw asks-again)
-        (word-other clientWidth row q stateField askingSetpoints q recordField (omega arith) (omega arith) (λ e. omega (arith, e .1))
-        ∙ word-other clientWidth (t .clients) q tagField (w .number - 1) q recordField (omega arith) (omega arith) (λ e. omega (arith, e .1))) k
+        let tag = w .number - 1 in
+        let row = putClientWord (t .clients) q tagField tag in
+        let turned = putClientWord row q stateField askingSetpoints in
+        let ahead = tags-behind t h numbers a q (maskOf t q) tag turned in
+        let asks-again : clientWord turned q stateField ≡ askingSetpoints
+        = word-same clientWidth row q stateField askingSetpoints
+        (rw (word-length clientWidth (t .clients) q tagField tag) row-has) (omega arith) in
+        read-asks (keptTags q (maskOf t q) (t .log) tag (serversOf t) turned) (sentGets q (maskOf t q) (t .log) tag (serversOf t) rest)
+        (rw state) (rw (ahead stateField (omega arith), asks-again))
+        (ahead recordField (omega arith)
+        ∙ word-other clientWidth row q stateField askingSetpoints q recordField (omega arith) (omega arith) (λ e. omega (arith, e .1))
+        ∙ word-other clientWidth (t .clients) q tagField tag q recordField (omega arith) (omega arith) (λ e. omega (arith, e .1))) k
 
     -- a word of the row below the one that arrived
     below : (f v g : ℕ) → f < clientWidth → g < f → clientWord (putClientWord (t .clients) q f v) q g ≡ clientWord (t .clients) q g
@@ -189,9 +198,11 @@ module _ (t : Tables) (h : History) (numbers : List ℕ) (a : Agrees t h numbers
     unfolding onGot
     got-answers state =
         let l : setpointsField + i < clientWidth = omega (arith, came .target) in
-        either Keeps (pending rest q) {x = said Wait (moved (gotSetpoint w q i t) rest t)} {y = endedRead q (tagOf t q) (gotSetpoint w q i t) rest t}
+        let tags = shownTags (gotSetpoint w q i t) q (maskOf t q) in
+        either Keeps (pending rest q) {x = said Wait (moved (gotSetpoint w q i t) rest t)}
+        {y = endedRead q (tagOf t q) tags (gotSetpoint w q i t) rest t}
         (λ k. read-waits (gotSetpoint w q i t) rest (rw state) (rw (below (setpointsField + i) (w .number) stateField l (omega arith), state)) (below (setpointsField + i) (w .number) recordField l (omega arith)) k)
-        (λ k. read-over (tagOf t q) (gotSetpoint w q i t) rest (rw state) k)
+        (λ k. read-over (tagOf t q) tags (gotSetpoint w q i t) rest (rw state) k)
 
     all-answers : stateOf t q ≡ askingAll → Kept q t (onAll w q i t .tables) → AnswersReply (onAll w q i t)
     unfolding onAll
@@ -200,7 +211,9 @@ module _ (t : Tables) (h : History) (numbers : List ℕ) (a : Agrees t h numbers
         let l : receivedField + i < clientWidth = omega (arith, came .target) in
         either Keeps (pending rest q) {x = said Wait (moved row rest t)} {y = endedByC (tagChosen row q t) row q rest t}
         (λ k. read-waits row rest (rw state) (rw (below (receivedField + i) (w .number) stateField l (omega arith), state)) (below (receivedField + i) (w .number) recordField l (omega arith)) k)
-        (λ k. read-over (tagChosen row q t) (concluded (tagChosen row q t) row q t) rest (rw state) k)
+        (λ k.
+        let tags = chosenTags (t .log) (maskOf t q) (serversOf t) (tagChosen row q t) in
+        read-over (tagChosen row q t) tags (concluded (tagChosen row q t) row q t) rest (rw state) k)
 
     in-state : Kept q t (onReplyIn (stateOf t q) w q i t .tables) → AnswersReply (onReplyIn (stateOf t q) w q i t)
     unfolding onReplyIn

@@ -14,11 +14,13 @@ use Rattle.tables.specs.declared.links.Content.the-variants.{Nothing, Request, 
 use Rattle.tables.specs.declared.links.Link.{Link}
 use Rattle.rules.specs.declared.Arrival.the-variants.{Wait, Next, Write, Refused}
 use Rattle.rules.specs.declared.Delivered.{Delivered}
+use Rattle.rules.specs.declared.words.Shown.{Shown}
+use Rattle.rules.specs.Words.{shownBoth}
 use Rattle.rules.specs.Answers.{Arrived, arrived, nothingShown}
-use Rattle.rules.specs.Common.{idle, writing, entering, askingKeys, askingSetpoints, coordinator, request, pending, endedRecord, taggedRecord}
-use Rattle.rules.specs.Begin.{sentGets}
-use Rattle.rules.specs.Reply.{emptied, readShown, onSetDone, onEntered, onKeys, gotSetpoint, onGot, gotNumber, onAll, onReplyIn, onReply, replyDelivered}
-use Rattle.replies.specs.Ready.{Settled, FinishedByC}
+use Rattle.rules.specs.Common.{idle, writing, entering, askingKeys, askingSetpoints, coordinator, request, pending, endedRecord}
+use Rattle.rules.specs.Begin.{sentGets, keptTags}
+use Rattle.rules.specs.Reply.{emptied, onSetDone, onEntered, onKeys, gotSetpoint, onGot, gotNumber, onAll, onReplyIn, onReply, replyDelivered}
+use Rattle.replies.specs.Ready.{Settled, Finished, FinishedByC}
 
 -- s is what `settle` left, b whether a link is pending then
 module _ (q i : ℕ) (t : Tables) {step : ℕ} {counts links : List ℕ} (s : Settled (t .counts) (t .links) q i step counts links) where
@@ -45,11 +47,11 @@ module _ (q i : ℕ) (t : Tables) {step : ℕ} {counts links : List ℕ} (s : Se
       unfolding onGot
       got-waits e f = rw (is-pending e, f, g, s .counted′, s .emptied)
 
-      pub got-ends : {d : Delivered} {clients′ reads : List ℕ} {mask place tag : ℕ} → b ≡ false → mask ≡ maskOf t q → place ≡ recordOf t q → tag ≡ tagOf t q →
-          d ≡ readShown tag clients q mask → clients′ ≡ putClientWord clients q stateField idle → reads ≡ endedRecord place step (taggedRecord place tag (t .reads)) →
+      pub got-ends : {d : Delivered} {clients′ reads : List ℕ} {shown : Shown} {mask place tag : ℕ} → b ≡ false → mask ≡ maskOf t q → place ≡ recordOf t q → tag ≡ tagOf t q →
+          shown ≡ shownBoth clients q mask → Finished clients (t .reads) q place tag shown step d clients′ reads →
           arrived d (tablesOf counts clients′ links (t .keys) (t .values) (t .log) (t .writes) reads) ≡ onGot w q i t
       unfolding onGot
-      got-ends e m p′ a f c r = rw (is-pending e, f, c, r, g, m, p′, a, s .stepped, s .counted′, s .emptied)
+      got-ends e m p′ a h f = rw (is-pending e, f .shown, f .idled, f .recorded, h, g, m, p′, a, s .stepped, s .counted′, s .emptied)
 
     -- state 5; the number is put
     module _ (w : Contents) {clients : List ℕ} (g : clients ≡ gotNumber w q i t) where
@@ -73,7 +75,7 @@ module _ (q i : ℕ) (t : Tables) {step : ℕ} {counts links : List ℕ} (s : Se
 
   -- state 3
   pub keys-ask : (w : Contents) {d : Delivered} {clients links′ : List ℕ} {mask k : ℕ} → mask ≡ maskOf t q → k ≡ serversOf t → d ≡ nothingShown Next →
-      clients ≡ putClientWord (putClientWord (t .clients) q tagField (w .number - 1)) q stateField askingSetpoints →
+      clients ≡ keptTags q mask (t .log) (w .number - 1) k (putClientWord (putClientWord (t .clients) q tagField (w .number - 1)) q stateField askingSetpoints) →
       links′ ≡ sentGets q mask (t .log) (w .number - 1) k links →
       arrived d (tablesOf counts clients links′ (t .keys) (t .values) (t .log) (t .writes) (t .reads)) ≡ onKeys w q i t
   unfolding onKeys

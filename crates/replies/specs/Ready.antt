@@ -8,10 +8,12 @@ use Rattle.tables.specs.Layout.{countAt, stepField, serversField, clientWidth, 
 use Rattle.tables.specs.Links.{targets, HasLinks, linkAt, putLink}
 use Rattle.tables.specs.declared.links.Contents.{Contents}
 use Rattle.tables.specs.declared.links.Content.the-variants.{Nothing, Reply}
+use Rattle.rules.specs.declared.Arrival.the-variants.{Read}
 use Rattle.rules.specs.declared.Delivered.{Delivered}
+use Rattle.rules.specs.declared.words.Shown.{Shown}
 use Rattle.rules.specs.Common.{counted, idle, writing, entering, askingKeys, askingSetpoints, pending, coordinator, endedRecord, taggedRecord}
 use Rattle.rules.specs.Choice.{qualifies, chosenTag, chosenSetpoint}
-use Rattle.rules.specs.Reply.{readShown, receivedIn, putReceived, tagFrom, concludedRow}
+use Rattle.rules.specs.Reply.{shownSetpoints, receivedIn, putReceived, tagFrom, concludedRow, chosenTags}
 use Rattle.choice.specs.Ready.{ChoiceReady}
 use Rattle.requests.specs.Ready.{Answerable}
 use Rattle.ranges.specs.LastLaws.{last-below, last-passes}
@@ -34,6 +36,7 @@ pub record KeysReady (counts clients log : List ℕ) (q number : ℕ) : Type 0 w
   pub row : HasRow clientWidth clients q
   pub servers : countAt counts serversField ≤ 16
   pub some : 0 < number
+  pub few : number ≤ logPlaces
   pub logged : entryWidth * number ≤ length log
 
 -- the client's record of a READ or a WRITE is there
@@ -42,8 +45,8 @@ pub record GotReady (clients records : List ℕ) (q : ℕ) : Type 0 where
   pub recorded : HasRow recordWidth records (clientWord clients q recordField)
 
 -- what `finish` leaves
-pub record Finished (clients reads : List ℕ) (q mask place tag step : ℕ) (d : Delivered) (clients′ reads′ : List ℕ) : Type 0 where
-  pub shown : d ≡ readShown tag clients q mask
+pub record Finished (clients reads : List ℕ) (q place tag : ℕ) (s : Shown) (step : ℕ) (d : Delivered) (clients′ reads′ : List ℕ) : Type 0 where
+  pub shown : d ≡ record { arrival = Read tag; setpoints = s .setpoints; tags = s .tags }
   pub idled : clients′ ≡ putClientWord clients q stateField idle
   pub recorded : reads′ ≡ endedRecord place step (taggedRecord place tag reads)
 
@@ -60,7 +63,8 @@ pub record Concludable (clients keys log reads : List ℕ) (q mask k place : ℕ
 abbrev pub FinishedByC : List ℕ → List ℕ → List ℕ → List ℕ → List ℕ → ℕ → ℕ → ℕ → ℕ → ℕ → Delivered → List ℕ → List ℕ → Type 0
 FinishedByC clients keys values log reads q mask k place step d clients′ reads′ =
     let tag = tagFrom clients keys log q mask k in
-    Finished (concludedRow (chosenSetpoint keys values log (receivedIn clients q) tag) tag q mask k clients) reads q mask place tag step d clients′ reads′
+    let row = concludedRow (chosenSetpoint keys values log (receivedIn clients q) tag) tag q mask k clients in
+    Finished row reads q place tag (record { setpoints = shownSetpoints row q mask; tags = chosenTags log mask k tag }) step d clients′ reads′
 
 -- the tag chosen is below the entries received, and it qualifies
 module _ (clients keys log : List ℕ) (q mask k : ℕ) (some : 0 < receivedIn clients q coordinator) where

@@ -19,6 +19,7 @@ use rules::Arrival;
 use rules::Delivered;
 use rules::states;
 use rules::words;
+use rules::words::Shown;
 use tables::clients;
 use tables::counts;
 use tables::links;
@@ -133,29 +134,39 @@ fn keys_told(
     settle(counts, links, client, target);
     clients::put_client_word(clients, client, clients::TAG, tag);
     clients::put_client_word(clients, client, clients::STATE, states::ASKING_SETPOINTS);
-    begins::send_gets(links, log, client, mask, tag as usize, servers as usize);
+    begins::send_gets(
+        clients,
+        links,
+        log,
+        client,
+        mask,
+        tag as usize,
+        servers as usize,
+    );
     rules::showing_nothing(Arrival::Next)
 }
 
-// A READ ends: the client is idle, the record gets tag and end, and the answer shows the setpoints.
+// A READ ends: the client is idle, the record gets tag and end, and the answer shows the setpoints and tags given.
 fn finish(
     clients: &mut [u32],
     reads: &mut [u32],
     client: usize,
-    mask: u32,
     place: u32,
     tag: u32,
+    shown: Shown,
     step: u32,
 ) -> Delivered
     requires { ⌜ (HasRow clientWidth (now clients) client) × (HasRow recordWidth (now reads) place) ⌝ }
-    ensures { λ r. ⌜ Finished (now (clients .entry)) (now (reads .entry)) client mask place tag step r (now (clients .exit)) (now (reads .exit)) ⌝ }
+    ensures { λ r. ⌜ Finished (now (clients .entry)) (now (reads .entry)) client place tag shown step r (now (clients .exit)) (now (reads .exit)) ⌝ }
 {
-    let shown = words::shown_words(&*clients, client, clients::SETPOINTS, mask);
     clients::put_client_word(clients, client, clients::STATE, states::IDLE);
     history::end_read(reads, place as usize, tag, step);
+    let setpoints = shown.setpoints;
+    let tags = shown.tags;
     Delivered {
         arrival: Arrival::Read(tag),
-        setpoints: shown,
+        setpoints: setpoints,
+        tags: tags,
     }
 }
 
@@ -189,10 +200,11 @@ fn got(
     if rules::is_pending(&*links, client) {
         return rules::showing_nothing(Arrival::Wait);
     }
-    finish(clients, reads, client, mask, place, tag, step)
+    let shown = words::shown_words(&*clients, client, mask);
+    finish(clients, reads, client, place, tag, shown, step)
 }
 
-// A READ ends under C: the tag is chosen, the setpoints at it are kept, and the READ finishes.
+// A READ ends under C: the tag is chosen, the setpoints at it are kept, and the READ finishes, showing the tags that they come from.
 fn finish_by_c(
     clients: &mut [u32],
     keys: &[u32],
@@ -219,8 +231,21 @@ fn finish_by_c(
         servers,
         entries as usize,
     ) as u32;
-    choice::conclude(clients, keys, values, log, client, mask, servers, tag);
-    finish(clients, reads, client, mask, place, tag, step)
+    let tags = choice::conclude(clients, keys, values, log, client, mask, servers, tag);
+    let shown = words::shown_words(&*clients, client, mask);
+    let setpoints = shown.setpoints;
+    finish(
+        clients,
+        reads,
+        client,
+        place,
+        tag,
+        Shown {
+            setpoints: setpoints,
+            tags: tags,
+        },
+        step,
+    )
 }
 
 // State 5: an n has come; when all replies are in, the READ ends.

@@ -9,8 +9,8 @@ use Rattle.ranges.specs.Picked.{picked}
 use Rattle.keys.specs.declared.Key.{Key}
 use Rattle.keys.specs.Keys.{keyOf, opening}
 use Rattle.keys.specs.Masks.{hasServer}
-use Rattle.coordinator.specs.Latest.{latestKey}
-use Rattle.tables.specs.Layout.{writesField, readsField, countField, tagField, setpointsField, putClientWord}
+use Rattle.coordinator.specs.Latest.{latestKey, latestTagAt}
+use Rattle.tables.specs.Layout.{writesField, readsField, countField, tagField, setpointsField, tagsField, putClientWord}
 use Rattle.tables.specs.Links.{putLink}
 use Rattle.tables.specs.Tables.{Tables, tablesOf, methodOf, serversOf, entriesOf, writesOf, readsOf, countOf}
 use Rattle.rules.specs.Words.{every, keptWords}
@@ -48,6 +48,10 @@ sendGet q log tag i links = putLink links q i (request (latestKey log i tag) 0)
 abbrev pub sentGets : ℕ → ℕ → List ℕ → ℕ → ℕ → List ℕ → List ℕ
 sentGets q mask log tag k links = turns (picked (hasServer mask) (sendGet q log tag)) k links
 
+-- "Under A and B a panel keeps the wanted stations' tags while it asks."
+abbrev pub keptTags : ℕ → ℕ → List ℕ → ℕ → ℕ → List ℕ → List ℕ
+keptTags q mask log tag k clients = keptWords tagsField (hasServer mask) (latestTagAt log tag) q k clients
+
 -- a request that carries nothing: which keys, get all, get log
 abbrev pub sendAsk : ℕ → ℕ → List ℕ → List ℕ
 sendAsk q i links = putLink links q i (request opening 0)
@@ -70,7 +74,8 @@ lastTag t = entriesOf t - 1
 -- "A: take the last tag and its keys from panel 0's log, then ask each masked station for its key."
 abbrev pub askingByA : ℕ → ℕ → Tables → Asking
 askingByA q mask t =
-    asking (putClientWord (startedClient askingSetpoints mask (readsOf t) q (t .clients)) q tagField (lastTag t))
+    asking
+    (keptTags q mask (t .log) (lastTag t) (serversOf t) (putClientWord (startedClient askingSetpoints mask (readsOf t) q (t .clients)) q tagField (lastTag t)))
     (sentGets q mask (t .log) (lastTag t) (serversOf t) (t .links))
 
 -- "B: ask the head"

@@ -5,7 +5,8 @@ use mathlib.Core.List.{List}
 use lib.Dec.{eqb}
 use Rattle.keys.specs.Keys.{keyOf}
 use Rattle.keys.specs.Masks.{hasServer}
-use Rattle.tables.specs.Layout.{putClientWord, clientWord, stateField, tagField, setpointsField, receivedField}
+use Rattle.coordinator.specs.Latest.{latestTagAt}
+use Rattle.tables.specs.Layout.{putClientWord, clientWord, stateField, tagField, setpointsField, receivedField, tagsField}
 use Rattle.tables.specs.Links.{targets, putLink}
 use Rattle.tables.specs.Tables.{Tables, withCounts, withClients, withLinks, withWrites, withReads, serversOf, stateOf, countOf, maskOf, tagOf, recordOf, contentAt}
 use Rattle.tables.specs.declared.links.Contents.{Contents}
@@ -15,9 +16,9 @@ use Rattle.rules.specs.declared.Arrival.{Arrival}
 use Rattle.rules.specs.declared.Arrival.the-variants.{Wait, Next, Write, Read, Refused}
 use Rattle.rules.specs.declared.Delivered.{Delivered}
 use Rattle.rules.specs.Answers.{Arrived, arrived, nothingShown}
-use Rattle.rules.specs.Words.{every, keptWords, shownWords}
+use Rattle.rules.specs.Words.{every, keptWords, laidWords, shownWords}
 use Rattle.rules.specs.Common.{idle, writing, entering, askingKeys, askingSetpoints, coordinator, request, nextStep, counted, pending, endedRecord, taggedRecord}
-use Rattle.rules.specs.Begin.{sentGets}
+use Rattle.rules.specs.Begin.{sentGets, keptTags}
 use Rattle.rules.specs.Choice.{chosenTag, chosenSetpoint}
 
 abbrev pub said : Arrival → Tables → Arrived
@@ -35,13 +36,17 @@ emptied q i t = putLink (t .links) q i Nothing
 abbrev pub shownSetpoints : List ℕ → ℕ → ℕ → List ℕ
 shownSetpoints clients q mask = shownWords setpointsField clients q mask
 
-abbrev pub readShown : ℕ → List ℕ → ℕ → ℕ → Delivered
-readShown tag clients q mask = record { arrival = Read tag; setpoints = shownSetpoints clients q mask }
+-- "A READ now shows with each setpoint the tag of the WRITE that put it there, 0 for the opening": under A and B those that the client keeps
+abbrev pub shownTags : List ℕ → ℕ → ℕ → List ℕ
+shownTags clients q mask = shownWords tagsField clients q mask
 
--- a READ ends: its record gets tag and end, and the answer shows the setpoints
-abbrev pub endedRead : ℕ → ℕ → List ℕ → List ℕ → Tables → Arrived
-endedRead q tag clients links t =
-    arrived (readShown tag clients q (maskOf t q))
+abbrev pub readShown : ℕ → List ℕ → List ℕ → ℕ → ℕ → Delivered
+readShown tag tags clients q mask = record { arrival = Read tag; setpoints = shownSetpoints clients q mask; tags = tags }
+
+-- a READ ends: its record gets tag and end, and the answer shows setpoints and tags
+abbrev pub endedRead : ℕ → ℕ → List ℕ → List ℕ → List ℕ → Tables → Arrived
+endedRead q tag tags clients links t =
+    arrived (readShown tag tags clients q (maskOf t q))
     (withReads (endedRecord (recordOf t q) (nextStep t) (taggedRecord (recordOf t q) tag (t .reads))) (moved (putClientWord clients q stateField idle) links t))
 
 -- "When the last acknowledgement arrives, key and mask go to the head."
@@ -62,7 +67,8 @@ onEntered w q i t =
 unfoldable pub onKeys : Contents → ℕ → ℕ → Tables → Arrived
 onKeys w q i t =
     said Next
-    (moved (putClientWord (putClientWord (t .clients) q tagField (w .number - 1)) q stateField askingSetpoints)
+    (moved
+    (keptTags q (maskOf t q) (t .log) (w .number - 1) (serversOf t) (putClientWord (putClientWord (t .clients) q tagField (w .number - 1)) q stateField askingSetpoints))
     (sentGets q (maskOf t q) (t .log) (w .number - 1) (serversOf t) (emptied q i t)) t)
 
 -- "each wanted setpoint [is] stored in the panel"; the last one ends the READ
@@ -73,7 +79,7 @@ unfoldable pub onGot : Contents → ℕ → ℕ → Tables → Arrived
 onGot w q i t =
     cond (pending (emptied q i t) q)
     (said Wait (moved (gotSetpoint w q i t) (emptied q i t) t))
-    (endedRead q (tagOf t q) (gotSetpoint w q i t) (emptied q i t) t)
+    (endedRead q (tagOf t q) (shownTags (gotSetpoint w q i t) q (maskOf t q)) (gotSetpoint w q i t) (emptied q i t) t)
 
 -- C: the n that came from each target stands in the client's row
 abbrev pub receivedIn : List ℕ → ℕ → ℕ → ℕ
@@ -110,8 +116,12 @@ setpointAt tag clients q t = chosenSetpoint (t .keys) (t .values) (t .log) (rece
 abbrev pub concluded : ℕ → List ℕ → ℕ → Tables → List ℕ
 concluded tag clients q t = concludedRow (setpointAt tag clients q t) tag q (maskOf t q) (serversOf t) clients
 
+-- C's are those of the tag chosen, shown and not kept
+abbrev pub chosenTags : List ℕ → ℕ → ℕ → ℕ → List ℕ
+chosenTags log mask k tag = laidWords (hasServer mask) (latestTagAt log tag) k
+
 abbrev pub endedByC : ℕ → List ℕ → ℕ → List ℕ → Tables → Arrived
-endedByC tag clients q links t = endedRead q tag (concluded tag clients q t) links t
+endedByC tag clients q links t = endedRead q tag (chosenTags (t .log) (maskOf t q) (serversOf t) tag) (concluded tag clients q t) links t
 
 unfoldable pub onAll : Contents → ℕ → ℕ → Tables → Arrived
 onAll w q i t =

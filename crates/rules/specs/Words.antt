@@ -6,7 +6,8 @@ use lib.ListN.{set, replicate}
 use Rattle.ranges.specs.Turns.{turns}
 use Rattle.ranges.specs.Picked.{picked}
 use Rattle.keys.specs.Masks.{hasServer}
-use Rattle.tables.specs.Layout.{clientWord, putClientWord}
+use Rattle.tables.specs.Layout.{setpointsField, tagsField, clientWord, putClientWord}
+use Rattle.rules.specs.declared.words.Shown.{Shown}
 
 -- where a row has a word for all, masked or not
 abbrev pub every : ℕ → Bool
@@ -26,6 +27,9 @@ layWord word i row = set row i (word i)
 abbrev pub laidWords : (ℕ → Bool) → (ℕ → ℕ) → ℕ → List ℕ
 laidWords wanted word k = turns (picked wanted (layWord word)) k (replicate 16 0)
 
--- what an answer shows: of each masked server the client's word at field + i, 0 elsewhere
+-- what an answer shows: of each masked server the client's word at field + i, 0 elsewhere; and both of its rows
 abbrev pub shownWords : ℕ → List ℕ → ℕ → ℕ → List ℕ
 shownWords field clients q mask = laidWords (hasServer mask) (λ i. clientWord clients q (field + i)) 16
+
+abbrev pub shownBoth : List ℕ → ℕ → ℕ → Shown
+shownBoth clients q mask = record { setpoints = shownWords setpointsField clients q mask; tags = shownWords tagsField clients q mask }

@@ -10,7 +10,7 @@ use Rattle.ranges.specs.Tests.{either}
 use Rattle.ranges.specs.All.{allBelow}
 use Rattle.ranges.specs.AllLaws.{all-at}
 use Rattle.ranges.specs.Turns.{turns, turns-keep-below}
-use Rattle.ranges.specs.PickedLaws.{is-picked}
+use Rattle.ranges.specs.PickedLaws.{is-picked, not-picked}
 use Rattle.keys.specs.Masks.{hasServer}
 use Rattle.tables.specs.Rows.{HasRow, word-same, word-other}
 use Rattle.tables.specs.Layout.{clientWidth, clientWord}
@@ -46,6 +46,16 @@ module _ (field : ℕ) (wanted : ℕ → Bool) (word : ℕ → ℕ) (q k : ℕ) 
       (λ j n xs m d. getD-set-other xs (clientWidth * q + (field + j)) (clientWidth * q + (field + n)) (word j) 0 (λ z. d (omega arith)))
       wanted clients h k i (omega arith) l e
 
+  -- and where a server is not wanted, its word stays
+  pub kept-not : (clients : List ℕ) (i : ℕ) → HasRow clientWidth clients q → wanted i ≡ false →
+      clientWord (keptWords field wanted word q k clients) q (field + i) ≡ clientWord clients q (field + i)
+  kept-not clients i h e =
+      not-picked (λ xs j. clientWord xs q (field + j)) (keepWord field word q) word (λ xs. HasRow clientWidth xs q) k
+      (λ j xs r. rw (length-set xs (clientWidth * q + (field + j)) (word j)) r)
+      (λ j xs m r. word-same clientWidth xs q (field + j) (word j) r (omega arith))
+      (λ j n xs m d. getD-set-other xs (clientWidth * q + (field + j)) (clientWidth * q + (field + n)) (word j) 0 (λ z. d (omega arith)))
+      wanted clients h k i (omega arith) e
+
 -- the same servers wanted, and of those the same words, below k: the same row
 module _ (field q : ℕ) (wanted wanted′ : ℕ → Bool) (word word′ : ℕ → ℕ) (clients : List ℕ) where
   same-turn : (b : Bool) (i : ℕ) {xs ys : List ℕ} → (b ≡ true → word i ≡ word′ i) → xs ≡ ys →
@@ -60,6 +70,12 @@ module _ (field q : ℕ) (wanted wanted′ : ℕ → Bool) (word word′ : ℕ �
   kept-same (suc k) e f =
       rw (e k (omega arith))
       (same-turn (wanted′ k) k (f k (omega arith)) (kept-same k (λ i l. e i (omega arith)) (λ i l. f i (omega arith))))
+
+-- a row of 16 has 16 words
+pub laid-length : (wanted : ℕ → Bool) (word : ℕ → ℕ) (k : ℕ) → length (laidWords wanted word k) ≡ 16
+laid-length wanted word k =
+    let Long : List ℕ → Type 0 = λ xs. length xs ≡ 16 in
+    turns-keep-below _ Long k (λ i b xs e. either Long (wanted i) (length-set xs i (word i) ∙ e) e) (replicate 16 0) refl
 
 -- the word of a wanted server in a row of 16
 pub laid-at : (wanted : ℕ → Bool) (word : ℕ → ℕ) (k i : ℕ) → k ≤ 16 → i < k → wanted i ≡ true → getD (laidWords wanted word k) i 0 ≡ word i

@@ -6,7 +6,7 @@ ghost use lib.ListN.{length, getD};
 ghost use Rattle.keys.specs.Masks.{hasServer};
 ghost use Rattle.tables.specs.Rows.{HasRow};
 ghost use Rattle.tables.specs.Layout.{clientWidth, putClientWord};
-ghost use Rattle.rules.specs.Words.{keptWords, shownWords};
+ghost use Rattle.rules.specs.Words.{keptWords, shownBoth};
 use tables::clients;
 
 // The mask that has every server, and the coordinator.
@@ -46,19 +46,29 @@ pub fn keep_words(
     }
 }
 
-// The words of the masked servers in a client's row, 0 elsewhere.
-pub fn shown_words(clients: &[u32], client: usize, field: usize, mask: u32) -> [u32; 16]
+// What a client's row shows of the masked servers: setpoints, and the tags of the WRITEs that put them there; 0 elsewhere.
+pub struct Shown {
+    pub setpoints: [u32; 16],
+    pub tags: [u32; 16],
+}
+
+// Both in one walk over the servers: at the end of a READ under A or B there is little else to do.
+pub fn shown_words(clients: &[u32], client: usize, mask: u32) -> Shown
     requires { ⌜ HasRow clientWidth (now clients) client ⌝ }
-    requires { ⌜ field + 16 ≤ clientWidth ⌝ }
-    ensures { λ r. ⌜ r ≡ shownWords field (now (clients .entry)) client mask ⌝ }
+    ensures { λ r. ⌜ r ≡ shownBoth (now (clients .entry)) client mask ⌝ }
 {
-    let mut shown = [0u32; 16];
+    let mut setpoints = [0u32; 16];
+    let mut tags = [0u32; 16];
     let mut server = 0;
     while server < 16 {
         if keys::has_server(mask, server) {
-            shown[server] = clients::client_word(clients, client, field + server);
+            setpoints[server] = clients::client_word(clients, client, clients::SETPOINTS + server);
+            tags[server] = clients::client_word(clients, client, clients::TAGS + server);
         }
         server += 1;
     }
-    shown
+    Shown {
+        setpoints: setpoints,
+        tags: tags,
+    }
 }

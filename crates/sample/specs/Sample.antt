@@ -1,6 +1,6 @@
 -- Document 01's sample: the text of "The yard program" computes to what document 01 prints for it, every answer and then the register,
 -- on the definitions that the contracts of `playing` and `register_text` cite. Texts are bytes, each line below its letters.
-use Prim.Native.Nat.{ℕ}
+use Prim.Native.Nat.{ℕ, _*_}
 use mathlib.Core.Path.{_≡_, refl}
 use mathlib.Core.List.{List, [], _∷_, _++_, flatMap}
 use lib.ListN.{replicate}
@@ -9,7 +9,8 @@ use Rattle.ranges.specs.Sum.{sumBelow}
 use Rattle.ranges.specs.First.{firstFrom}
 use Rattle.ranges.specs.Last.{lastBelow}
 use Rattle.ranges.specs.Turns.{turns}
-use Rattle.tables.specs.Links.{linkAt, putLink}
+use Rattle.tables.specs.Layout.{countWords, clientWidth, serverPlaces, logPlaces, entryWidth, recordPlaces, recordWidth}
+use Rattle.tables.specs.Links.{targets, linkWidth, linkAt, putLink}
 use Rattle.tables.specs.Tables.{Tables, tablesOf}
 use Rattle.server.specs.Held.{appended}
 use Rattle.coordinator.specs.Log as log
@@ -92,8 +93,9 @@ answers =
     49 ∷ 50 ∷ 32 ∷ 119 ∷ 97 ∷ 105 ∷ 116 ∷ 10 ∷
     -- 13 ok
     49 ∷ 51 ∷ 32 ∷ 111 ∷ 107 ∷ 10 ∷
-    -- 14 read 0 0=1200 1=30
-    49 ∷ 52 ∷ 32 ∷ 114 ∷ 101 ∷ 97 ∷ 100 ∷ 32 ∷ 48 ∷ 32 ∷ 48 ∷ 61 ∷ 49 ∷ 50 ∷ 48 ∷ 48 ∷ 32 ∷ 49 ∷ 61 ∷ 51 ∷ 48 ∷ 10 ∷
+    -- 14 read 0 0=1200@0 1=30@0
+    49 ∷ 52 ∷ 32 ∷ 114 ∷ 101 ∷ 97 ∷ 100 ∷ 32 ∷ 48 ∷
+    32 ∷ 48 ∷ 61 ∷ 49 ∷ 50 ∷ 48 ∷ 48 ∷ 64 ∷ 48 ∷ 32 ∷ 49 ∷ 61 ∷ 51 ∷ 48 ∷ 64 ∷ 48 ∷ 10 ∷
     -- 15 write 1
     49 ∷ 53 ∷ 32 ∷ 119 ∷ 114 ∷ 105 ∷ 116 ∷ 101 ∷ 32 ∷ 49 ∷ 10 ∷ []
 
@@ -105,12 +107,12 @@ lines =
     -- W 1 0 1 2 15
     87 ∷ 32 ∷ 49 ∷ 32 ∷ 48 ∷ 32 ∷ 49 ∷ 32 ∷ 50 ∷ 32 ∷ 49 ∷ 53 ∷ 10 ∷ []
 
--- tables just long enough, all zero
+-- tables just long enough for two clients and two servers, all zero
 unfoldable pub zeros : Tables
 zeros =
-    tablesOf (replicate 23 0) (replicate 76 0) (replicate 102 0)
-    (replicate 512 0) (replicate 512 0) (replicate 512 0)
-    (replicate 1275 0) (replicate 1275 0)
+    tablesOf (replicate countWords 0) (replicate (clientWidth * 2) 0) (replicate (linkWidth * (targets * 2)) 0)
+    (replicate (serverPlaces * 2) 0) (replicate (serverPlaces * 2) 0) (replicate (entryWidth * logPlaces) 0)
+    (replicate (recordWidth * recordPlaces) 0) (replicate (recordWidth * recordPlaces) 0)
 
 -- the tables that some lines leave
 unfoldable pub leftBy : List (List ℕ) → Tables → Tables

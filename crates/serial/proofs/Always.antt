@@ -96,7 +96,7 @@ module _ (h : History) (ok : Timely h) where
   given-timely : (q mask : ℕ) (setpoints : List ℕ) (begin : ℕ) → begin < h .clock → Timely (given q mask setpoints begin h)
   given-timely q mask setpoints begin b =
       let last = suc (h .tags) in
-      let new = writeOf q mask (valueWritten setpoints) last begin none in
+      let new = writeOf q mask (valueWritten last setpoints) last begin none in
       let write : ℕ → Transaction = changed (h .write) last new in
       record {
         reads = ok .reads;

@@ -12,9 +12,10 @@ use Rattle.ranges.specs.Sum.{one}
 use Rattle.ranges.specs.SumLaws.{sum-part, one-true}
 use Rattle.keys.specs.Keys.{keyOf, opening, FitsByte, at-word-fits}
 use Rattle.keys.specs.Masks.{hasServer, serversIn, Within, some-server}
-use Rattle.coordinator.specs.Latest.{latestKey}
-use Rattle.tables.specs.Rows.{HasRow, word-same, word-other}
-use Rattle.tables.specs.Layout.{clientWidth, clientWord, putClientWord, stateField, countField, maskField, tagField, recordField, setpointsField, writesField, readsField, recordPlaces, countWords}
+use Rattle.coordinator.specs.Latest.{latestKey, latestTagAt}
+use Rattle.tables.specs.Rows.{HasRow, word-same, word-other, word-length}
+use Rattle.tables.specs.Layout.{clientWidth, clientWord, putClientWord, stateField, countField, maskField, tagField, recordField}
+use Rattle.tables.specs.Layout.{setpointsField, tagsField, writesField, readsField, recordPlaces, countWords}
 use Rattle.tables.specs.Links.{targets, HasLinks, linkAt}
 use Rattle.tables.specs.Tables.{Tables, methodOf, serversOf, clientsOf, stepOf, writesOf, readsOf, countOf}
 use Rattle.tables.specs.declared.links.Content.{Content}
@@ -24,7 +25,8 @@ use Rattle.rules.specs.Words.{every}
 use Rattle.rules.specs.WordsLaws.{kept-other}
 use Rattle.rules.specs.Common.{idle, askingKeys, askingSetpoints, askingAll, coordinator, request, begunCounts, startedClient}
 use Rattle.rules.specs.Common as rules
-use Rattle.rules.specs.Begin.{storedSetpoints, nextCount, begunWrite, sentGets, sendAsk, sentAsks, asking, lastTag, askingByA, askingByB, askingByC, begunReadWith, begunRead}
+use Rattle.rules.specs.Begin.{storedSetpoints, nextCount, begunWrite, sentGets, keptTags, sendAsk, sentAsks, asking, lastTag, askingByA}
+use Rattle.rules.specs.Begin.{askingByB, askingByC, begunReadWith, begunRead}
 use Rattle.rules.specs.declared.Answer.the-variants.{Ok}
 use Rattle.keeping.specs.Accepted.{Beginnable, Writable, Readable}
 use Rattle.keeping.specs.States.{masked-below}
@@ -34,7 +36,7 @@ use Rattle.serial.specs.Steps.{Event, begun-write, begun-read}
 use Rattle.serial.specs.History.{changed, History, extraOf}
 use Rattle.serial.proofs.Press.{Shared, renumbered, Client, clientOf, Press, pressOf, stateIn, countIn, rowOf, linksOf, sharedOf, view, sends, world}
 use Rattle.serial.proofs.View.{within-at, within-same, row-put-other, link-put, link-put-other, view-is, sharedIn, shared-step, shared-writes, shared-reads}
-use Rattle.serial.proofs.Loops.{sent-links, sent-others, kept-rows}
+use Rattle.serial.proofs.Loops.{sent-links, sent-others, kept-rows, kept-ahead, kept-word}
 use Rattle.serial.proofs.Ready.{Ready, few, in-range, has-row, has-link, has-links, row-at, link-at}
 use Rattle.serial.proofs.Invariant.{Idle, Tied}
 use Rattle.serial.proofs.Kept.{Kept, resting}
@@ -234,24 +236,43 @@ module _ (floor : ℕ → ℕ) (t : Tables) (h : History) (s : Standing floor t 
   a-fair : readsOf t < recordPlaces → h .extra ≡ 0 → Begun (begun-read q mask Ok) (begunReadWith q mask (askingByA q mask t) t)
   a-fair free extra =
       read-left clients′ (sentGets q mask (t .log) (lastTag t) (serversOf t) (t .links))
-      (λ r d. row-put-other (with-state askingSetpoints) q tagField (lastTag t) (omega arith) r d ∙ started-others askingSetpoints mask (readsOf t) q (t .clients) (has-row t q ready) r d)
+      (λ r d. kept-rows tagsField (hasServer mask) (latestTagAt (t .log) (lastTag t)) q (serversOf t) room tagged r d
+      ∙ row-put-other (with-state askingSetpoints) q tagField (lastTag t) (omega arith) r d
+      ∙ started-others askingSetpoints mask (readsOf t) q (t .clients) (has-row t q ready) r d)
       (sent-links q (gets (lastTag t)) (λ i. at-word-fits _) mask (serversOf t) small bound (t .links) long empty ∙ ap (λ (n : ℕ). sends mask (gets n)) (sym tag-is))
       (λ r d. sent-others q (gets (lastTag t)) (λ i. at-word-fits _) mask (serversOf t) small bound (t .links) long empty r d)
       (read-a-kept floor (view t) h tied (few t q ready) q (in-range t q ready) resting-state mask bound some-masked (rowOf clients′ q)
       (word maskField (omega arith) (λ e. omega arith) ∙ started-mask askingSetpoints mask (readsOf t) q (t .clients) (has-row t q ready)) step′ (writesOf t) (readsOf t + 1)
       (word countField (omega arith) (λ e. omega arith) ∙ count-of askingSetpoints)
-      extra state (tag-is ∙ last))
+      extra state (tag-is ∙ last) tags-are)
       (read-budget (view t) budget q (in-range t q ready) free asked askingSetpoints state (λ e. omega arith) (λ e. omega arith)
       (omega (arith, no-rest asked askingSetpoints state (λ e. omega arith) (λ e. omega arith), sends-come mask (gets (rowOf clients′ q tagField)) (λ i. refl) (no-coordinator mask (serversOf t) (few t q ready) bound), few-servers mask)))
     where
+      tagged : List ℕ
+      tagged = putClientWord (with-state askingSetpoints) q tagField (lastTag t)
+
       clients′ : List ℕ
-      clients′ = putClientWord (with-state askingSetpoints) q tagField (lastTag t)
+      clients′ = keptTags q mask (t .log) (lastTag t) (serversOf t) tagged
+
+      started : HasRow clientWidth (with-state askingSetpoints) q
+      started = started-has askingSetpoints mask (readsOf t) q (t .clients) (has-row t q ready)
+
+      room : tagsField + serversOf t ≤ clientWidth
+      room = omega (arith, few t q ready)
 
       gets : ℕ → ℕ → Content
       gets n i = request (latestKey (t .log) i n) 0
 
-      word : (f : ℕ) → f < clientWidth → (f ≡ tagField → ⊥) → rowOf clients′ q f ≡ clientWord (with-state askingSetpoints) q f
-      word f l d = within-at clientWidth 0 (clientWord clients′ q) f l ∙ word-other clientWidth (with-state askingSetpoints) q tagField (lastTag t) q f (omega arith) l (λ e. d (e .1))
+      -- a word ahead of the tags kept
+      ahead : (f : ℕ) → f < tagsField → rowOf clients′ q f ≡ clientWord tagged q f
+      ahead f l =
+          kept-ahead tagsField (hasServer mask) (latestTagAt (t .log) (lastTag t)) q (serversOf t) room tagged f l
+          ∙ within-at clientWidth 0 (clientWord tagged q) f (omega arith)
+
+      word : (f : ℕ) → f < tagsField → (f ≡ tagField → ⊥) → rowOf clients′ q f ≡ clientWord (with-state askingSetpoints) q f
+      word f l d =
+          ahead f l
+          ∙ word-other clientWidth (with-state askingSetpoints) q tagField (lastTag t) q f (omega arith) (omega arith) (λ e. d (e .1))
 
       asked : Client
       asked = clientOf (rowOf clients′ q) (sends mask (gets (rowOf clients′ q tagField)))
@@ -261,8 +282,15 @@ module _ (floor : ℕ → ℕ) (t : Tables) (h : History) (s : Standing floor t 
 
       tag-is : rowOf clients′ q tagField ≡ lastTag t
       tag-is =
-          within-at clientWidth 0 (clientWord clients′ q) tagField (omega arith)
-          ∙ word-same clientWidth (with-state askingSetpoints) q tagField (lastTag t) (started-has askingSetpoints mask (readsOf t) q (t .clients) (has-row t q ready)) (omega arith)
+          ahead tagField (omega arith)
+          ∙ word-same clientWidth (with-state askingSetpoints) q tagField (lastTag t) started (omega arith)
+
+      -- each wanted server's is the one that the log has at that tag
+      tags-are : (i : ℕ) → hasServer mask i ≡ true → rowOf clients′ q (tagsField + i) ≡ latestTagAt (t .log) (rowOf clients′ q tagField) i
+      tags-are i m =
+          kept-word tagsField (hasServer mask) (latestTagAt (t .log) (lastTag t)) q (serversOf t) room tagged
+          (rw (word-length clientWidth (with-state askingSetpoints) q tagField (lastTag t)) started) i (bound i m) m
+          ∙ ap (λ (n : ℕ). latestTagAt (t .log) n i) (sym tag-is)
 
       last : lastTag t ≡ h .tags
       last = omega (arith, tied .entries)

@@ -9,8 +9,8 @@ use lib.ListN.{getD}
 use Rattle.ranges.specs.Tests.{by-test, not-both}
 use Rattle.keys.specs.Keys.{keyOf, opening}
 use Rattle.keys.specs.Masks.{hasServer, serversIn}
-use Rattle.coordinator.specs.Latest.{latestKey}
-use Rattle.tables.specs.Layout.{stateField, countField, maskField, tagField}
+use Rattle.coordinator.specs.Latest.{latestTag, latestKey}
+use Rattle.tables.specs.Layout.{stateField, countField, maskField, tagField, tagsField}
 use Rattle.tables.specs.declared.links.Content.{Content}
 use Rattle.rules.specs.Common.{idle, askingKeys, askingSetpoints, askingAll, coordinator, request}
 use Rattle.rules.specs.Common as rules
@@ -84,10 +84,11 @@ module _ (floor : ℕ → ℕ) (p : Press) (h : History) (tied : Tied floor p h)
     latest′ : (i n : ℕ) (v : Version) → x .lookup i (keyOf n q) (x .held i) ≡ some v → n ≤ row countField
     latest′ i n v e = omega (arith, okay .latest i n v e, count)
 
-    -- A: the last tag and its keys
+    -- A: the last tag, its keys and the tags that they come from
     pub read-a-kept : h .extra ≡ 0 → row stateField ≡ askingSetpoints → row tagField ≡ h .tags →
+        ((i : ℕ) → hasServer mask i ≡ true → row (tagsField + i) ≡ latestTag (p .shared .log) i (row tagField)) →
         Kept floor h (begun-read q mask Ok) (begun-press (sends mask (λ i. request (latestKey (p .shared .log) i (row tagField)) 0)))
-    read-a-kept zero-more state tag = (
+    read-a-kept zero-more state tag tags = (
       (idling .is, omega arith),
       rw (idling .is) (begun-tied floor p h tied step writes reads q (clientOf row (sends mask gets)) _ (record {
         latest = latest′;
@@ -100,6 +101,7 @@ module _ (floor : ℕ → ℕ) (p : Press) (h : History) (tied : Tied floor p h)
           bound = bound′;
           count = rw masked (omega (arith, total));
           busy = omega (arith, total);
+          tags = λ i m. tags i (rw masked at m) ∙ tied .tags (row tagField) (omega (arith, tag)) i;
           links = λ i l. by-test (hasServer mask i)
               (λ e. rw (sends-masked mask gets i e, tag) (tied .value (h .tags) (omega arith) i (bound i e)))
               (λ e. rw (sends-other mask gets i e) (λ m. absurd (not-both (rw masked at m) e)));

@@ -137,7 +137,7 @@ module _ (tagsAt floor : ℕ → ℕ) (h : History) (ok : HistoryOk tagsAt floor
   given-ok : (q mask : ℕ) (setpoints : List ℕ) (begin : ℕ) → h .doing q ≡ writing mask setpoints begin → HistoryOk more floor (given q mask setpoints begin h)
   given-ok q mask setpoints begin e =
       let c : (begin < h .clock) × (tagsAt begin ≤ floor q) × (floor q ≤ h .tags) = rw e at (ok .doing q) in
-      let new = writeOf q mask (valueWritten setpoints) (suc (h .tags)) begin none in
+      let new = writeOf q mask (valueWritten (suc (h .tags)) setpoints) (suc (h .tags)) begin none in
       let was : more begin ≡ tagsAt begin = before tagsAt (h .clock) (suc (h .tags)) begin (omega (arith, c .0)) in
       record {
         rising = rising-on tagsAt (h .clock) (suc (h .tags)) (h .tags) (omega arith) (ok .now) (ok .rising);

@@ -8,17 +8,19 @@ use native.Mathlib.Omega.{arith}
 use Rattle.keys.specs.declared.Key.{Key}
 use Rattle.keys.specs.Keys.{keyOf}
 use Rattle.keys.specs.Masks.{hasServer, serversIn}
+use Rattle.coordinator.specs.Latest.{latestTag}
 use Rattle.tables.specs.Layout.{serverPlaces}
 use Rattle.tables.specs.Links.{targets}
 use Rattle.tables.specs.declared.links.Content.{Content}
 use Rattle.tables.specs.declared.links.Content.the-variants.{Nothing, Request, Reply}
 use Rattle.rules.specs.Common.{idle, entering, askingKeys, askingSetpoints, askingAll, coordinator}
 use Rattle.rules.specs.Common as rules
-use Rattle.serial.specs.History.{valueWritten, Doing, nothing, writing, tagged, reading, History, extraOf}
+use Rattle.serial.specs.History.{Value, Doing, nothing, writing, tagged, reading, History, extraOf}
 use Rattle.serial.specs.Claim.{enough}
-use Rattle.serial.proofs.Versions.{Version, keptOf}
+use Rattle.serial.proofs.Owed.{valueIn}
+use Rattle.serial.proofs.Versions.{Version, keptOf, sentOf}
 use Rattle.serial.proofs.Press.{Client, Press, stateIn, countIn, maskIn, tagIn, receivedIn, toCome, World, keptAt, carried}
-use Rattle.serial.proofs.Press.{storedIn, world}
+use Rattle.serial.proofs.Press.{storedIn, keptTagIn, world}
 
 -- ---- what a link of a client holds, by the client's state
 
@@ -36,11 +38,11 @@ Masked c i = hasServer (maskIn c) i ≡ true
 -- State 1. A server that was sent the setpoint holds it, or the request is still under way and no version bears the key.
 module _ (x : World) (q : ℕ) (c : Client) where
   abbrev pub WriteLink : List ℕ → ℕ → Content → Type 0
-  WriteLink setpoints i Nothing = Masked c i → Holds x i (own q c) (keptOf (valueWritten setpoints i))
+  WriteLink setpoints i Nothing = Masked c i → Holds x i (own q c) (sentOf setpoints i)
   WriteLink setpoints i (Request w) =
-      (w .key ≡ own q c) × (carried w ≡ keptOf (valueWritten setpoints i)) × (i < x .servers) ×
+      (w .key ≡ own q c) × (carried w ≡ sentOf setpoints i) × (i < x .servers) ×
       (x .lookup i (own q c) (x .held i) ≡ none)
-  WriteLink setpoints i (Reply w) = Holds x i (own q c) (keptOf (valueWritten setpoints i))
+  WriteLink setpoints i (Reply w) = Holds x i (own q c) (sentOf setpoints i)
 
 -- State 3. The reply's number is that of the entries, one more than the last tag.
 module _ (x : World) (floor : ℕ) where
@@ -86,7 +88,7 @@ module _ (extra : ℕ) (x : World) (floor q : ℕ) (c : Client) (doing : Doing) 
     pub is : doing ≡ writing (maskIn c) setpoints begin
     pub few : countIn c < 256
     pub bound : (i : ℕ) → Masked c i → i < x .servers
-    pub all : (i : ℕ) → Masked c i → Holds x i (own q c) (keptOf (valueWritten setpoints i))
+    pub all : (i : ℕ) → Masked c i → Holds x i (own q c) (sentOf setpoints i)
 
   abbrev pub EnterLink : Content → Type 0
   EnterLink Nothing = ⊥
@@ -117,6 +119,7 @@ module _ (extra : ℕ) (x : World) (floor q : ℕ) (c : Client) (doing : Doing) 
     pub bound : (i : ℕ) → Masked c i → i < x .servers
     pub count : deliveries + toCome (c .link) ≡ enough extra (maskIn c)
     pub busy : 0 < toCome (c .link)
+    pub tags : (i : ℕ) → Masked c i → keptTagIn c i ≡ x .value (tagIn c) i .tag
     pub links : (i : ℕ) → i < targets → GetLink x c i (c .link i)
 
   pub record AskingAll : Type 0 where
@@ -147,13 +150,14 @@ module _ (extra : ℕ) (x : World) (floor q : ℕ) (c : Client) (doing : Doing) 
     pub latest : (i n : ℕ) (v : Version) → Holds x i (keyOf n q) v → n ≤ countIn c
     pub activity : Activity
 
--- At most 16 clients and servers; the key of server i at a tag is held with the value behind that tag.
+-- At most 16 clients and servers; the key of server i at a tag is held with the value behind that tag, and comes from the value's tag.
 pub record Tied (floor : ℕ → ℕ) (p : Press) (h : History) : Type 0 where
   pub method : h .extra ≡ extraOf (p .shared .method)
   pub entries : p .shared .entries ≡ suc (h .tags)
   pub room : (i : ℕ) → p .shared .held i ≤ serverPlaces
   pub value : (tag : ℕ) → tag ≤ h .tags → (i : ℕ) → i < p .shared .servers →
       world p h .lookup i (world p h .key tag i) (p .shared .held i) ≡ some (keptAt (world p h) tag i)
+  pub tags : (tag : ℕ) → tag ≤ h .tags → (i : ℕ) → latestTag (p .shared .log) i tag ≡ valueIn h tag i .tag
   pub clients : (q : ℕ) → q < 16 → ClientOk (h .extra) (world p h) (floor q) q (p .client q) (h .doing q)
 
 -- What a step of another client does to the world that client q sees.
@@ -228,6 +232,7 @@ module _ (extra floor q : ℕ) (x y : World) (g : Grown q x y) (c : Client) (d :
         bound = λ i m. rw (g .servers) (a .bound i m);
         count = a .count;
         busy = a .busy;
+        tags = λ i m. a .tags i m ∙ sym (ap (λ (v : Value). v .tag) (g .value (tagIn c) (a .high) i));
         links = λ i l. get-frame (a .high) i (c .link i) (a .links i l);
       })
   activity-frame (at-all e a) =

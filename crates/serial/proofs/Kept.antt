@@ -20,7 +20,14 @@ Does floor p h q P = P (h .extra) (world p h) (floor q) q (p .client q) (h .doin
 module _ (floor : ℕ → ℕ) (p : Press) (h : History) (tied : Tied floor p h) where
   -- a step that the row does not see
   pub passed-tied : Tied floor p (passed h)
-  passed-tied = record { method = tied .method; entries = tied .entries; room = tied .room; value = tied .value; clients = tied .clients }
+  passed-tied = record {
+    method = tied .method;
+    entries = tied .entries;
+    room = tied .room;
+    value = tied .value;
+    tags = tied .tags;
+    clients = tied .clients;
+  }
 
   -- Only client q has changed, and what it is at; the step number and the transactions begun are no part of the tie.
   abbrev moved : ℕ → ℕ → ℕ → ℕ → Client → Press
@@ -32,6 +39,7 @@ module _ (floor : ℕ → ℕ) (p : Press) (h : History) (tied : Tied floor p h)
     entries = tied .entries;
     room = tied .room;
     value = tied .value;
+    tags = tied .tags;
     clients = changed-both (λ j a b. j < 16 → ClientOk (h .extra) (world p h) (floor j) j a b) (p .client) (h .doing) q c d (λ l. ok) (λ j ne l. tied .clients j l);
   }
 
@@ -42,6 +50,7 @@ module _ (floor : ℕ → ℕ) (p : Press) (h : History) (tied : Tied floor p h)
     entries = tied .entries;
     room = tied .room;
     value = tied .value;
+    tags = tied .tags;
     clients = changed-all (p .client) q c (λ j a. j < 16 → ClientOk (h .extra) (world p h) (floor j) j a (h .doing j)) (λ l. ok) (λ j ne l. tied .clients j l);
   }
 
@@ -52,6 +61,7 @@ module _ (floor : ℕ → ℕ) (p : Press) (h : History) (tied : Tied floor p h)
     entries = tied .entries;
     room = tied .room;
     value = tied .value;
+    tags = tied .tags;
     clients = changed-three (λ j f a b. j < 16 → ClientOk (h .extra) (world p h) f j a b) floor (p .client) (h .doing) q (h .tags) c d (λ l. ok) (λ j ne l. tied .clients j l);
   }
 

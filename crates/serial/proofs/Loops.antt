@@ -13,13 +13,14 @@ use Rattle.ranges.specs.Turns.{turns, turns-keep-below}
 use Rattle.ranges.specs.Picked.{picked}
 use Rattle.ranges.specs.PickedLaws.{is-picked, not-picked}
 use Rattle.keys.specs.Masks.{hasServer}
+use Rattle.tables.specs.Rows.{HasRow}
 use Rattle.tables.specs.Layout.{clientWidth, clientWord}
 use Rattle.tables.specs.Links.{targets, HasLinks, putLink, isEmpty, ContentFits, link-same, link-other, link-length}
 use Rattle.tables.specs.declared.links.Content.{Content}
 use Rattle.tables.specs.declared.links.Content.the-variants.{Nothing, Request, Reply}
 use Rattle.tables.specs.declared.links.Link.{Link}
 use Rattle.rules.specs.Words.{keptWords}
-use Rattle.rules.specs.WordsLaws.{kept-other}
+use Rattle.rules.specs.WordsLaws.{kept-other, kept-there}
 use Rattle.rules.specs.Common.{pending}
 use Rattle.serial.proofs.Press.{within, rowOf, contentIn, linksOf, weight, toCome, sends}
 use Rattle.serial.proofs.View.{within-at, within-past, within-same, link-put-other}
@@ -67,12 +68,28 @@ module _ (q : ℕ) (w : ℕ → Content) (fits : (i : ℕ) → ContentFits (w i)
       (λ b. rw b (link-put-other xs q i (w i) (omega arith) r d ∙ e))
       (λ b. rw b e)) links refl
 
--- Words kept in a client's row leave the other clients' rows.
-pub kept-rows : (field : ℕ) (wanted : ℕ → Bool) (word : ℕ → ℕ) (q k : ℕ) (within : field + k ≤ clientWidth) (clients : List ℕ) (r : ℕ) →
-    (r ≡ q → ⊥) → rowOf (keptWords field wanted word q k clients) r ≡ rowOf clients r
-kept-rows field wanted word q k within clients r d =
-    within-same clientWidth 0 (clientWord (keptWords field wanted word q k clients) r) (clientWord clients r)
-    (λ g l. kept-other field wanted word q k within clients r g l (λ e. d (e .0)))
+-- Words kept in a client's row, from a field on.
+module _ (field : ℕ) (wanted : ℕ → Bool) (word : ℕ → ℕ) (q k : ℕ) (room : field + k ≤ clientWidth) (clients : List ℕ) where
+  abbrev kept : List ℕ
+  kept = keptWords field wanted word q k clients
+
+  -- they leave the other clients' rows
+  pub kept-rows : (r : ℕ) → (r ≡ q → ⊥) → rowOf kept r ≡ rowOf clients r
+  kept-rows r d =
+      within-same clientWidth 0 (clientWord kept r) (clientWord clients r)
+      (λ g l. kept-other field wanted word q k room clients r g l (λ e. d (e .0)))
+
+  -- and the words ahead of the field
+  pub kept-ahead : (f : ℕ) → f < field → rowOf kept q f ≡ rowOf clients q f
+  kept-ahead f l =
+      within-at clientWidth 0 (clientWord kept q) f (omega arith)
+      ∙ kept-other field wanted word q k room clients q f (omega arith) (λ e. omega (arith, e .1))
+      ∙ sym (within-at clientWidth 0 (clientWord clients q) f (omega arith))
+
+  pub kept-word : HasRow clientWidth clients q → (i : ℕ) → i < k → wanted i ≡ true → rowOf kept q (field + i) ≡ word i
+  kept-word h i l e =
+      within-at clientWidth 0 (clientWord kept q) (field + i) (omega arith)
+      ∙ kept-there field wanted word q k room clients i h l e
 
 -- Whether anything is pending is whether anything is to come.
 empty-weight : (l : Content) → isEmpty l ≡ true → weight l ≡ 0

@@ -52,11 +52,12 @@ module _ (m k p : ℕ) (setpoints : List ℕ) (t : Tables) (o : Openable m k p s
   held-few : (i : ℕ) → heldOf left i ≤ 1
   held-few i = by-test (ltb i k) (λ b. omega (arith, words .held i (ltb-true i k b))) (λ b. omega (arith, none-held i (ltb-false i k b)))
 
-  -- at tag 0 every server has the opening's key
+  -- at tag 0 every server has the opening's tag and key
+  tag-first : (i : ℕ) → latestTag (left .log) i 0 ≡ 0
+  tag-first i = omega (arith, latest-within (left .log) i 0)
+
   key-first : (i : ℕ) → latestKey (left .log) i 0 ≡ opening
-  key-first i =
-      let z : latestTag (left .log) i 0 ≡ 0 = omega (arith, latest-within (left .log) i 0) in
-      ap (λ (u : ℕ). entryKey (left .log) u) z ∙ ap keyAtWord (words .entrykey)
+  key-first i = ap (λ (u : ℕ). entryKey (left .log) u) (tag-first i) ∙ ap keyAtWord (words .entrykey)
 
   found-first : (i : ℕ) → i < k → find (left .keys) (left .values) i opening (heldOf left i) ≡ some (keptOf (valueOpened setpoints i))
   found-first i l =
@@ -96,6 +97,7 @@ module _ (m k p : ℕ) (setpoints : List ℕ) (t : Tables) (o : Openable m k p s
     value = λ tag l i h.
         let z : tag ≡ 0 = omega arith in
         rw (z, key-first i) (found-first i (rw (words .servers) at h));
+    tags = λ tag l i. let z : tag ≡ 0 = omega arith in rw (z, tag-first i);
     clients = λ q l. record {
       latest = λ i n v e. omega (arith, latest q i n v e);
       activity = at-rest (row-zero q 0 (omega arith)) (record { is = refl; links = link-none q });

@@ -9,6 +9,7 @@ use Rattle.keys.specs.declared.Key.{Key}
 use Rattle.keys.specs.Masks.{hasServer}
 use Rattle.coordinator.specs.Latest.{latestKey}
 use Rattle.tables.specs.Layout.{clientWidth, clientWord, stateField, countField, maskField, tagField, setpointsField, receivedField}
+use Rattle.tables.specs.Layout.{tagsField}
 use Rattle.tables.specs.Links.{targets, linkAt}
 use Rattle.tables.specs.Tables.{Tables, methodOf, serversOf, stepOf, entriesOf, writesOf, readsOf, heldOf}
 use Rattle.tables.specs.declared.links.Contents.{Contents}
@@ -71,6 +72,10 @@ setpointIn c i = c .row (setpointsField + i)
 
 abbrev pub receivedIn : Client → ℕ → ℕ
 receivedIn c i = c .row (receivedField + i)
+
+-- the tag that it keeps of a server
+abbrev pub keptTagIn : Client → ℕ → ℕ
+keptTagIn c i = c .row (tagsField + i)
 
 -- the tables seen so
 abbrev pub rowOf : List ℕ → ℕ → ℕ → ℕ

@@ -1,6 +1,6 @@
 -- The delivery of a reply keeps the tie and pays what it owes.
 use Prim.Native.Nat.{ℕ, suc, _+_, _-_, _*_, _≤_, _<_}
-use mathlib.Core.Path.{_≡_, refl, sym, ap, _∙_}
+use mathlib.Core.Path.{_≡_, refl, sym, ap, ap₂, _∙_}
 use mathlib.Core.Bool.{Bool, true}
 use mathlib.Core.Option.{some, Option·some-injective}
 use mathlib.Core.List.{List}
@@ -12,8 +12,8 @@ use Rattle.ranges.specs.AllLaws.{all-of, all-at}
 use Rattle.ranges.specs.LastLaws.{last-below, last-passes, last-most}
 use Rattle.keys.specs.Keys.{keyOf}
 use Rattle.keys.specs.Masks.{hasServer, serversIn}
-use Rattle.coordinator.specs.Latest.{latestKey}
-use Rattle.tables.specs.Layout.{stateField, countField, maskField, tagField, setpointsField, receivedField}
+use Rattle.coordinator.specs.Latest.{latestTag, latestKey}
+use Rattle.tables.specs.Layout.{stateField, countField, maskField, tagField, setpointsField, receivedField, tagsField}
 use Rattle.tables.specs.Links.{targets}
 use Rattle.tables.specs.declared.links.Contents.{Contents}
 use Rattle.tables.specs.declared.links.Content.{Content}
@@ -24,13 +24,13 @@ use Rattle.rules.specs.Common as rules
 use Rattle.rules.specs.Choice.{hasVersion, serves, qualifies, chosenTag, chosenSetpoint}
 use Rattle.rules.specs.declared.Arrival.the-variants as arrival
 use Rattle.serial.specs.Steps.{replied}
-use Rattle.serial.specs.History.{valueOf, valueWritten, changed, nothing, writing, tagged, History, ended}
+use Rattle.serial.specs.History.{Value, valueOf, changed, nothing, writing, tagged, History, ended}
 use Rattle.serial.proofs.Places.{changed-same, changed-other, changed-all, changed-both}
 use Rattle.serial.proofs.Owed.{valueAt}
 use Rattle.serial.proofs.HistoryKept.{value-ended}
-use Rattle.serial.proofs.Versions.{Version, versionOf, keptOf, found-place, place-found, found-more}
+use Rattle.serial.proofs.Versions.{Version, versionOf, sentOf, found-place, place-found, found-more}
 use Rattle.serial.proofs.Press.{Shared, renumbered, Client, clientOf, Press, pressOf, stateIn, countIn, maskIn, tagIn, setpointIn}
-use Rattle.serial.proofs.Press.{receivedIn, weight, toCome, sends, World, worldOf, keptAt, carried, world}
+use Rattle.serial.proofs.Press.{keptTagIn, receivedIn, weight, toCome, sends, World, worldOf, keptAt, carried, world}
 use Rattle.serial.proofs.Links.{come-changed, all-empty, no-coordinator, sends-masked, sends-other, sends-come}
 use Rattle.serial.proofs.Invariant.{Holds, WriteLink, Writing, Entering, AskingKeys, GetLink, Getting, Snapshot, AllLink, AskingAll, at-rest, at-writing, at-entering, at-getting, at-all, ClientOk, Tied, Grown, client-frame}
 use Rattle.serial.proofs.Kept.{Kept, turned-tied, moved-tied}
@@ -65,7 +65,7 @@ module _ (floor : ℕ → ℕ) (p : Press) (h : History) (tied : Tied floor p h)
       done-link : (j : ℕ) → j < targets → WriteLink x q c (a .setpoints) j (emptied j)
       done-link j l =
           changed-all (c .link) i Nothing (λ j k. j < targets → WriteLink x q c (a .setpoints) j k)
-          (λ m k. let e : Holds x i (keyOf (countIn c) q) (keptOf (valueWritten (a .setpoints) i)) = rw lk at (a .links i hi) in e)
+          (λ m k. let e : Holds x i (keyOf (countIn c) q) (sentOf (a .setpoints) i) = rw lk at (a .links i hi) in e)
           (λ j ne m. a .links j m) j l
 
       pub done-wait-kept : stateIn c ≡ rules.writing → Kept floor h (replied q i (nothingShown arrival.Wait)) (afterwards (withLink c i Nothing))
@@ -103,7 +103,7 @@ module _ (floor : ℕ → ℕ) (p : Press) (h : History) (tied : Tied floor p h)
             })),
           )
         where
-          here : (j : ℕ) → hasServer (maskIn c) j ≡ true → Holds x j (keyOf (countIn c) q) (keptOf (valueWritten (a .setpoints) j))
+          here : (j : ℕ) → hasServer (maskIn c) j ≡ true → Holds x j (keyOf (countIn c) q) (sentOf (a .setpoints) j)
           here j m =
               let l : j < targets = omega (arith, a .bound j m) in
               let e : WriteLink x q c (a .setpoints) j Nothing = rw (all-empty emptied all j l) at (done-link j l) in
@@ -111,7 +111,8 @@ module _ (floor : ℕ → ℕ) (p : Press) (h : History) (tied : Tied floor p h)
 
     -- A server's setpoint arrived.
     module _ (a : Getting (h .extra) x (floor q) q c (h .doing q)) (row : ℕ → ℕ) (count : row countField ≡ countIn c) (mask : row maskField ≡ maskIn c) (tag : row tagField ≡ tagIn c)
-        (new : row (setpointsField + i) ≡ w .number) (old : (j : ℕ) → (j ≡ i → ⊥) → row (setpointsField + j) ≡ setpointIn c j) where
+        (new : row (setpointsField + i) ≡ w .number) (old : (j : ℕ) → (j ≡ i → ⊥) → row (setpointsField + j) ≡ setpointIn c j)
+        (tags : (j : ℕ) → row (tagsField + j) ≡ keptTagIn c j) where
       abbrev got : Client
       got = clientOf row emptied
 
@@ -140,15 +141,18 @@ module _ (floor : ℕ → ℕ) (p : Press) (h : History) (tied : Tied floor p h)
             bound = λ j m. a .bound j (rw mask at m);
             count = rw mask (omega (arith, a .count, come));
             busy = left;
+            tags = λ j m. rw tag (tags j ∙ a .tags j (rw mask at m));
             links = got-link;
           });
         })),
       )
 
       -- the last one ends the READ
-      pub got-end-kept : toCome emptied ≡ 0 → row stateField ≡ idle → (shown : List ℕ) → ((j : ℕ) → hasServer (maskIn c) j ≡ true → getD shown j 0 ≡ row (setpointsField + j)) →
-          Kept floor h (replied q i (record { arrival = arrival.Read (tagIn c); setpoints = shown })) (afterwards got)
-      got-end-kept all state shown shows = (
+      pub got-end-kept : toCome emptied ≡ 0 → row stateField ≡ idle →
+          (shown : List ℕ) → ((j : ℕ) → hasServer (maskIn c) j ≡ true → getD shown j 0 ≡ row (setpointsField + j)) →
+          (from : List ℕ) → ((j : ℕ) → hasServer (maskIn c) j ≡ true → getD from j 0 ≡ row (tagsField + j)) →
+          Kept floor h (replied q i (record { arrival = arrival.Read (tagIn c); setpoints = shown; tags = from })) (afterwards got)
+      got-end-kept all state shown shows from comes = (
         record {
           mask = maskIn c;
           begin = a .begin;
@@ -156,12 +160,12 @@ module _ (floor : ℕ → ℕ) (p : Press) (h : History) (tied : Tied floor p h)
           is = a .is;
           low = a .low;
           high = a .high;
-          shows = λ j m. ap valueOf (shows j m ∙ here j m);
+          shows = λ j m. ap₂ valueOf (shows j m ∙ here j m) (comes j m ∙ tags j ∙ a .tags j m);
           count = omega (arith, a .count, come);
         },
         rw (a .is) (
             let t = turned-tied floor p h tied step writes reads q got nothing (record { latest = λ j n v e. omega (arith, okay .latest j n v e, count); activity = at-rest state (record { is = refl; links = all-empty emptied all }) }) in
-            record { method = t .method; entries = t .entries; room = t .room; value = t .value; clients = t .clients }
+            record { method = t .method; entries = t .entries; room = t .room; value = t .value; tags = t .tags; clients = t .clients }
             ),
       )
         where
@@ -251,8 +255,10 @@ module _ (floor : ℕ → ℕ) (p : Press) (h : History) (tied : Tied floor p h)
 
         pub told-end-kept : (row′ : ℕ → ℕ) → row′ stateField ≡ idle → row′ countField ≡ countIn c → (shown : List ℕ) →
             ((j : ℕ) → hasServer (maskIn c) j ≡ true → getD shown j 0 ≡ chosenSetpoint (s .keys) (s .values) (s .log) received tag j) →
-            Kept floor h (replied q i (record { arrival = arrival.Read tag; setpoints = shown })) (afterwards (clientOf row′ emptied))
-        told-end-kept row′ state count shown shows = (
+            (from : List ℕ) → ((j : ℕ) → hasServer (maskIn c) j ≡ true → getD from j 0 ≡ latestTag (s .log) j tag) →
+            Kept floor h (replied q i (record { arrival = arrival.Read tag; setpoints = shown; tags = from }))
+            (afterwards (clientOf row′ emptied))
+        told-end-kept row′ state count shown shows from comes = (
           record {
             mask = maskIn c;
             begin = a .begin;
@@ -260,12 +266,12 @@ module _ (floor : ℕ → ℕ) (p : Press) (h : History) (tied : Tied floor p h)
             is = a .is;
             low = low;
             high = high;
-            shows = λ j m. ap valueOf (shows j m ∙ chosen-value j m);
+            shows = λ j m. ap₂ valueOf (shows j m ∙ chosen-value j m) (comes j m ∙ tied .tags tag high j);
             count = omega (arith, a .count, come);
           },
           rw (a .is) (
               let t = turned-tied floor p h tied step writes reads q (clientOf row′ emptied) nothing (record { latest = λ j n v e. omega (arith, okay .latest j n v e, count); activity = at-rest state (record { is = refl; links = all-empty emptied all }) }) in
-              record { method = t .method; entries = t .entries; room = t .room; value = t .value; clients = t .clients }
+              record { method = t .method; entries = t .entries; room = t .room; value = t .value; tags = t .tags; clients = t .clients }
               ),
         )
 
@@ -284,6 +290,9 @@ module _ (floor : ℕ → ℕ) (p : Press) (h : History) (tied : Tied floor p h)
           entries = tied .entries;
           room = tied .room;
           value = λ tag l j k. rw (value-ended (h .initial) (h .write) (w .number) (h .clock) tag j) (tied .value tag l j k);
+          tags = λ tag l j.
+              tied .tags tag l j
+              ∙ ap (λ (v : Value). v .tag) (sym (value-ended (h .initial) (h .write) (w .number) (h .clock) tag j));
           clients = changed-both (λ j b d. j < 16 → ClientOk (h .extra) y (floor j) j b d) (p .client) (h .doing) q new nothing
               (λ l. record { latest = λ j n v e. omega (arith, okay .latest j n v e, count); activity = at-rest state (record { is = refl; links = λ j k. coordinator-empty j k (a .others) }) })
               (λ j ne l. client-frame (h .extra) (floor j) j x y (grown j) (p .client j) (h .doing j) (tied .clients j l));
@@ -311,8 +320,9 @@ module _ (floor : ℕ → ℕ) (p : Press) (h : History) (tied : Tied floor p h)
   -- B: the keys arrived, and each server of the mask is asked for its own at the tag.
   pub keys-kept : (w : Contents) → c .link coordinator ≡ Reply w → AskingKeys (h .extra) x (floor q) q c (h .doing q) →
       (row : ℕ → ℕ) → row stateField ≡ askingSetpoints → row countField ≡ countIn c → row maskField ≡ maskIn c → row tagField ≡ w .number - 1 →
+      ((j : ℕ) → hasServer (maskIn c) j ≡ true → row (tagsField + j) ≡ latestTag (s .log) j (w .number - 1)) →
       Kept floor h (replied q coordinator (nothingShown arrival.Next)) (afterwards (clientOf row (sends (maskIn c) (λ i. request (latestKey (s .log) i (w .number - 1)) 0))))
-  keys-kept w lk a row state count mask tag =
+  keys-kept w lk a row state count mask tag tags =
       let keys : (a .deliveries ≡ 1) × (floor q < w .number) × (w .number ≤ suc (h .tags)) = rw lk at (a .keys) in
       let gets : ℕ → Content = λ i. request (latestKey (s .log) i (w .number - 1)) 0 in
       let total : toCome (sends (maskIn c) gets) ≡ 2 * serversIn (maskIn c) = sends-come (maskIn c) gets (λ i. refl) (no-coordinator (maskIn c) (s .servers) few (a .bound)) in (
@@ -328,6 +338,7 @@ module _ (floor : ℕ → ℕ) (p : Press) (h : History) (tied : Tied floor p h)
             bound = λ j m. a .bound j (rw mask at m);
             count = rw mask (omega (arith, total, a .two, keys .0));
             busy = omega (arith, total, a .some);
+            tags = λ j m. rw tag (tags j (rw mask at m) ∙ tied .tags (w .number - 1) (omega (arith, keys .2)) j);
             links = λ j l. by-test (hasServer (maskIn c) j)
                 (λ e. rw (sends-masked (maskIn c) gets j e, tag) (tied .value (w .number - 1) (omega (arith, keys .2)) j (a .bound j e)))
                 (λ e. rw (sends-other (maskIn c) gets j e) (λ m. absurd (not-both (rw mask at m) e)));

@@ -1,7 +1,7 @@
 -- The delivery of a reply, on the tables.
 use Prim.Native.Nat.{ℕ, suc, _+_, _-_, _≤_, _<_}
 use mathlib.Core.Path.{_≡_, refl, sym, ap, ap₂, _∙_, subst}
-use mathlib.Core.Bool.{true, false}
+use mathlib.Core.Bool.{Bool, true, false}
 use mathlib.Core.List.{List}
 use native.Mathlib.Omega.{arith}
 use native.Mathlib.Numerals.{add-one}
@@ -9,22 +9,24 @@ use lib.ListN.{getD, length}
 use Rattle.ranges.specs.Tests.{by-equal, by-test}
 use Rattle.keys.specs.Keys.{keyOf, FitsByte, at-word-fits}
 use Rattle.keys.specs.Masks.{hasServer}
-use Rattle.coordinator.specs.Latest.{latestKey}
+use Rattle.coordinator.specs.Latest.{latestKey, latestTagAt}
 use Rattle.tables.specs.Rows.{HasRow, word-same, word-other, word-length}
-use Rattle.tables.specs.Layout.{clientWidth, clientWord, putClientWord, stateField, countField, maskField, tagField, setpointsField, receivedField}
+use Rattle.tables.specs.Layout.{clientWidth, clientWord, putClientWord, stateField, countField, maskField, tagField, setpointsField}
+use Rattle.tables.specs.Layout.{receivedField, tagsField}
 use Rattle.tables.specs.Links.{targets, HasLinks, linkAt, putLink, link-length}
 use Rattle.tables.specs.Tables.{Tables, tablesOf, serversOf, stepOf, writesOf, readsOf, stateOf, countOf, maskOf, recordOf, contentAt}
 use Rattle.tables.specs.declared.links.Contents.{Contents}
 use Rattle.tables.specs.declared.links.Content.{Content}
 use Rattle.tables.specs.declared.links.Content.the-variants.{Nothing, Request, Reply}
 use Rattle.rules.specs.Answers.{Arrived, arrived, nothingShown}
-use Rattle.rules.specs.Words.{every}
-use Rattle.rules.specs.WordsLaws.{kept-other, kept-length, kept-there, shown-at}
+use Rattle.rules.specs.Words.{every, shownWords}
+use Rattle.rules.specs.WordsLaws.{kept-other, kept-length, kept-there, laid-at, shown-at}
 use Rattle.rules.specs.Common.{idle, entering, askingKeys, askingSetpoints, askingAll, coordinator, request, counted, nextStep, pending, endedRecord, taggedRecord}
 use Rattle.rules.specs.Common as rules
-use Rattle.rules.specs.Begin.{sentGets}
-use Rattle.rules.specs.Reply.{said, emptied, shownSetpoints, readShown, onSetDone, onEntered, onKeys, gotSetpoint, onGot, gotNumber}
-use Rattle.rules.specs.Reply.{receivedIn, setpointAt, keptSetpoints, forgotten, tagChosen, concluded, onAll}
+use Rattle.rules.specs.Begin.{sentGets, keptTags}
+use Rattle.rules.specs.Reply.{said, emptied, shownSetpoints, shownTags, readShown, onSetDone, onEntered, onKeys, gotSetpoint, onGot}
+use Rattle.rules.specs.Reply.{gotNumber}
+use Rattle.rules.specs.Reply.{receivedIn, setpointAt, keptSetpoints, forgotten, tagChosen, concluded, chosenTags, onAll}
 use Rattle.rules.specs.Reply.{onReplyIn, onReply, replyDelivered}
 use Rattle.rules.specs.declared.Delivered.{Delivered}
 use Rattle.rules.specs.declared.Arrival.the-variants as arrival
@@ -39,7 +41,7 @@ use Rattle.serial.proofs.Links.{come-changed, all-empty, no-coordinator
 use Rattle.serial.proofs.Budget.{Budget, no-rest}
 use Rattle.serial.proofs.Spending.{further, done-budget, last-budget}
 use Rattle.serial.proofs.Fair.{Standing, Fair}
-use Rattle.serial.proofs.Loops.{sent-links, sent-others, kept-rows, pending-come, none-come}
+use Rattle.serial.proofs.Loops.{sent-links, sent-others, kept-rows, kept-ahead, kept-word, pending-come, none-come}
 use Rattle.serial.proofs.Ready.{Ready, few, in-range, has-row, has-link, has-links, row-at, link-at, not-empty, at-coordinator}
 use Rattle.serial.proofs.Invariant.{Writing, Entering, AskingKeys, Getting, AskingAll, Activity, at-rest, at-writing, at-entering, at-keys, at-getting, at-all, Tied}
 use Rattle.serial.proofs.Kept.{Kept, Does, passed-tied}
@@ -188,32 +190,64 @@ module _ (floor : ℕ → ℕ) (t : Tables) (h : History) (s : Standing floor t 
     mask-at : maskIn c ≡ maskOf t q
     mask-at = row-at t q maskField (omega arith)
 
-    -- B: the keys arrived
+    -- B: the keys arrived, and with them the tags that they come from
     keys-fair : stateIn c ≡ askingKeys → Does floor (view t) h q AskingKeys → Okay (onKeys w q i t)
     unfolding onKeys
     keys-fair state a =
         let at = at-coordinator (c .link) i hi link (omega arith) (a .others) in
         let there : c .link coordinator ≡ Reply w = ap (c .link) (sym at) ∙ link in
-        moved-fair (putClientWord (putClientWord (t .clients) q tagField (w .number - 1)) q stateField askingSetpoints) (sentGets q (maskOf t q) (t .log) (w .number - 1) (serversOf t) (emptied q i t)) (t .writes) (t .reads) (nothingShown arrival.Next)
-        (two-words tagField (w .number - 1) stateField askingSetpoints (omega arith) (omega arith)) (two-others tagField (w .number - 1) stateField askingSetpoints (omega arith) (omega arith))
+        moved-fair clients′ (sentGets q (maskOf t q) (t .log) tag (serversOf t) (emptied q i t))
+        (t .writes) (t .reads) (nothingShown arrival.Next)
+        refl
+        (λ r d. kept-rows tagsField wanted (latestTagAt (t .log) tag) q (serversOf t) room turned r d
+        ∙ two-others tagField tag stateField askingSetpoints (omega arith) (omega arith) r d)
         (sent-links q gets (λ j. at-word-fits _) (maskOf t q) (serversOf t) (omega (arith, few t q ready)) bound (emptied q i t) long (empty at) ∙ ap (λ (m : ℕ). sends m gets) (sym mask-at))
         (λ r d. sent-others q gets (λ j. at-word-fits _) (maskOf t q) (serversOf t) (omega (arith, few t q ready)) bound (emptied q i t) long (empty at) r d ∙ gone-others r d) (λ z. omega arith) refl
-        (keys-kept floor (view t) h tied (few t q ready) q (in-range t q ready) (stepOf t + 1) (writesOf t) (readsOf t) w there a (changed (changed (c .row) tagField (w .number - 1)) stateField askingSetpoints)
-        (changed-same (changed (c .row) tagField (w .number - 1)) stateField askingSetpoints)
-        (left-by tagField (w .number - 1) stateField askingSetpoints countField (λ e. omega arith) (λ e. omega arith))
-        (left-by tagField (w .number - 1) stateField askingSetpoints maskField (λ e. omega arith) (λ e. omega arith))
-        (changed-other (changed (c .row) tagField (w .number - 1)) stateField askingSetpoints tagField (λ e. omega arith) ∙ changed-same (c .row) tagField (w .number - 1)))
+        (keys-kept floor (view t) h tied (few t q ready) q (in-range t q ready) (stepOf t + 1) (writesOf t) (readsOf t) w there a
+        (rowOf clients′ q) asked-state
+        (word countField (omega arith) ∙ left-by tagField tag stateField askingSetpoints countField (λ e. omega arith) (λ e. omega arith))
+        (word maskField (omega arith) ∙ left-by tagField tag stateField askingSetpoints maskField (λ e. omega arith) (λ e. omega arith))
+        (word tagField (omega arith) ∙ changed-other (changed (c .row) tagField tag) stateField askingSetpoints tagField (λ e. omega arith)
+        ∙ changed-same (c .row) tagField tag)
+        (λ j m. kept-word tagsField wanted (latestTagAt (t .log) tag) q (serversOf t) room turned turned-has
+        j (a .bound j m) (rw mask-at at m)))
         (further (view t) budget q (in-range t q ready) asked askingSetpoints asked-state (λ e. omega arith) (λ e. omega arith)
         (rw state (omega (arith, no-rest asked askingSetpoints asked-state (λ e. omega arith) (λ e. omega arith), sends-come (maskIn c) gets (λ j. refl) (no-coordinator (maskIn c) (serversOf t) (few t q ready) (a .bound)), gone-come))))
       where
+        tag : ℕ
+        tag = w .number - 1
+
+        wanted : ℕ → Bool
+        wanted = hasServer (maskOf t q)
+
+        -- the row with its tag and state, and then with the tags of the wanted servers
+        turned : List ℕ
+        turned = putClientWord (putClientWord (t .clients) q tagField tag) q stateField askingSetpoints
+
+        clients′ : List ℕ
+        clients′ = keptTags q (maskOf t q) (t .log) tag (serversOf t) turned
+
+        room : tagsField + serversOf t ≤ clientWidth
+        room = omega (arith, few t q ready)
+
+        turned-has : HasRow clientWidth turned q
+        turned-has =
+            let one = putClientWord (t .clients) q tagField tag in
+            rw (word-length clientWidth one q stateField askingSetpoints, word-length clientWidth (t .clients) q tagField tag) (has-row t q ready)
+
+        word : (f : ℕ) → f < tagsField → rowOf clients′ q f ≡ changed (changed (c .row) tagField tag) stateField askingSetpoints f
+        word f l =
+            kept-ahead tagsField wanted (latestTagAt (t .log) tag) q (serversOf t) room turned f l
+            ∙ ap (λ (row : ℕ → ℕ). row f) (two-words tagField tag stateField askingSetpoints (omega arith) (omega arith))
+
         gets : ℕ → Content
-        gets j = request (latestKey (t .log) j (w .number - 1)) 0
+        gets j = request (latestKey (t .log) j tag) 0
 
         asked : Client
-        asked = clientOf (changed (changed (c .row) tagField (w .number - 1)) stateField askingSetpoints) (sends (maskIn c) gets)
+        asked = clientOf (rowOf clients′ q) (sends (maskIn c) gets)
 
         asked-state : stateIn asked ≡ askingSetpoints
-        asked-state = changed-same (changed (c .row) tagField (w .number - 1)) stateField askingSetpoints
+        asked-state = word stateField (omega arith) ∙ changed-same (changed (c .row) tagField tag) stateField askingSetpoints
 
         bound : (j : ℕ) → hasServer (maskOf t q) j ≡ true → j < serversOf t
         bound j m = a .bound j (rw mask-at m)
@@ -237,18 +271,22 @@ module _ (floor : ℕ → ℕ) (t : Tables) (h : History) (s : Standing floor t 
         (got-wait-kept floor (view t) h tied (few t q ready) q (in-range t q ready) (stepOf t + 1) (writesOf t) (readsOf t) i hi w link a row
         (other-word countField (λ e. omega arith)) (other-word maskField (λ e. omega arith)) (other-word tagField (λ e. omega arith))
         (changed-same (c .row) (setpointsField + i) (w .number)) (λ j d. other-word (setpointsField + j) (λ e. d (omega arith)))
+        (λ j. other-word (tagsField + j) (λ e. omega arith))
         (come b) (other-word stateField (λ e. omega arith) ∙ state))
         (gone-budget row askingSetpoints (other-word stateField (λ e. omega arith) ∙ state) (λ e. omega arith) (λ e. omega arith) (λ e. omega arith))
         ))
         (λ b. rw (b, ← row-at t q tagField (omega arith)) (
         moved-fair (putClientWord (gotSetpoint w q i t) q stateField idle) (emptied q i t) (t .writes)
-        (endedRecord (recordOf t q) (nextStep t) (taggedRecord (recordOf t q) (tagIn c) (t .reads))) (readShown (tagIn c) (gotSetpoint w q i t) q (maskOf t q))
+        (endedRecord (recordOf t q) (nextStep t) (taggedRecord (recordOf t q) (tagIn c) (t .reads)))
+        (readShown (tagIn c) (shownTags (gotSetpoint w q i t) q (maskOf t q)) (gotSetpoint w q i t) q (maskOf t q))
         (two-words (setpointsField + i) (w .number) stateField idle (omega arith) (omega arith)) (two-others (setpointsField + i) (w .number) stateField idle (omega arith) (omega arith)) gone-links gone-others (λ z. omega arith) refl
         (got-end-kept floor (view t) h tied (few t q ready) q (in-range t q ready) (stepOf t + 1) (writesOf t) (readsOf t) i hi w link a ended
         (ended-word countField (λ e. omega arith) (λ e. omega arith)) (ended-word maskField (λ e. omega arith) (λ e. omega arith)) (ended-word tagField (λ e. omega arith) (λ e. omega arith))
         (changed-other row stateField idle (setpointsField + i) (λ e. omega arith) ∙ changed-same (c .row) (setpointsField + i) (w .number)) (λ j d. ended-word (setpointsField + j) (λ e. d (omega arith)) (λ e. omega arith))
+        (λ j. ended-word (tagsField + j) (λ e. omega arith) (λ e. omega arith))
         (none-left b) (changed-same row stateField idle)
-        (shownSetpoints (gotSetpoint w q i t) q (maskOf t q)) shows)
+        (shownSetpoints (gotSetpoint w q i t) q (maskOf t q)) (λ j m. shows setpointsField (omega arith) (omega arith) j m)
+        (shownTags (gotSetpoint w q i t) q (maskOf t q)) (λ j m. shows tagsField (omega arith) (omega arith) j m))
         (gone-budget ended idle (changed-same row stateField idle) (λ e. omega arith) (λ e. omega arith) (λ e. omega arith))
         ))
       where
@@ -264,13 +302,15 @@ module _ (floor : ℕ → ℕ) (t : Tables) (h : History) (s : Standing floor t 
         ended-word : (x : ℕ) → (x ≡ setpointsField + i → ⊥) → (x ≡ stateField → ⊥) → ended x ≡ c .row x
         ended-word x d e = left-by (setpointsField + i) (w .number) stateField idle x d e
 
-        shows : (j : ℕ) → hasServer (maskIn c) j ≡ true → getD (shownSetpoints (gotSetpoint w q i t) q (maskOf t q)) j 0 ≡ ended (setpointsField + j)
-        shows j m =
+        -- what is shown of the words from a field on: the setpoints, and the tags
+        shows : (field : ℕ) → stateField < field → field + 16 ≤ clientWidth →
+            (j : ℕ) → hasServer (maskIn c) j ≡ true → getD (shownWords field (gotSetpoint w q i t) q (maskOf t q)) j 0 ≡ ended (field + j)
+        shows field behind fits j m =
             let l : j < 16 = omega (arith, a .bound j m, few t q ready) in
-            shown-at setpointsField (gotSetpoint w q i t) q (maskOf t q) j l (rw mask-at at m)
-            ∙ sym (within-at clientWidth 0 (clientWord (gotSetpoint w q i t) q) (setpointsField + j) (omega arith))
-            ∙ ap (λ (f : ℕ → ℕ). f (setpointsField + j)) (one-word (setpointsField + i) (w .number) (omega arith))
-            ∙ sym (changed-other row stateField idle (setpointsField + j) (λ e. omega arith))
+            shown-at field (gotSetpoint w q i t) q (maskOf t q) j l (rw mask-at at m)
+            ∙ sym (within-at clientWidth 0 (clientWord (gotSetpoint w q i t) q) (field + j) (omega arith))
+            ∙ ap (λ (f : ℕ → ℕ). f (field + j)) (one-word (setpointsField + i) (w .number) (omega arith))
+            ∙ sym (changed-other row stateField idle (field + j) (λ e. omega arith))
 
     -- C: how much a server or the coordinator holds arrived
     all-fair : stateIn c ≡ askingAll → Does floor (view t) h q AskingAll → Okay (onAll w q i t)
@@ -286,10 +326,12 @@ module _ (floor : ℕ → ℕ) (t : Tables) (h : History) (s : Standing floor t 
         ))
         (λ b. rw b (
         moved-fair (putClientWord (concluded tag told q t) q stateField idle) (emptied q i t) (t .writes)
-        (endedRecord (recordOf t q) (nextStep t) (taggedRecord (recordOf t q) tag (t .reads))) (readShown tag (concluded tag told q t) q (maskOf t q))
+        (endedRecord (recordOf t q) (nextStep t) (taggedRecord (recordOf t q) tag (t .reads)))
+        (readShown tag from (concluded tag told q t) q (maskOf t q))
         refl ended-others gone-links gone-others (λ z. omega arith) refl
         (told-end-kept floor (view t) h tied (few t q ready) q (in-range t q ready) (stepOf t + 1) (writesOf t) (readsOf t) i hi w link a row (other-word maskField (λ e. omega arith)) new old
-        (none-left b) (receivedIn told q) same (rowOf (putClientWord (concluded tag told q t) q stateField idle) q) ended-state ended-count (shownSetpoints (concluded tag told q t) q (maskOf t q)) shows)
+        (none-left b) (receivedIn told q) same (rowOf (putClientWord (concluded tag told q t) q stateField idle) q) ended-state ended-count
+        (shownSetpoints (concluded tag told q t) q (maskOf t q)) shows from comes)
         (gone-budget (rowOf (putClientWord (concluded tag told q t) q stateField idle) q) idle ended-state (λ e. omega arith) (λ e. omega arith) (λ e. omega arith))
         ))
       where
@@ -319,6 +361,14 @@ module _ (floor : ℕ → ℕ) (t : Tables) (h : History) (s : Standing floor t 
 
         value : ℕ → ℕ
         value = setpointAt tag told q t
+
+        -- the tags shown with the setpoints
+        from : List ℕ
+        from = chosenTags (t .log) (maskOf t q) (serversOf t) tag
+
+        comes : (j : ℕ) → hasServer (maskIn c) j ≡ true → getD from j 0 ≡ latestTagAt (t .log) tag j
+        comes j m =
+            laid-at (hasServer (maskOf t q)) (latestTagAt (t .log) tag) (serversOf t) j (few t q ready) (a .bound j m) (rw mask-at at m)
 
         -- the row at the end: setpoints at the tag, then the n forgotten, then the tag and the state
         kept : List ℕ

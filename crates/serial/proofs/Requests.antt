@@ -10,8 +10,9 @@ use Rattle.ranges.specs.Tests.{by-equal, by-test}
 use Rattle.keys.specs.declared.Key.{Key}
 use Rattle.keys.specs.Keys.{keyOf, keyWord, FitsByte}
 use Rattle.keys.specs.Masks.{hasServer}
-use Rattle.coordinator.specs.Latest.{latestKey}
-use Rattle.coordinator.specs.LatestLaws.{latest-here, latest-before, latest-key-kept}
+use Rattle.coordinator.specs.declared.Latest.{Latest}
+use Rattle.coordinator.specs.Latest.{latestTag, latestKey, entryAt, latestOf}
+use Rattle.coordinator.specs.LatestLaws.{latest-here, latest-before, latest-tag-kept, latest-key-kept}
 use Rattle.tables.specs.Rows.{HasRow}
 use Rattle.tables.specs.Layout.{serverPlaces, putVersionWord, entryWidth, entryMask, putEntry}
 use Rattle.tables.specs.Entries.{entry-key-same, entry-mask-same}
@@ -23,12 +24,12 @@ use Rattle.rules.specs.Common.{entering, askingKeys, askingSetpoints, askingAll
 use Rattle.rules.specs.Common as rules
 use Rattle.rules.specs.declared.Answer.the-variants.{Ok}
 use Rattle.serial.specs.Steps.{requested}
-use Rattle.serial.specs.History.{valueWritten, atCoordinator, changed, Transaction, writeOf, writing, tagged, reading, History}
+use Rattle.serial.specs.History.{Value, valueWritten, atCoordinator, changed, Transaction, writeOf, writing, tagged, reading, History}
 use Rattle.serial.specs.Claim.{enough}
 use Rattle.serial.proofs.Places.{changed-same, changed-other, changed-all, changed-both}
 use Rattle.serial.proofs.Owed.{valueAt, valueIn}
 use Rattle.serial.proofs.HistoryKept.{value-before}
-use Rattle.serial.proofs.Versions.{keptOf, find-before, find-more, find-new, find-other}
+use Rattle.serial.proofs.Versions.{sentOf, find-before, find-more, find-new, find-other}
 use Rattle.serial.proofs.Press.{Shared, renumbered, Client, clientOf, Press, pressOf, stateIn, countIn, maskIn, tagIn, weight}
 use Rattle.serial.proofs.Press.{toCome, World, worldOf, keptAt, carried, world}
 use Rattle.serial.proofs.Links.{come-changed, come-some}
@@ -95,7 +96,7 @@ module _ (floor : ℕ → ℕ) (p : Press) (h : History) (tied : Tied floor p h)
     y = worldOf s′ (h .tags) (valueIn h)
 
     link :
-        (w .key ≡ keyOf (countIn c) q) × (carried w ≡ keptOf (valueWritten (a .setpoints) i)) × (i < s .servers) ×
+        (w .key ≡ keyOf (countIn c) q) × (carried w ≡ sentOf (a .setpoints) i) × (i < s .servers) ×
         (x .lookup i (keyOf (countIn c) q) (x .held i) ≡ none)
     link = rw lk at (a .links i hi)
 
@@ -138,7 +139,7 @@ module _ (floor : ℕ → ℕ) (p : Press) (h : History) (tied : Tied floor p h)
         go (Request w) k = (k .0, k .1, k .2, same ∙ k .3)
         go (Reply w) k = same ∙ k
 
-    here : y .lookup i (keyOf (countIn c) q) (y .held i) ≡ some (keptOf (valueWritten (a .setpoints) i))
+    here : y .lookup i (keyOf (countIn c) q) (y .held i) ≡ some (sentOf (a .setpoints) i)
     here =
         rw (changed-same (s .held) i (suc (s .held i)), ← link .1)
         (find-new (s .keys) (s .values) i (s .held i) word (w .number) keyed valued room (keyOf (countIn c) q) word-is (link .3))
@@ -165,6 +166,7 @@ module _ (floor : ℕ → ℕ) (p : Press) (h : History) (tied : Tied floor p h)
             entries = tied .entries;
             room = changed-all (s .held) i (suc (s .held i)) (λ j n. n ≤ serverPlaces) room (λ j ne. tied .room j);
             value = λ tag l j k. find-more (s .keys) (s .values) i (s .held i) word (w .number) keyed valued room j _ (s .held j) (y .held j) _ (same-place j) (tied .room j) (held-more j) (tied .value tag l j k);
+            tags = tied .tags;
             clients = changed-all (p .client) q (withLink c i (reply 0)) (λ j b. j < 16 → ClientOk (h .extra) y (floor j) j b (h .doing j)) (λ l. mine)
                 (λ j ne l. client-frame (h .extra) (floor j) j x y (grown j l ne) (p .client j) (h .doing j) (tied .clients j l));
           },
@@ -178,7 +180,7 @@ module _ (floor : ℕ → ℕ) (p : Press) (h : History) (tied : Tied floor p h)
     s″ = entryMore s (w .key) (w .number)
 
     abbrev new : Transaction
-    new = writeOf q (maskIn c) (valueWritten (b .setpoints)) (suc (h .tags)) (b .begin) none
+    new = writeOf q (maskIn c) (valueWritten (suc (h .tags)) (b .setpoints)) (suc (h .tags)) (b .begin) none
 
     abbrev write′ : ℕ → Transaction
     write′ = changed (h .write) (suc (h .tags)) new
@@ -200,15 +202,25 @@ module _ (floor : ℕ → ℕ) (p : Press) (h : History) (tied : Tied floor p h)
     mask-new : entryMask (s″ .log) (s .entries) ≡ w .number
     mask-new = entry-mask-same (s .log) (s .entries) (w .key) (w .number) logged
 
+    found-masked : (i : ℕ) → hasServer (w .number) i ≡ true → latestOf (s″ .log) i (s .entries) ≡ entryAt (s″ .log) (s .entries)
+    found-masked i e = ap (entryAt (s″ .log)) (sym (latest-here (s″ .log) i (s .entries) (sym mask-new) refl e))
+
+    found-other : (i : ℕ) → hasServer (w .number) i ≡ false → latestOf (s″ .log) i (s .entries) ≡ latestOf (s″ .log) i (h .tags)
+    found-other i e =
+        let t : s .entries - 1 ≡ h .tags = omega (arith, tied .entries) in
+        let before = latest-before (s″ .log) i (s .entries) (sym mask-new) refl (λ y. omega (arith, tied .entries)) e in
+        ap (entryAt (s″ .log)) (sym before ∙ ap (latestTag (s″ .log) i) t)
+
     key-masked : (i : ℕ) → hasServer (w .number) i ≡ true → z .key (s .entries) i ≡ w .key
-    key-masked i e = sym (latest-here (s″ .log) i (s .entries) (sym mask-new) refl e (sym (entry-key-same (s .log) (s .entries) (w .key) (w .number) logged fits)))
+    key-masked i e =
+        ap (λ (y : Latest). y .key) (found-masked i e)
+        ∙ entry-key-same (s .log) (s .entries) (w .key) (w .number) logged fits
 
     key-other : (i : ℕ) → hasServer (w .number) i ≡ false → z .key (s .entries) i ≡ z .key (h .tags) i
-    key-other i e =
-        let t : s .entries - 1 ≡ h .tags = omega (arith, tied .entries) in
-        sym (latest-before (s″ .log) i (s .entries) (sym mask-new) refl (λ y. omega (arith, tied .entries)) e (ap (λ (u : ℕ). latestKey (s″ .log) i u) (sym t)))
+    key-other i e = ap (λ (y : Latest). y .key) (found-other i e)
 
-    value-new : (i : ℕ) → z .value (suc (h .tags)) i ≡ cond (hasServer (maskIn c) i) (valueWritten (b .setpoints) i) (z .value (h .tags) i)
+    value-new : (i : ℕ) → z .value (suc (h .tags)) i ≡
+        cond (hasServer (maskIn c) i) (valueWritten (suc (h .tags)) (b .setpoints) i) (z .value (h .tags) i)
     unfolding valueAt
     value-new i = rw (changed-same (h .write) (suc (h .tags)) new)
 
@@ -223,6 +235,25 @@ module _ (floor : ℕ → ℕ) (p : Press) (h : History) (tied : Tied floor p h)
         by-equal tag (suc (h .tags))
         (λ e. rw e (ap (λ (u : ℕ). z .lookup i (z .key u i) (s .held i)) (sym (tied .entries)) ∙ held-new i k))
         (λ d. rw (old-key tag (omega arith) i, old-value tag (omega arith) i) (tied .value tag (omega arith) i k))
+
+    -- the tag found is that of the value: the WRITE's own for its servers
+    old-tag : (tag : ℕ) → tag ≤ h .tags → (i : ℕ) → latestTag (s″ .log) i tag ≡ z .value tag i .tag
+    old-tag tag l i =
+        latest-tag-kept (s .log) (s .entries) (w .key) (w .number) i tag (omega (arith, tied .entries))
+        ∙ tied .tags tag l i
+        ∙ ap (λ (v : Value). v .tag) (sym (old-value tag l i))
+
+    new-tag : (i : ℕ) → latestTag (s″ .log) i (s .entries) ≡ z .value (suc (h .tags)) i .tag
+    new-tag i =
+        by-test (hasServer (maskIn c) i)
+        (λ e. rw (value-new i, e) (ap (λ (y : Latest). y .tag) (found-masked i (rw mask-is e)) ∙ tied .entries))
+        (λ e. rw (value-new i, e) (ap (λ (y : Latest). y .tag) (found-other i (rw mask-is e)) ∙ old-tag (h .tags) (omega arith) i))
+
+    all-tags : (tag : ℕ) → tag ≤ suc (h .tags) → (i : ℕ) → latestTag (s″ .log) i tag ≡ z .value tag i .tag
+    all-tags tag l i =
+        by-equal tag (suc (h .tags))
+        (λ e. rw e (ap (λ (u : ℕ). latestTag (s″ .log) i u) (sym (tied .entries)) ∙ new-tag i))
+        (λ d. old-tag tag (omega arith) i)
 
     entry-grown : (r : ℕ) → Grown r x z
     entry-grown r = record {
@@ -244,6 +275,7 @@ module _ (floor : ℕ → ℕ) (p : Press) (h : History) (tied : Tied floor p h)
         entries = ap suc (tied .entries);
         room = tied .room;
         value = held-all;
+        tags = all-tags;
         clients = changed-both (λ j k d. j < 16 → ClientOk (h .extra) z (floor j) j k d) (p .client) (h .doing) q (withLink c coordinator (reply (s .entries))) (tagged (suc (h .tags)))
             (λ l. record {
               latest = okay .latest;
@@ -308,6 +340,7 @@ module _ (floor : ℕ → ℕ) (p : Press) (h : History) (tied : Tied floor p h)
           bound = a .bound;
           count = omega (arith, a .count, come);
           busy = left;
+          tags = a .tags;
           links = λ j l. changed-all (c .link) i (reply v) (λ j k. j < targets → GetLink x c j k) (λ m. refl) (λ j ne m. a .links j m) j l;
         });
       })

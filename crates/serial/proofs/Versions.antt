@@ -5,6 +5,7 @@ use mathlib.Core.Bool.{false, cond}
 use mathlib.Core.Option.{Option, none, some, Option·none-ne-some, Option·some-injective}
 use mathlib.Core.List.{List}
 use native.Mathlib.Omega.{arith}
+use lib.ListN.{getD}
 use lib.Dec.{eqb, ltb}
 use borrow.Author.Tests.{eq-eqb, ne-eqb, lt-ltb, ltb-true, ltb-false}
 use Rattle.ranges.specs.Tests.{by-equal, by-test, not-both}
@@ -25,6 +26,10 @@ versionOf setpoint = record { setpoint = setpoint }
 
 abbrev pub keptOf : Value → Version
 keptOf value = versionOf (value .setpoint)
+
+-- what is kept of a WRITE's value: the tag, which it does not have yet, is no part of it
+abbrev pub sentOf : List ℕ → ℕ → Version
+sentOf setpoints i = versionOf (getD setpoints i 0)
 
 -- at a place of the table
 abbrev pub versionAt : List ℕ → ℕ → ℕ → Version

@@ -1,6 +1,6 @@
 -- The fields of the claim, one by one, real time by kind of pair; and a test of each, which decides it for what was played.
 use Prim.Native.Nat.{ℕ, zero, suc, _+_, _^_, _≤_, _<_}
-use mathlib.Core.Path.{_≡_, refl, sym, ap, subst, _∙_}
+use mathlib.Core.Path.{_≡_, refl, sym, ap, ap₂, subst, _∙_}
 use mathlib.Core.Bool.{Bool, true, false}
 use mathlib.Core.Option.{Option, none, some, Option·none-ne-some, Option·some-injective}
 use mathlib.Core.List.{List, [], _∷_}
@@ -109,9 +109,9 @@ in-mask mask i e =
 
 abbrev sameValue : (v w : Value) → Test (v ≡ w)
 sameValue v w =
-    meaning (equal (v .setpoint) (w .setpoint))
-    (λ e. ap valueOf e)
-    (λ e. ap (λ (u : Value). u .setpoint) e)
+    meaning (both (equal (v .setpoint) (w .setpoint)) (equal (v .tag) (w .tag)))
+    (λ e. ap₂ valueOf (e .0) (e .1))
+    (λ e. (ap (λ (u : Value). u .setpoint) e, ap (λ (u : Value). u .tag) e))
 
 abbrev shows : (values : ℕ → Value) (x : Transaction) → Test (Shows values x)
 shows values x =

@@ -18,24 +18,25 @@ use Rattle.serial.specs.Steps.{Event, opened, begun-write, begun-read, r
 unfoldable pub changed : {A : Type 0} → (ℕ → A) → ℕ → A → ℕ → A
 changed f i a j = cond (eqb j i) a (f j)
 
--- What a station has at a place of the row.
+-- What a station has at a place of the row: a setpoint, and the tag of the WRITE that put it there.
 pub record Value : Type 0 where
   pub setpoint : ℕ
+  pub tag : ℕ
 
-abbrev pub valueOf : ℕ → Value
-valueOf setpoint = record { setpoint = setpoint }
+abbrev pub valueOf : ℕ → ℕ → Value
+valueOf setpoint tag = record { setpoint = setpoint; tag = tag }
 
--- "at first the opening's"
+-- "at first the opening's", whose tag is 0
 abbrev pub valueOpened : List ℕ → ℕ → Value
-valueOpened setpoints i = valueOf (getD setpoints i 0)
+valueOpened setpoints i = valueOf (getD setpoints i 0) 0
 
--- "A WRITE sets the value of each station in its mask to the setpoint that its begin gave for that station."
-abbrev pub valueWritten : List ℕ → ℕ → Value
-valueWritten setpoints i = valueOf (getD setpoints i 0)
+-- "A WRITE sets the value of each station in its mask to the setpoint that its begin gave for that station", and its tag to its own
+abbrev pub valueWritten : ℕ → List ℕ → ℕ → Value
+valueWritten tag setpoints i = valueOf (getD setpoints i 0) tag
 
--- "A READ's tag and the setpoints it shows are those in its *read*."
+-- "A READ's tag and the setpoints it shows are those in its *read*", and so are the tags that it shows with them
 abbrev pub valueShown : Delivered → ℕ → Value
-valueShown d i = valueOf (getD (d .setpoints) i 0)
+valueShown d i = valueOf (getD (d .setpoints) i 0) (getD (d .tags) i 0)
 
 -- A transaction that stands in the row. Steps are numbered from 0 behind the opening, refused ones too.
 pub record Transaction : Type 0 where
@@ -110,7 +111,7 @@ writeOf q mask value tag begin end =
 abbrev pub given : ℕ → ℕ → List ℕ → ℕ → History → History
 given q mask setpoints begin h =
     historyOf (h .initial) (h .extra) (suc (h .clock)) (suc (h .tags))
-    (changed (h .write) (suc (h .tags)) (writeOf q mask (valueWritten setpoints) (suc (h .tags)) begin none))
+    (changed (h .write) (suc (h .tags)) (writeOf q mask (valueWritten (suc (h .tags)) setpoints) (suc (h .tags)) begin none))
     (changed (h .said) (suc (h .tags)) none)
     (h .reads) (changed (h .doing) q (tagged (suc (h .tags)))) (h .astray)
 
@@ -165,7 +166,7 @@ arrived (arrival.Refused n) d q h = passed h
 
 -- Behind an accepted opening there is nothing yet. Demand 3: a READ of m stations ends at exactly the 2m-th delivery on its links under A, at the (2m + 2)-th under B and C.
 abbrev pub noWrite : Transaction
-noWrite = writeOf 0 0 (valueWritten []) 0 0 none
+noWrite = writeOf 0 0 (valueWritten 0 []) 0 0 none
 
 abbrev pub fresh : (ℕ → Value) → ℕ → History
 fresh initial extra = historyOf initial extra 0 0 (λ tag. noWrite) (λ tag. none) [] (λ q. nothing) 0

@@ -1,17 +1,20 @@
 -- Document 01's sample, as a list of steps: played on `store`'s definitions, it computes to the row that document 01 prints.
+use Prim.Native.Nat.{ℕ, _*_}
 use mathlib.Core.Path.{_≡_, refl}
-use mathlib.Core.Option.{some}
-use mathlib.Core.List.{List, [], _∷_}
+use mathlib.Core.Option.{none, some}
+use mathlib.Core.List.{List, [], _∷_, _++_}
 use lib.ListN.{replicate}
 use Rattle.ranges.specs.All.{allBelow, anyBelow}
 use Rattle.ranges.specs.Sum.{sumBelow}
 use Rattle.ranges.specs.First.{firstFrom}
 use Rattle.ranges.specs.Last.{lastBelow}
 use Rattle.ranges.specs.Turns.{turns}
-use Rattle.tables.specs.Links.{linkAt, putLink}
+use Rattle.tables.specs.Layout.{countWords, clientWidth, serverPlaces, logPlaces, entryWidth, recordPlaces, recordWidth}
+use Rattle.tables.specs.Links.{targets, linkWidth, linkAt, putLink}
 use Rattle.tables.specs.Tables.{Tables, tablesOf}
 use Rattle.server.specs.Held.{appended}
 use Rattle.coordinator.specs.Log as log
+use Rattle.rules.specs.declared.Delivered.{Delivered}
 use Rattle.rules.specs.declared.Arrival.the-variants.{Read}
 use Rattle.rules.specs.Begin.{begunWrite, begunRead}
 use Rattle.rules.specs.Request.{onSet, onEnter, onWhichKeys, onGet, onGetAll, onRequestIn, requestDelivered}
@@ -20,12 +23,15 @@ use Rattle.soundness.specs.Sound.{longEnough, pressFits, scalarsSound, keyInRan
 use Rattle.refusals.specs.Refusals.{openRefusal, writeRefusal, readRefusal, deliveryRefusal}
 use Rattle.refusals.specs.Steps as store
 use Rattle.serial.specs.Steps.{Step, beginning-write, beginning-read, request, reply, play, run}
-use Rattle.serial.specs.History.{valueWritten, valueShown, changed, writeOf, readOf, openedWith, history}
+use Rattle.serial.specs.History.{Transaction, valueWritten, valueShown, changed, writeOf, readOf, openedWith, history}
 use Rattle.serial.specs.Row.{readsOf, rowTo, row}
 
--- tables just long enough, all zero
+-- tables just long enough for two clients and two servers, all zero
 unfoldable pub zeros : Tables
-zeros = tablesOf (replicate 23 0) (replicate 76 0) (replicate 102 0) (replicate 512 0) (replicate 512 0) (replicate 512 0) (replicate 1275 0) (replicate 1275 0)
+zeros =
+    tablesOf (replicate countWords 0) (replicate (clientWidth * 2) 0) (replicate (linkWidth * (targets * 2)) 0)
+    (replicate (serverPlaces * 2) 0) (replicate (serverPlaces * 2) 0) (replicate (entryWidth * logPlaces) 0)
+    (replicate (recordWidth * recordPlaces) 0) (replicate (recordWidth * recordPlaces) 0)
 
 unfoldable pub start : Tables
 start = store.open′ 2 2 2 (1200 ∷ 30 ∷ []) zeros .tables
@@ -36,9 +42,62 @@ sample =
     beginning-write 0 3 (1800 ∷ 45 ∷ []) ∷ request 0 0 ∷ beginning-read 1 3 ∷ request 1 16 ∷ request 0 1 ∷ reply 0 0 ∷ reply 0 1 ∷ request 0 16 ∷ reply 1 16 ∷
     request 1 0 ∷ reply 1 0 ∷ request 1 1 ∷ reply 1 1 ∷ reply 0 16 ∷ []
 
+-- an answer that shows the setpoints of two servers and the tags that they come from
+abbrev pub shows : ℕ → List ℕ → List ℕ → Delivered
+shows tag setpoints tags = record { arrival = Read tag; setpoints = setpoints ++ replicate 14 0; tags = tags ++ replicate 14 0 }
+
 -- `R 0 1 4 14` and `W 1 0 1 2 15`: the steps count from 0 behind the opening, which is document 01's step 1
 pub sample-row : row (history (run play sample start) (openedWith 2 (1200 ∷ 30 ∷ []))) ≡
-    readOf 1 3 (valueShown (record { arrival = Read 0; setpoints = 1200 ∷ 30 ∷ replicate 14 0 })) 0 2 12 6 ∷
-    writeOf 0 3 (valueWritten (1800 ∷ 45 ∷ [])) 1 0 (some 13) ∷ []
+    readOf 1 3 (valueShown (shows 0 (1200 ∷ 30 ∷ []) (0 ∷ 0 ∷ []))) 0 2 12 6 ∷
+    writeOf 0 3 (valueWritten 1 (1800 ∷ 45 ∷ [])) 1 0 (some 13) ∷ []
 unfolding zeros start sample changed readsOf rowTo store.open′ store.beginWrite store.beginRead store.deliverRequest store.deliverReply openRefusal writeRefusal readRefusal deliveryRefusal longEnough pressFits turns sound scalarsSound keyInRange serverSound entrySound logSound stateAllowed uses requestSound replySound contentSound linkSound receivedSound clientSound writeSound readSound openSound recordsSound allBelow anyBelow sumBelow linkAt putLink firstFrom lastBelow appended log.entered begunWrite begunRead onSet onEnter onWhichKeys onGet onGetAll onRequestIn requestDelivered onSetDone onEntered onKeys onGot onAll onReplyIn replyDelivered
 sample-row = refl
+
+-- "A READ now shows with each setpoint the tag of the WRITE that put it there, 0 for the opening": one WRITE of server 0 alone, from its
+-- begin to its end, and then a READ of both servers. Client 0 reads, since under A no other does.
+unfoldable pub startBy : ℕ → Tables
+startBy method = store.open′ method 2 2 (1200 ∷ 30 ∷ []) zeros .tables
+
+unfoldable pub rowBy : ℕ → List Step → List Transaction
+rowBy method steps = row (history (run play steps (startBy method)) (openedWith method (1200 ∷ 30 ∷ [])))
+
+unfoldable pub one : List Step
+one = beginning-write 1 1 (1800 ∷ 45 ∷ []) ∷ request 1 0 ∷ reply 1 0 ∷ request 1 16 ∷ reply 1 16 ∷ []
+
+unfoldable pub readA : List Step
+readA = beginning-read 0 3 ∷ request 0 0 ∷ reply 0 0 ∷ request 0 1 ∷ reply 0 1 ∷ []
+
+unfoldable pub readB : List Step
+readB = beginning-read 0 3 ∷ request 0 16 ∷ reply 0 16 ∷ request 0 0 ∷ reply 0 0 ∷ request 0 1 ∷ reply 0 1 ∷ []
+
+unfoldable pub readC : List Step
+readC = beginning-read 0 3 ∷ request 0 0 ∷ request 0 1 ∷ request 0 16 ∷ reply 0 0 ∷ reply 0 1 ∷ reply 0 16 ∷ []
+
+-- Under C, the servers answer a READ before a WRITE of both comes to them, and the coordinator after it: the READ falls back to tag 1.
+unfoldable pub behindC : List Step
+behindC =
+    beginning-read 0 3 ∷ request 0 0 ∷ request 0 1 ∷
+    beginning-write 1 3 (900 ∷ 12 ∷ []) ∷ request 1 0 ∷ request 1 1 ∷ reply 1 0 ∷ reply 1 1 ∷ request 1 16 ∷
+    request 0 16 ∷ reply 0 0 ∷ reply 0 1 ∷ reply 0 16 ∷ []
+
+-- the WRITE, and a READ behind it that shows 1800 of tag 1 and the opening's 30
+abbrev wroteOne : Transaction
+wroteOne = writeOf 1 1 (valueWritten 1 (1800 ∷ 45 ∷ [])) 1 0 (some 4)
+
+abbrev readBehind : ℕ → ℕ → Transaction
+readBehind end deliveries = readOf 0 3 (valueShown (shows 1 (1800 ∷ 30 ∷ []) (1 ∷ 0 ∷ []))) 1 5 end deliveries
+
+pub record Tags : Type 0 where
+  pub byA : rowBy 1 (one ++ readA) ≡ wroteOne ∷ readBehind 9 4 ∷ []
+  pub byB : rowBy 2 (one ++ readB) ≡ wroteOne ∷ readBehind 11 6 ∷ []
+  pub byC : rowBy 3 (one ++ readC) ≡ wroteOne ∷ readBehind 11 6 ∷ []
+  pub back : rowBy 3 (one ++ behindC) ≡ wroteOne ∷ readBehind 17 6 ∷ writeOf 1 3 (valueWritten 2 (900 ∷ 12 ∷ [])) 2 8 none ∷ []
+
+pub tags : Tags
+unfolding startBy rowBy one readA readB readC behindC zeros changed readsOf rowTo store.open′ store.beginWrite store.beginRead
+    store.deliverRequest store.deliverReply openRefusal writeRefusal readRefusal deliveryRefusal longEnough pressFits turns sound
+    scalarsSound keyInRange serverSound entrySound logSound stateAllowed uses requestSound replySound contentSound linkSound
+    receivedSound clientSound writeSound readSound openSound recordsSound allBelow anyBelow sumBelow linkAt putLink firstFrom lastBelow
+    appended log.entered begunWrite begunRead onSet onEnter onWhichKeys onGet onGetAll onRequestIn requestDelivered onSetDone onEntered
+    onKeys onGot onAll onReplyIn replyDelivered
+tags = record { byA = refl; byB = refl; byC = refl; back = refl }

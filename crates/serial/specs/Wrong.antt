@@ -65,6 +65,10 @@ thenReadByB = writeBoth 0 ++ readByB 1
 abbrev pub thenReadByC : List Step
 thenReadByC = writeBoth 0 ++ readByC 1
 
+-- by C, a WRITE of server 0 and then a READ of both
+abbrev pub thenReadOfBoth : List Step
+thenReadOfBoth = writeOne 0 ++ readByC 1
+
 -- by C, a WRITE that has its tag and not its answer; then two READs, one after the other
 abbrev pub twoReads : List Step
 twoReads = beginning-write 0 3 second ∷ visits 0 (0 ∷ 1 ∷ []) ++ (request 0 16 ∷ readByC 1 ++ readByC 1)
@@ -125,6 +129,7 @@ record Tested : Type 0 where
   not-opening-shown : Computed (walk ∷ []) store.openingShown 1 thenReadByA
   not-opening-at-server-1 : Computed (walk ∷ []) store.openingAtServer1 2 thenReadByB
   not-latest : Computed (walk ∷ []) store.showingLatest 2 crossing
+  not-own-tag : Computed (walk ∷ []) store.ownTag 3 thenReadOfBoth
   not-beyond : Computed (whole ∷ complete ∷ []) store.tagTooLarge 2 (readByB 1)
   not-opening-again : Computed (readAfterRead ∷ []) store.openingAgain 3 twoReads
   not-to-come : Computed (writeAfterRead ∷ []) store.tagTooLarge 2 thenWrite
@@ -164,6 +169,7 @@ tested = record {
   not-opening-shown = refl;
   not-opening-at-server-1 = refl;
   not-latest = refl;
+  not-own-tag = refl;
   not-beyond = refl;
   not-opening-again = refl;
   not-to-come = refl;
@@ -217,6 +223,10 @@ not-opening-at-server-1 = breaks store.openingAtServer1 2 thenReadByB walk [] op
 -- a station shows its latest arrival
 pub not-latest : Breaks (walk ∷ []) store.showingLatest 2 crossing
 not-latest = breaks store.showingLatest 2 crossing walk [] opensB (tested .not-latest)
+
+-- a READ shows right setpoints with a wrong tag: its own, with a setpoint that the opening put there
+pub not-own-tag : Breaks (walk ∷ []) store.ownTag 3 thenReadOfBoth
+not-own-tag = breaks store.ownTag 3 thenReadOfBoth walk [] opensC (tested .not-own-tag)
 
 -- a READ answers a tag beyond the last
 pub not-beyond : Breaks (whole ∷ complete ∷ []) store.tagTooLarge 2 (readByB 1)

@@ -2,7 +2,7 @@
 use Prim.Native.Nat.{ℕ, suc, _-_}
 use mathlib.Core.Bool.{cond}
 use mathlib.Core.List.{List, [], _∷_}
-use lib.ListN.{getD}
+use lib.ListN.{getD, replicate}
 use lib.Dec.{eqb, ltb}
 use Rattle.ranges.specs.Turns.{turns}
 use Rattle.keys.specs.Keys.{keyOf}
@@ -29,19 +29,24 @@ second = 1800 ∷ 45 ∷ []
 
 -- ---- the store, but for the answers of delivered replies
 
-abbrev said : Arrival → List ℕ → Delivered
-said a shown = record { arrival = a; setpoints = shown }
+-- another answer that shows the same
+abbrev said : Arrival → Delivered → Delivered
+said a d = record { arrival = a; setpoints = d .setpoints; tags = d .tags }
+
+-- an answer that shows the opening: its setpoints, and no tag but 0
+abbrev showsOpening : Arrival → Delivered
+showsOpening a = record { arrival = a; setpoints = first; tags = [] }
 
 -- what is answered in place of an answer, with the tables that the step left
 abbrev pub Answering : Type 0
-Answering = Tables → Arrival → List ℕ → Delivered
+Answering = Tables → Arrival → Delivered → Delivered
 
 abbrev otherwise : Answering → Tables → Event → Event
 otherwise f t (opened method k p setpoints a) = opened method k p setpoints a
 otherwise f t (begun-write q mask setpoints a) = begun-write q mask setpoints a
 otherwise f t (begun-read q mask a) = begun-read q mask a
 otherwise f t (requested q i a) = requested q i a
-otherwise f t (replied q i d) = replied q i (f t (d .arrival) (d .setpoints))
+otherwise f t (replied q i d) = replied q i (f t (d .arrival) d)
 
 abbrev pub answering : Answering → Machine Step
 answering f step t = let x = play step t in record { event = otherwise f (x .tables) (x .event); tables = x .tables }
@@ -49,57 +54,61 @@ answering f step t = let x = play step t in record { event = otherwise f (x .tab
 -- one of the answers for another
 abbrev inPlaceOfWait : Delivered → Answering
 inPlaceOfWait d t Wait shown = d
-inPlaceOfWait d t Next shown = said Next shown
-inPlaceOfWait d t (Write tag) shown = said (Write tag) shown
-inPlaceOfWait d t (Read tag) shown = said (Read tag) shown
-inPlaceOfWait d t (Refused n) shown = said (Refused n) shown
+inPlaceOfWait d t Next shown = shown
+inPlaceOfWait d t (Write tag) shown = shown
+inPlaceOfWait d t (Read tag) shown = shown
+inPlaceOfWait d t (Refused n) shown = shown
 
 abbrev inPlaceOfNext : Delivered → Answering
-inPlaceOfNext d t Wait shown = said Wait shown
+inPlaceOfNext d t Wait shown = shown
 inPlaceOfNext d t Next shown = d
-inPlaceOfNext d t (Write tag) shown = said (Write tag) shown
-inPlaceOfNext d t (Read tag) shown = said (Read tag) shown
-inPlaceOfNext d t (Refused n) shown = said (Refused n) shown
+inPlaceOfNext d t (Write tag) shown = shown
+inPlaceOfNext d t (Read tag) shown = shown
+inPlaceOfNext d t (Refused n) shown = shown
 
 abbrev inPlaceOfWrite : (ℕ → Delivered) → Answering
-inPlaceOfWrite f t Wait shown = said Wait shown
-inPlaceOfWrite f t Next shown = said Next shown
+inPlaceOfWrite f t Wait shown = shown
+inPlaceOfWrite f t Next shown = shown
 inPlaceOfWrite f t (Write tag) shown = f tag
-inPlaceOfWrite f t (Read tag) shown = said (Read tag) shown
-inPlaceOfWrite f t (Refused n) shown = said (Refused n) shown
+inPlaceOfWrite f t (Read tag) shown = shown
+inPlaceOfWrite f t (Refused n) shown = shown
 
-abbrev inPlaceOfRead : (Tables → ℕ → List ℕ → Delivered) → Answering
-inPlaceOfRead f t Wait shown = said Wait shown
-inPlaceOfRead f t Next shown = said Next shown
-inPlaceOfRead f t (Write tag) shown = said (Write tag) shown
+abbrev inPlaceOfRead : (Tables → ℕ → Delivered → Delivered) → Answering
+inPlaceOfRead f t Wait shown = shown
+inPlaceOfRead f t Next shown = shown
+inPlaceOfRead f t (Write tag) shown = shown
 inPlaceOfRead f t (Read tag) shown = f t tag shown
-inPlaceOfRead f t (Refused n) shown = said (Refused n) shown
+inPlaceOfRead f t (Refused n) shown = shown
 
 abbrev inPlaceOfRefused : Delivered → Answering
-inPlaceOfRefused d t Wait shown = said Wait shown
-inPlaceOfRefused d t Next shown = said Next shown
-inPlaceOfRefused d t (Write tag) shown = said (Write tag) shown
-inPlaceOfRefused d t (Read tag) shown = said (Read tag) shown
+inPlaceOfRefused d t Wait shown = shown
+inPlaceOfRefused d t Next shown = shown
+inPlaceOfRefused d t (Write tag) shown = shown
+inPlaceOfRefused d t (Read tag) shown = shown
 inPlaceOfRefused d t (Refused n) shown = d
 
 abbrev then : Answering → Answering → Answering
-then f g t a shown = let d = f t a shown in g t (d .arrival) (d .setpoints)
+then f g t a shown = let d = f t a shown in g t (d .arrival) d
 
 -- "A READ that always shows the opening at tag 0: demand 3, real time."
 abbrev pub openingAlways : Machine Step
-openingAlways = answering (inPlaceOfRead (λ t tag shown. said (Read 0) first))
+openingAlways = answering (inPlaceOfRead (λ t tag shown. showsOpening (Read 0)))
 
 -- every READ but the first one begun shows the opening
 abbrev pub openingAgain : Machine Step
-openingAgain = answering (inPlaceOfRead (λ t tag shown. cond (ltb 1 (readsOf t)) (said (Read 0) first) (said (Read tag) shown)))
+openingAgain = answering (inPlaceOfRead (λ t tag shown. cond (ltb 1 (readsOf t)) (showsOpening (Read 0)) (said (Read tag) shown)))
 
 -- a READ shows the opening at its tag
 abbrev pub openingShown : Machine Step
-openingShown = answering (inPlaceOfRead (λ t tag shown. said (Read tag) first))
+openingShown = answering (inPlaceOfRead (λ t tag shown. showsOpening (Read tag)))
 
 -- a READ shows the opening at server 1
 abbrev pub openingAtServer1 : Machine Step
-openingAtServer1 = answering (inPlaceOfRead (λ t tag shown. said (Read tag) (getD shown 0 0 ∷ 30 ∷ [])))
+openingAtServer1 = answering (inPlaceOfRead (λ t tag shown. record { arrival = Read tag; setpoints = getD (shown .setpoints) 0 0 ∷ 30 ∷ []; tags = getD (shown .tags) 0 0 ∷ [] }))
+
+-- a READ shows the right setpoints, and with every one of them its own tag
+abbrev pub ownTag : Machine Step
+ownTag = answering (inPlaceOfRead (λ t tag shown. record { arrival = Read tag; setpoints = shown .setpoints; tags = replicate 16 tag }))
 
 -- a READ answers a tag too large
 abbrev pub tagTooLarge : Machine Step
@@ -111,27 +120,27 @@ waitingForEver = answering (inPlaceOfRead (λ t tag shown. said Wait shown))
 
 -- a READ that ends before all its replies are in
 abbrev pub endingEarly : Machine Step
-endingEarly = answering (inPlaceOfWait (said (Read 0) first))
+endingEarly = answering (inPlaceOfWait (showsOpening (Read 0)))
 
 -- a READ that ends at one reply more than it has
 abbrev pub endingLate : Machine Step
-endingLate = answering (then (inPlaceOfRead (λ t tag shown. said Wait shown)) (inPlaceOfRefused (said (Read 0) first)))
+endingLate = answering (then (inPlaceOfRead (λ t tag shown. said Wait shown)) (inPlaceOfRefused (showsOpening (Read 0))))
 
 -- an invented tag
 abbrev pub inventing : Machine Step
-inventing = answering (inPlaceOfWrite (λ tag. said (Write (suc tag)) []))
+inventing = answering (inPlaceOfWrite (λ tag. nothingShown (Write (suc tag))))
 
 -- *write* at the last acknowledgement, before the entry
 abbrev pub writtenUnentered : Machine Step
-writtenUnentered = answering (inPlaceOfNext (said (Write 1) []))
+writtenUnentered = answering (inPlaceOfNext (nothingShown (Write 1)))
 
 -- *write* at the end of a READ
 abbrev pub writtenForRead : Machine Step
-writtenForRead = answering (inPlaceOfRead (λ t tag shown. said (Write tag) []))
+writtenForRead = answering (inPlaceOfRead (λ t tag shown. nothingShown (Write tag)))
 
 -- *wait* for a reply that is not there
 abbrev pub waitingAtNothing : Machine Step
-waitingAtNothing = answering (inPlaceOfRefused (said Wait []))
+waitingAtNothing = answering (inPlaceOfRefused (nothingShown Wait))
 
 -- ---- the store, but for other steps
 

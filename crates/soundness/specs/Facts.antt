@@ -15,11 +15,11 @@ use Rattle.keys.specs.Masks.{maskWithin, Within, within-true, within-test}
 use Rattle.tables.specs.Rows.{wordAt}
 use Rattle.tables.specs.Layout.{countWords, lastStep, clientWidth, serverPlaces, logPlaces, entryWidth, recordPlaces, recordWidth, versionWord, entryMask, recordWord, clientOfRecord, numberOfRecord, tagOfRecord}
 use Rattle.tables.specs.Links.{targets, linkWidth, linkRow}
-use Rattle.tables.specs.Tables.{Tables, methodOf, serversOf, clientsOf, stepOf, entriesOf, writesOf, readsOf, heldOf, stateOf, countOf, maskOf, tagOf, recordOf, contentAt}
+use Rattle.tables.specs.Tables.{Tables, methodOf, serversOf, clientsOf, stepOf, entriesOf, writesOf, readsOf, heldOf, stateOf, countOf, maskOf, tagOf, recordOf, keptTagOf, contentAt}
 use Rattle.rules.specs.Common.{idle, pending}
 use Rattle.rules.specs.Open.{allServers}
 use Rattle.ranges.specs.Every.{passed, every-passed}
-use Rattle.soundness.specs.Sound.{longEnough, between, pressFits, scalarsSound, keyInRange, serverSound, entrySound, logSound, isWriting, isReading, stateAllowed, contentSound, linkSound, receivedSound, clientSound, writeSound, readSound, isOpen, openSound, recordsSound, sound}
+use Rattle.soundness.specs.Sound.{longEnough, between, pressFits, scalarsSound, keyInRange, serverSound, entrySound, logSound, isWriting, isReading, stateAllowed, contentSound, linkSound, receivedSound, keptTagSound, clientSound, writeSound, readSound, isOpen, openSound, recordsSound, sound}
 
 pub record Between (low n high : ℕ) : Type 0 where
   pub least : low ≤ n
@@ -220,6 +220,7 @@ pub record ClientFacts (t : Tables) (q : ℕ) : Type 0 where
   pub mask : maskOf t q < 2 ^ serversOf t
   pub masked : (stateOf t q ≡ idle → ⊥) → 0 < maskOf t q
   pub tag : tagOf t q < entriesOf t
+  pub kept : (i : ℕ) → i < serversOf t → keptTagOf t q i < entriesOf t
   pub link : (i : ℕ) → i < targets → LinkFacts t q i
   pub received : (i : ℕ) → i < targets → receivedSound t q i ≡ true
   pub busy : (stateOf t q ≡ idle → ⊥) → pending (t .links) q ≡ true
@@ -254,6 +255,7 @@ module _ (t : Tables) (q : ℕ) where
       ∷ between (cond (isWriting (stateOf t q)) 1 0) (countOf t q) 255
       ∷ cond (eqb (stateOf t q) idle) below within
       ∷ ltb (tagOf t q) (entriesOf t)
+      ∷ allBelow (keptTagSound t q) (serversOf t)
       ∷ allBelow (linkSound t q) targets
       ∷ allBelow (receivedSound t q) targets
       ∷ (eqb (stateOf t q) idle || pending (t .links) q)
@@ -270,19 +272,22 @@ module _ (t : Tables) (q : ℕ) where
         mask = by-equal (stateOf t q) idle (λ d. ltb-true _ _ (way-idle (stateOf t q) below within (f .1 .1 .0) d)) (λ d. busy d .below);
         masked = λ d. busy d .some;
         tag = ltb-true _ _ (f .1 .1 .1 .0);
-        link = λ i h. link-facts t q i (all-at (linkSound t q) targets (f .1 .1 .1 .1 .0) i h);
-        received = all-at (receivedSound t q) targets (f .1 .1 .1 .1 .1 .0);
-        busy = or-busy (stateOf t q) true (pending (t .links) q) (f .1 .1 .1 .1 .1 .1 .0);
+        kept = λ i h. ltb-true _ _ (all-at (keptTagSound t q) (serversOf t) (f .1 .1 .1 .1 .0) i h);
+        link = λ i h. link-facts t q i (all-at (linkSound t q) targets (f .1 .1 .1 .1 .1 .0) i h);
+        received = all-at (receivedSound t q) targets (f .1 .1 .1 .1 .1 .1 .0);
+        busy = or-busy (stateOf t q) true (pending (t .links) q) (f .1 .1 .1 .1 .1 .1 .1 .0);
       }
 
   pub facts-client : ClientFacts t q → clientSound t q ≡ true
   unfolding clientSound
   facts-client f =
       let mask = two-ways (stateOf t q) below within (λ d. lt-ltb _ _ (f .mask)) (λ d. within-test _ _ (record { some = f .masked d; below = f .mask })) in
+      let kept = all-of (keptTagSound t q) (serversOf t) (λ i h. lt-ltb _ _ (f .kept i h)) in
       let links = all-of (linkSound t q) targets (λ i h. facts-link t q i (f .link i h)) in
       let received = all-of (receivedSound t q) targets (f .received) in
       let busy = busy-or (stateOf t q) true (pending (t .links) q) (f .busy) in
-      every-passed clientTests (f .allowed, (facts-between _ _ _ (f .count), (mask, (lt-ltb _ _ (f .tag), (links, (received, (busy, tt)))))))
+      every-passed clientTests
+      (f .allowed, (facts-between _ _ _ (f .count), (mask, (lt-ltb _ _ (f .tag), (kept, (links, (received, (busy, tt))))))))
 
 -- The records.
 pub record WriteFacts (t : Tables) (n : ℕ) : Type 0 where

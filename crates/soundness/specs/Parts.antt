@@ -13,7 +13,7 @@ use Rattle.tables.specs.Links.{linkWidth, linkRow, isEmpty}
 use Rattle.tables.specs.Tables.{Tables, withVersions, methodOf, serversOf, clientsOf, stepOf, entriesOf, writesOf, readsOf, stateOf, countOf, maskOf, tagOf, recordOf, contentAt}
 use Rattle.rules.specs.Common.{idle, askingAll}
 use Rattle.rules.specs.Open.{allServers}
-use Rattle.soundness.specs.Sound.{between, serverSound, logSound, isWriting, isReading, stateAllowed, uses, clientSound, openSound, writeSound, readSound, recordsSound}
+use Rattle.soundness.specs.Sound.{between, serverSound, logSound, isWriting, isReading, stateAllowed, uses, keptTagSound, clientSound, openSound, writeSound, readSound, recordsSound}
 
 -- the keys alone; no condition is on the setpoints of versions
 abbrev pub withKeys : List ℕ → Tables → Tables
@@ -31,7 +31,7 @@ firstEntrySound t = eqb (wordAt entryWidth (t .log) 0 0) (keyWord opening) && eq
 abbrev pub numberOn : Tables → ℕ → ℕ → ℕ
 numberOn t q i = wordAt linkWidth (t .links) (linkRow q i) 2
 
--- the first conditions of `clientSound`: count, mask and tag; all that its row alone decides
+-- the first conditions of `clientSound`: count, mask and tags; all that its row alone decides
 abbrev pub countSound : Tables → ℕ → Bool
 countSound t q = between (cond (isWriting (stateOf t q)) 1 0) (countOf t q) 255
 
@@ -42,7 +42,8 @@ abbrev pub tagSound : Tables → ℕ → Bool
 tagSound t q = ltb (tagOf t q) (entriesOf t)
 
 abbrev pub rowSound : Tables → ℕ → Bool
-rowSound t q = stateAllowed (methodOf t) q (stateOf t q) && countSound t q && maskSound t q && tagSound t q
+rowSound t q =
+    stateAllowed (methodOf t) q (stateOf t q) && countSound t q && maskSound t q && tagSound t q && allBelow (keptTagSound t q) (serversOf t)
 
 -- the test of `receivedSound`
 abbrev pub expects : Tables → ℕ → ℕ → Bool

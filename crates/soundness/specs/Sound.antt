@@ -11,7 +11,7 @@ use Rattle.keys.specs.Masks.{hasServer, maskWithin}
 use Rattle.tables.specs.Rows.{wordAt}
 use Rattle.tables.specs.Layout.{lastStep, countWords, clientWidth, serverPlaces, logPlaces, entryWidth, recordPlaces, recordWidth, versionWord, entryMask, recordWord, clientOfRecord, numberOfRecord, tagOfRecord, endOfRecord}
 use Rattle.tables.specs.Links.{targets, linkWidth, linkRow, isEmpty}
-use Rattle.tables.specs.Tables.{Tables, methodOf, serversOf, clientsOf, stepOf, entriesOf, writesOf, readsOf, heldOf, stateOf, countOf, maskOf, tagOf, recordOf, receivedOf, contentAt}
+use Rattle.tables.specs.Tables.{Tables, methodOf, serversOf, clientsOf, stepOf, entriesOf, writesOf, readsOf, heldOf, stateOf, countOf, maskOf, tagOf, recordOf, receivedOf, keptTagOf, contentAt}
 use Rattle.tables.specs.declared.links.Content.{Content}
 use Rattle.tables.specs.declared.links.Content.the-variants.{Nothing, Request, Reply}
 use Rattle.rules.specs.Common.{idle, writing, entering, askingKeys, askingSetpoints, askingAll, coordinator, pending}
@@ -126,13 +126,18 @@ receivedSound t q i =
     (between 1 (receivedOf t q i) (holding t i))
     (eqb (receivedOf t q i) 0)
 
--- counts, mask and tag in their ranges; "a busy panel has a link not empty"
+-- "tags within the log": also the one that a client keeps for a server, left over or not
+abbrev pub keptTagSound : Tables → ℕ → ℕ → Bool
+keptTagSound t q i = ltb (keptTagOf t q i) (entriesOf t)
+
+-- counts, mask and tags in their ranges; "a busy panel has a link not empty"
 unfoldable pub clientSound : Tables → ℕ → Bool
 clientSound t q =
     stateAllowed (methodOf t) q (stateOf t q)
     && between (cond (isWriting (stateOf t q)) 1 0) (countOf t q) 255
     && cond (eqb (stateOf t q) idle) (ltb (maskOf t q) (2 ^ serversOf t)) (maskWithin (maskOf t q) (serversOf t))
     && ltb (tagOf t q) (entriesOf t)
+    && allBelow (keptTagSound t q) (serversOf t)
     && allBelow (linkSound t q) targets
     && allBelow (receivedSound t q) targets
     && (eqb (stateOf t q) idle || pending (t .links) q)

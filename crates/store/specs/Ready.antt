@@ -48,6 +48,7 @@ module _ (t : Tables) (s : Sound t) where
         row = client-row t s q h;
         linked = client-links t s q h;
         entered = s .scalars .entries .least;
+        few = s .scalars .entries .most;
         logged = log-entries t s (entriesOf t) (omega arith);
       }
 

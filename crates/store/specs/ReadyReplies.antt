@@ -51,7 +51,13 @@ module _ (t : Tables) (s : Sound t) where
     keys-ready z =
         let b = keys-told t i (w .number) (rw z at (reply-sound t s q i d w e)) in
         let m : w .number ≤ entriesOf t = rw (holding-log t i (keys-target (maskOf t q) i (rw z at (reply-used t s q i d w e)))) at (b .most) in
-        record { row = client-row t s q (d .client); servers = few-servers t s; some = b .least; logged = log-entries t s (w .number) m }
+        record {
+          row = client-row t s q (d .client);
+          servers = few-servers t s;
+          some = b .least;
+          few = omega (arith, s .scalars .entries .most);
+          logged = log-entries t s (w .number) m;
+        }
 
     -- state 4: a masked server answered
     got-from : stateOf t q ≡ askingSetpoints → i < 16

@@ -33,11 +33,13 @@ fn arrival_number(arrival: Arrival) -> u64
     }
 }
 
-// A delivered reply's answer as it crosses, and beside it the setpoints that a READ shows; 0 where it shows none.
+// A delivered reply's answer as it crosses, and beside it what a READ shows: setpoints, and the tags of the WRITEs that put them there; 0 where it
+// shows none.
 #[repr(C)]
 pub struct Crossing {
     pub number: u64,
     pub setpoints: [u32; 16],
+    pub tags: [u32; 16],
 }
 
 fn to_cross(delivered: Delivered) -> Crossing
@@ -45,9 +47,11 @@ fn to_cross(delivered: Delivered) -> Crossing
 {
     let arrival = delivered.arrival;
     let setpoints = delivered.setpoints;
+    let tags = delivered.tags;
     Crossing {
         number: arrival_number(arrival),
         setpoints: setpoints,
+        tags: tags,
     }
 }
 

@@ -44,7 +44,7 @@ countAt counts field = getD counts field 0
 -- A client's row. "Per panel: state, last count, mask, tag, setpoints and, under C, the n received from each target in this READ".
 -- Besides: the place of the record of its transaction in progress, so that a step finds the record at once.
 abbrev pub clientWidth : ℕ
-clientWidth = 38
+clientWidth = 54
 
 abbrev pub stateField : ℕ
 stateField = 0
@@ -66,6 +66,10 @@ setpointsField = 5
 
 abbrev pub receivedField : ℕ
 receivedField = 21
+
+-- "Under A and B a panel keeps the wanted stations' tags while it asks."
+abbrev pub tagsField : ℕ
+tagsField = 38
 
 abbrev pub clientWord : List ℕ → ℕ → ℕ → ℕ
 clientWord clients q field = wordAt clientWidth clients q field

@@ -1,7 +1,7 @@
 -- All tables as one record, a setter for each, and the words that definitions speak of by name.
 use Prim.Native.Nat.{ℕ, _+_}
 use mathlib.Core.List.{List}
-use Rattle.tables.specs.Layout.{countAt, methodField, serversField, clientsField, stepField, entriesField, writesField, readsField, heldField, clientWord, stateField, countField, maskField, tagField, recordField, receivedField}
+use Rattle.tables.specs.Layout.{countAt, methodField, serversField, clientsField, stepField, entriesField, writesField, readsField, heldField, clientWord, stateField, countField, maskField, tagField, recordField, receivedField, tagsField}
 use Rattle.tables.specs.Links.{linkAt}
 use Rattle.tables.specs.declared.links.Content.{Content}
 
@@ -84,6 +84,10 @@ recordOf t q = clientWord (t .clients) q recordField
 
 abbrev pub receivedOf : Tables → ℕ → ℕ → ℕ
 receivedOf t q i = clientWord (t .clients) q (receivedField + i)
+
+-- the tag that a client keeps for a server
+abbrev pub keptTagOf : Tables → ℕ → ℕ → ℕ
+keptTagOf t q i = clientWord (t .clients) q (tagsField + i)
 
 -- what a link holds
 abbrev pub contentAt : Tables → ℕ → ℕ → Content

@@ -1,10 +1,11 @@
-// A client's row: state, last count, mask, tag, the place of the record in progress, 16 setpoints, and the n received from each of 17 targets.
+// A client's row: state, last count, mask, tag, the place of the record in progress, 16 setpoints, the n received from each of 17 targets, and the
+// tags that 16 servers' setpoints come from.
 ghost use mathlib.Core.Path.{_≡_};
 ghost use Prim.Native.Nat.{_<_};
 ghost use Rattle.tables.specs.Rows.{HasRow};
 ghost use Rattle.tables.specs.Layout.{clientWidth, clientWord, putClientWord};
 
-pub const WIDTH: usize = 38;
+pub const WIDTH: usize = 54;
 
 pub const STATE: usize = 0;
 
@@ -19,6 +20,8 @@ pub const RECORD: usize = 4;
 pub const SETPOINTS: usize = 5;
 // The n received from target i stands at RECEIVED + i.
 pub const RECEIVED: usize = 21;
+// The tag of the WRITE that the setpoint of server i comes from stands at TAGS + i.
+pub const TAGS: usize = 38;
 
 pub fn client_word(clients: &[u32], client: usize, field: usize) -> u32
     requires { ⌜ HasRow clientWidth (now clients) client ⌝ }

@@ -13,7 +13,8 @@ use Rattle.schedule.specs.Steps.{lineMost, stepOf}
 use Rattle.printing.specs.Printed.{Printed}
 use Rattle.printing.specs.PrintedLaws.{printed-none}
 use Rattle.playing.specs.Played.{playedLine, answersFrom}
-use Rattle.playing.specs.Playable.{Playable, step-playable}
+use Rattle.playing.specs.Playable.{Playable}
+use Rattle.playing.specs.PlayableLaws.{step-playable}
 use Rattle.window.specs.declared.Run.{Run}
 use Rattle.window.specs.Window.{heldBy, linesLeft, lacksEnd, wantsMore, roomFrom, passed, roomy, linesThen, ReadOn, Going}
 use Rattle.window.specs.WindowLaws.{whole-there, part-length, held-within, wants, going-read, line-behind, going-behind}

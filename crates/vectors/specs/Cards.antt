@@ -31,9 +31,10 @@ use Rattle.frames.specs.Frames.{frameOf}
 use Rattle.frames.specs.Vectors as frame
 use Rattle.vectors.specs.Presses.{blank, openingSetpoints, setpointsA, opened, after, busy, overtaken, swapped, logOfOne, logOfTwo, heldWithoutA}
 
--- a READ's answer: its tag, and the setpoints of servers 0 and 1; 0 where it did not ask
-abbrev pub shows : ℕ → ℕ → ℕ → Delivered
-shows tag x y = record { arrival = arrival.Read tag; setpoints = x ∷ y ∷ replicate 14 0 }
+-- a READ's answer: its tag, the setpoints of servers 0 and 1, and the tag that server 0's comes from; 0 where it did not ask.
+-- Server 1 is not asked, or shows the opening's, so that its tag is 0 on every card.
+abbrev pub shows : ℕ → ℕ → ℕ → ℕ → Delivered
+shows tag x from y = record { arrival = arrival.Read tag; setpoints = x ∷ y ∷ replicate 14 0; tags = from ∷ replicate 15 0 }
 
 pub record Cards : Type 0 where
   -- "Kind 1, panel 2, station 3, key (1, 2), 1800 is, in hexadecimal, 12 18 09 00 00 03 84 00."
@@ -62,10 +63,10 @@ pub record Cards : Type 0 where
   -- "C, one WRITE to both, station 0 answered before it, station 1 and head after: tag 0."
   -- Every step that leads there is accepted, as the step number tells: the opening and 13 more, and for the next card 12.
   pub overtaken-steps : stepOf (after overtaken (opened 3 2)) ≡ 14
-  pub overtaken-tag : deliverReply 1 16 (after overtaken (opened 3 2)) .delivered ≡ shows 0 1200 30
+  pub overtaken-tag : deliverReply 1 16 (after overtaken (opened 3 2)) .delivered ≡ shows 0 1200 0 30
   -- "C, log a then b, both to station 0, which had the opening and b only: tag 2."
   pub swapped-steps : stepOf (after swapped (opened 3 3)) ≡ 13
-  pub swapped-tag : deliverReply 2 16 (after swapped (opened 3 3)) .delivered ≡ shows 2 1500 0
+  pub swapped-tag : deliverReply 2 16 (after swapped (opened 3 3)) .delivered ≡ shows 2 1500 2 0
   -- the same on the choice alone: of the three entries, with two versions received from server 0
   pub swapped-choice : chosenTag heldWithoutA logOfTwo 1 (λ i. 2) 2 3 ≡ 2
 

@@ -10,7 +10,7 @@ use lib.ListN.{getD}
 use lib.Pow.{pow-mono}
 use borrow.Author.Tests.{ltb-true, eq-eqb, ne-eqb}
 use Rattle.ranges.specs.Tests.{by-equal, both-left, both-right}
-use Rattle.keys.specs.Keys.{keyWord, keyAtWord, key-back}
+use Rattle.keys.specs.Keys.{keyAtWord, key-back}
 use Rattle.keys.specs.Masks.{Within}
 use Rattle.tables.specs.Rows.{wordAt}
 use Rattle.tables.specs.Layout.{entryWidth, entryMask, versionWord}
@@ -19,7 +19,7 @@ use Rattle.tables.specs.Tables.{Tables, serversOf, clientsOf, entriesOf, heldOf
 use Rattle.tables.specs.declared.links.Contents.{Contents}
 use Rattle.tables.specs.declared.links.Content.{Content}
 use Rattle.tables.specs.declared.links.Content.the-variants.{Nothing, Request, Reply}
-use Rattle.coordinator.specs.Latest.{latestTag, latestKey}
+use Rattle.coordinator.specs.Latest.{latestTag, latestWord, latestTagAt}
 use Rattle.coordinator.specs.LatestLaws.{latest-within}
 use Rattle.rules.specs.Common.{coordinator}
 use Rattle.soundness.specs.Sound.{between, keyInRange, keyOn}
@@ -70,7 +70,7 @@ module _ (t : Tables) (s : Sound t) where
   mask-fits m w = let e : 2 ^ serversOf t ≤ 2 ^ 16 = pow-mono (s .scalars .press .servers .most) in lt-of-lt-of-le (w .below) e
 
   -- the key of a server at a tag of the log
-  latest-fits : (i tag : ℕ) → tag < entriesOf t → WordFits (keyWord (latestKey (t .log) i tag))
+  latest-fits : (i tag : ℕ) → tag < entriesOf t → WordFits (latestWord (t .log) tag i)
   latest-fits i tag h =
       let l : latestTag (t .log) i tag < entriesOf t = omega (arith, latest-within (t .log) i tag) in
       let k = s .log .entry (latestTag (t .log) i tag) l .key in
@@ -84,11 +84,16 @@ module _ (t : Tables) (s : Sound t) where
     keys-can : (n : ℕ) → Between 1 n (entriesOf t) → CanBeWritten (keysReply n q (serversOf t) (t .log))
     keys-can n b =
         let k = serversOf t in
-        let f : ℕ → ℕ = λ i. keyWord (latestKey (t .log) i (n - 1)) in
+        let few = s .scalars .press .servers .most in
+        let f = latestWord (t .log) (n - 1) in
+        let g = latestTagAt (t .log) (n - 1) in
         let l : n - 1 < entriesOf t = omega (arith, b .least, b .most) in
+        let last : n - 1 < 256 = omega (arith, s .scalars .entries .most) in
         keys-writable q below k (s .scalars .press .servers .least) (built f k) (omega (arith, built-length f k))
         (λ j h. rw (built-at f k j h) (latest-fits j (n - 1) l))
-        (n - 1) (omega (arith, s .scalars .entries .most)) (s .scalars .press .servers .most)
+        (built g k) (omega (arith, built-length g k)) (omega (arith, few))
+        (n - 1) last few
+        (λ j h. rw (built-at g k j h) (omega (arith, latest-within (t .log) j (n - 1))))
 
     -- C's replies
     log-can : (n : ℕ) → Between 1 n (entriesOf t) → CanBeWritten (logReply n q (t .log))

@@ -4,10 +4,9 @@ use mathlib.Core.Path.{_≡_, sym, ap, _∙_}
 use mathlib.Core.Bool.{Bool, true, not}
 use mathlib.Core.List.{List, []}
 use native.Mathlib.Omega.{arith}
-use lib.ListN.{length, getD, take, drop, length-drop, length-set}
+use lib.ListN.{length, getD, take, drop, length-drop}
 use lib.Seq.{getD-drop}
 use borrow.Author.Tests.{eq-eqb, ne-eqb, le-leb, lt-leb}
-use Rattle.ranges.specs.Turns.{turns-keep}
 use Rattle.tables.specs.Layout.{serverPlaces, versionWord}
 use Rattle.tables.specs.Links.{linkAt}
 use Rattle.tables.specs.Tables.{Tables, serversOf, clientsOf, stateOf, contentAt}
@@ -15,9 +14,7 @@ use Rattle.tables.specs.declared.links.Contents.{Contents}
 use Rattle.tables.specs.declared.links.Content.{Content}
 use Rattle.tables.specs.declared.links.Content.the-variants.{Nothing, Request, Reply}
 use Rattle.tables.specs.declared.links.Link.{Link}
-use Rattle.coordinator.specs.Latest.{latestKey, putKey, putKeys}
-use Rattle.coordinator.specs.LatestLaws.{keys-put}
-use Rattle.keys.specs.Keys.{keyWord}
+use Rattle.coordinator.specs.Latest.{latestWord, latestTagAt}
 use Rattle.rules.specs.Common.{writing, entering, askingKeys, askingSetpoints, coordinator}
 use Rattle.refusals.specs.Refusals.{isTarget}
 use Rattle.frames.specs.declared.Message.{Message}
@@ -80,18 +77,16 @@ versions-part words i n h d e =
     ∙ sym (built-take (drop first words) n (omega (arith, length-drop first words)))
     ∙ built-same (λ j. getD (drop first words) j 0) (versionWord words i) n (λ j l. getD-drop first words j 0)
 
--- the keys put at the front of a row
-pub keys-front : (log : List ℕ) (tag k : ℕ) (row : List ℕ) {after : List ℕ} → k ≤ length row → after ≡ putKeys log tag k row → take k after ≡ built (λ i. keyWord (latestKey log i tag)) k
-keys-front log tag k row h e =
-    let put = putKeys log tag k row in
-    let long : k ≤ length put = turns-keep (putKey log tag) (λ l. k ≤ length l) (λ i l r. rw length-set r) k row h in
-    ap (take k) e ∙ sym (built-take put k long) ∙ built-same (λ i. getD put i 0) (λ i. keyWord (latestKey log i tag)) k (keys-put log tag k row h)
-
 -- ---- the replies
 
+-- the keys and their tags at a tag of the log
+abbrev keysAt : ℕ → ℕ → List ℕ → ℕ → OnLink
+keysAt q k log tag = carries (Keys q tag k) (built (latestWord log tag) k) (built (latestTagAt log tag) k)
+
 -- the tag is the last of n entries
-pub last-keys : (n q k : ℕ) (log bytes : List ℕ) {tag : ℕ} {x : Sent} → tag ≡ n - 1 → x ≡ wroteFrom (carries (Keys q tag k) (built (λ i. keyWord (latestKey log i tag)) k) []) bytes → x ≡ wroteFrom (keysReply n q k log) bytes
-last-keys n q k log bytes e o = o ∙ ap (λ (tag : ℕ). wroteFrom (carries (Keys q tag k) (built (λ i. keyWord (latestKey log i tag)) k) []) bytes) e
+pub last-keys : (n q k : ℕ) (log bytes : List ℕ) {tag : ℕ} {x : Sent} →
+    tag ≡ n - 1 → x ≡ wroteFrom (keysAt q k log tag) bytes → x ≡ wroteFrom (keysReply n q k log) bytes
+last-keys n q k log bytes e o = o ∙ ap (λ (tag : ℕ). wroteFrom (keysAt q k log tag) bytes) e
 
 module _ (n q i : ℕ) (keys values log bytes : List ℕ) {x : Sent} where
   pub from-head : i ≡ coordinator → x ≡ wroteFrom (logReply n q log) bytes → x ≡ wroteFrom (everythingReply n q i keys values log) bytes

@@ -82,11 +82,11 @@ pub record Examples : Type 0 where
   pub head-later : onLink 0 16 writeBegun ≡ empty
   pub set-done : onLink 0 0 keysAnswered ≡ alone (SetDone 0 0)
   pub keys-asked : onLink 1 16 (begunRead 1 3 (opened 2)) ≡ alone (WhichKeys 1)
-  pub keys-told : onLink 1 16 keysAnswered ≡ carries (Keys 1 0 2) (0 ∷ 0 ∷ []) []
+  pub keys-told : onLink 1 16 keysAnswered ≡ carries (Keys 1 0 2) (0 ∷ 0 ∷ []) (0 ∷ 0 ∷ [])
   pub enter-sent : onLink 0 16 bothStored ≡ alone (Enter 0 (keyOf 1 0) 3)
   pub tag-told : onLink 0 16 writeEntered ≡ alone (Entered 0 1)
   -- the log has grown since: the reply is that of the moment of answering
-  pub keys-as-told : onLink 1 16 writeEntered ≡ carries (Keys 1 0 2) (0 ∷ 0 ∷ []) []
+  pub keys-as-told : onLink 1 16 writeEntered ≡ carries (Keys 1 0 2) (0 ∷ 0 ∷ []) (0 ∷ 0 ∷ [])
   pub get-sent : onLink 1 0 keysArrived ≡ alone (Get 1 0 (keyOf 0 0))
   pub got-back : onLink 1 0 (asked 1 0 keysArrived) ≡ alone (Got 1 0 1200)
   -- by C

@@ -87,8 +87,8 @@ pub record Kinds : Type 0 where
   -- kind 4, tag 1
   pub entered-at : toHead (logged 2) ≡ 0x42 ∷ 0x80 ∷ 0x08 ∷ []
   pub which-keys : toHead (reading 2) ≡ 0x52 ∷ 0x80 ∷ []
-  -- kind 6, tag 1, two keys: the opening's, and key 1 of client 2
-  pub keys-told : toHead keysTold ≡ 0x62 ∷ 0x80 ∷ 0x08 ∷ 0x80 ∷ 0x00 ∷ 0x04 ∷ 0x80 ∷ []
+  -- kind 6, tag 1, two keys: the opening's with tag 0, and key 1 of client 2 with tag 1
+  pub keys-told : toHead keysTold ≡ 0x62 ∷ 0x80 ∷ 0x08 ∷ 0x80 ∷ 0x00 ∷ 0x00 ∷ 0x04 ∷ 0x80 ∷ 0x40 ∷ []
   pub get : toServer getting ≡ 0x72 ∷ 0x08 ∷ 0x09 ∷ 0x00 ∷ []
   pub got : toServer (asked 2 1 getting) ≡ 0x82 ∷ 0x08 ∷ 0x00 ∷ 0x00 ∷ 0x01 ∷ 0x68 ∷ []
   pub get-all : toServer (reading 3) ≡ 0x92 ∷ 0x08 ∷ []

@@ -3,20 +3,19 @@ use Prim.Native.Nat.{ℕ, _-_}
 use mathlib.Core.Bool.{cond}
 use mathlib.Core.List.{List, []}
 use lib.Dec.{eqb}
-use Rattle.keys.specs.Keys.{keyWord}
 use Rattle.tables.specs.Rows.{wordAt}
 use Rattle.tables.specs.Layout.{entryWidth, entryMask, versionWord}
 use Rattle.tables.specs.Tables.{Tables, serversOf, stateOf, contentAt}
 use Rattle.tables.specs.declared.links.Contents.{Contents}
 use Rattle.tables.specs.declared.links.Content.{Content}
 use Rattle.tables.specs.declared.links.Content.the-variants.{Nothing, Request, Reply}
-use Rattle.coordinator.specs.Latest.{latestKey}
+use Rattle.coordinator.specs.Latest.{latestWord, latestTagAt}
 use Rattle.rules.specs.Common.{writing, entering, askingKeys, askingSetpoints, coordinator}
 use Rattle.frames.specs.declared.Message.{Message}
 use Rattle.frames.specs.declared.Message.the-variants.{Set, SetDone, Enter, Entered, WhichKeys, Keys, Get, Got, GetAll, All, GetLog, Log}
 use Rattle.ranges.specs.Laid.{built}
 
--- what a link holds: nothing, or a message with the keys of its entries, as words, and their setpoints or masks
+-- what a link holds: nothing, or a message with the keys of its entries, as words, and their tags, setpoints or masks
 pub data OnLink : Type 0 where
   empty : OnLink
   carries : Message → List ℕ → List ℕ → OnLink
@@ -34,9 +33,10 @@ requestIn state w q i =
     (cond (eqb state askingSetpoints) (Get q i (w .key))
     (cond (eqb i coordinator) (GetLog q) (GetAll q i)))))
 
--- B: "its reply has the last tag and all k keys". The reply holds the number n of log entries at the moment of answering, so the last tag was n - 1.
+-- B: "its reply has the last tag and all k keys", and "an 8-bit tag after each key", which is the tag of the entry that the key comes from.
+-- The reply holds the number n of log entries at the moment of answering, so the last tag was n - 1.
 abbrev pub keysReply : ℕ → ℕ → ℕ → List ℕ → OnLink
-keysReply n q k log = carries (Keys q (n - 1) k) (built (λ i. keyWord (latestKey log i (n - 1))) k) []
+keysReply n q k log = carries (Keys q (n - 1) k) (built (latestWord log (n - 1)) k) (built (latestTagAt log (n - 1)) k)
 
 -- "C's replies hold the first n versions, or the first n log entries, of the moment of answering."
 abbrev pub allReply : ℕ → ℕ → ℕ → List ℕ → List ℕ → OnLink

@@ -56,7 +56,7 @@ unfolding ExactOn replyIn hasNumbers sortAt
 reply-exact state n q i t =
     either ExactOn (eqb state 1) (record { all-keys = refl; all-numbers = refl })
     (either ExactOn (eqb state 2) (record { all-keys = refl; all-numbers = refl })
-    (either ExactOn (eqb state 3) (record { all-keys = built-length _ _; all-numbers = refl })
+    (either ExactOn (eqb state 3) (record { all-keys = built-length _ _; all-numbers = built-length _ _ })
     (either ExactOn (eqb state 4) (record { all-keys = refl; all-numbers = refl })
     (either ExactOn (eqb i 16) (record { all-keys = built-length _ n; all-numbers = built-length _ n }) (record { all-keys = built-length _ n; all-numbers = built-length _ n })))))
 

@@ -41,6 +41,9 @@ module _ (n p : ℕ) (f : KeyFits n p) where
       (λ e. rw (eq-eqb n 0 e) (stands 16 0 p 0 (f .client) (omega arith) (omega (arith, f .first e))))
       (λ d. rw (ne-eqb n 0 d) (stands 16 0 p 15 (f .client) (omega arith) (omega (arith, f .client))))
 
+tag-stands : (t : ℕ) → t < 256 → (ltb t 256 && (leb 0 t && leb t 255)) ≡ true
+tag-stands t h = stands 256 0 t 255 h (omega arith) (omega arith)
+
 setpoint-stands : (s : ℕ) → s < 4294967296 → (ltb s 4294967296 && (leb 0 s && leb s 4294967295)) ≡ true
 setpoint-stands s h = stands 4294967296 0 s 4294967295 h (omega arith) (omega arith)
 
@@ -165,17 +168,21 @@ module _ (q : ℕ) (q-fits : q < 16) (n : ℕ) (some : 1 ≤ n) (keys : List ℕ
         rw (count-value numbered keys numbers j, client-value numbered keys numbers j, number-value numbered keys numbers j)
         (record { key = keyed j h; number = right j h })
 
-  pub keys-writable : (tag : ℕ) → tag < 256 → n ≤ 16 → writable (Keys q tag n) keys [] ≡ true
-  unfolding writable hasPlaces valuesOf good format fixed nextOf placeAfter leftAfter fieldOf within sortAt bitsOf leastOf mostOf entriesIn hasNumbers
-  keys-writable tag h few =
-      both _ _ (both _ _ (le-leb n (length keys) long) refl)
-      (both _ _ (client-stands q q-fits)
-      (both _ _ (stands 256 0 tag 255 h (omega arith) (omega arith))
-      (both _ _ (stands 32 1 n 16 (omega arith) some few) (entries-good 6 q refl refl (entryValue false keys []) n n (3 * n) (each 6 false [] (λ j l. refl))))))
-
   module _ (numbers : List ℕ) (long′ : n ≤ length numbers) (few : n ≤ 256) where
     back : n - 1 + 1 ≡ n
     back = omega arith
+
+    pub keys-writable : (tag : ℕ) → tag < 256 → n ≤ 16 →
+        ((j : ℕ) → j < n → getD numbers j 0 < 256) → writable (Keys q tag n) keys numbers ≡ true
+    unfolding writable hasPlaces valuesOf good format fixed nextOf placeAfter leftAfter fieldOf within sortAt bitsOf leastOf mostOf
+        entriesIn hasNumbers
+    keys-writable tag h few fits =
+        both _ _ (both _ _ (le-leb n (length keys) long) (le-leb n (length numbers) long′))
+        (both _ _ (client-stands q q-fits)
+        (both _ _ (tag-stands tag h)
+        (both _ _ (stands 32 1 n 16 (omega arith) some few)
+        (entries-good 6 q refl refl (entryValue true keys numbers) n n (3 * n)
+        (each 6 true numbers (λ j l. tag-stands (getD numbers j 0) (fits j l)))))))
 
     pub all-writable : (i : ℕ) → i < 16 → ((j : ℕ) → j < n → getD numbers j 0 < 4294967296) → writable (All q i n) keys numbers ≡ true
     unfolding writable hasPlaces valuesOf good format fixed nextOf placeAfter leftAfter fieldOf within sortAt bitsOf leastOf mostOf entriesIn hasNumbers

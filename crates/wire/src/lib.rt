@@ -93,22 +93,23 @@ fn last_tag(entries: u32) -> u8
     (entries - 1) as u8
 }
 
-// The head's reply to a client that asks for keys: the last tag of the log as it was, and the keys of all servers at it.
+// The head's reply to a client that asks for keys: the last tag of the log as it was, and at it the keys of all servers, each with the tag
+// that it comes from.
 fn write_keys(log: &[u32], servers: u32, number: u32, client: u8, bytes: &mut [u8]) -> Written
     requires { ⌜ LogReady (now log) number × (servers ≤ 16) ⌝ }
     ensures { λ r. ⌜ sent r (now (bytes .exit)) ≡ wroteFrom (keysReply number client servers (now (log .entry))) (now (bytes .entry)) ⌝ }
 {
-    let mut words = [0u32; 16];
-    let none = [0u32; 0];
+    let mut keys = [0u32; 16];
+    let mut tags = [0u32; 16];
     let tag = last_tag(number);
     let count = servers as usize;
-    coordinator::keys_at(log, count, tag as usize, &mut words);
+    coordinator::latest_entries(log, count, tag as usize, &mut keys, &mut tags);
     let message = Message::Keys {
         client: client,
         tag: tag,
         entries: servers,
     };
-    frames::write_frame(message, &words[..count], &none, bytes)
+    frames::write_frame(message, &keys[..count], &tags[..count], bytes)
 }
 
 // The head's reply under C: the first entries of the log.

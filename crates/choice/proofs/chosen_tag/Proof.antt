@@ -17,7 +17,7 @@ returns-2 : tie.Need-returns-2
 returns-2 c = let a = c .before .before .before .before .before .before .args in newest-serves (a .keys .now) (a .log .now) (a .mask) (receivedIn (a .clients .now) (a .client)) (a .servers) (a .entries) (c .before .before .if1 .left) (sym (c .before .all-serve .ensures) ∙ c .if2 .taken)
 
 greatest-tag-requires : tie.Need-greatest-tag-requires
-greatest-tag-requires c κs = let a = c .before .before .before .before .before .before .before .args in let p = c .before .before .before .before .before .before .before .pre in ((p .0 .1, few-wanted (a .keys .now) (a .log .now) (a .mask) (receivedIn (a .clients .now) (a .client)) (a .servers) (c .first-servers .ensures)), (omega (arith, c .before .before .before .if1 .left), p .1))
+greatest-tag-requires c κs = let a = c .before .before .before .before .before .before .before .args in let p = c .before .before .before .before .before .before .before .pre in ((p .0 .1, few-wanted (a .keys .now) (a .log .now) (a .mask) (receivedIn (a .clients .now) (a .client)) (a .servers) (c .first-servers .ensures)), (omega (arith, c .before .before .before .if1 .left), p .1 .1))
 
 returns-3 : tie.Need-returns-3
 returns-3 c = let a = c .before .before .before .before .before .before .before .before .args in c .greatest-tag .ensures ∙ same-choice (a .keys .now) (a .log .now) (a .mask) (receivedIn (a .clients .now) (a .client)) (a .servers) (c .before .first-servers .ensures) (a .entries)

@@ -4,7 +4,7 @@ use Rattle.choice.proofs.has_version.Statement.{statement}
 use Rattle.choice.proofs.has_version.Tie as tie
 
 returns : tie.Need-returns
-returns c = rw (c .find .ensures, c .before .latest-key .ensures, c .before .before .client-word .ensures)
+returns c = rw (c .find .ensures, c .before .before .latest-entry .ensures, c .before .before .before .client-word .ensures)
 
 pub has-version-spec : {M : Type 1} → statement M
 has-version-spec =

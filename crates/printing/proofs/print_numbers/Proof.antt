@@ -6,14 +6,14 @@ use lib.Seq.{take-all}
 use native.Mathlib.Omega.{arith}
 use Rattle.schedule.specs.Decimal.{spacedAll}
 use Rattle.printing.specs.Printed.{Printed}
-use Rattle.printing.specs.Sizes.{spacedMost}
+use Rattle.printing.specs.Sizes.{markedMost}
 use Rattle.printing.specs.TextLaws.{printed-nothing, printed-number}
 use borrow.Author.Needs.{needs}
 use Rattle.printing.proofs.print_numbers.Statement.{statement}
 use Rattle.printing.proofs.print_numbers.Tie as tie
 
 abbrev Inv-loop : tie.InvT-loop
-Inv-loop numbers out₀ at next₀ i₀ out next i = Printed out₀ at (spacedAll (take i numbers)) next out × ((next ≤ at + spacedMost * i) × ((i ≤ length numbers) × (length out ≡ length out₀)))
+Inv-loop numbers out₀ at next₀ i₀ out next i = Printed out₀ at (spacedAll (take i numbers)) next out × ((next ≤ at + markedMost * i) × ((i ≤ length numbers) × (length out ≡ length out₀)))
 
 abbrev μ-loop : tie.MeasureT-loop
 μ-loop numbers out₀ at next₀ i₀ out next i = length numbers - i

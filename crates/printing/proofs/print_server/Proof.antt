@@ -1,30 +1,49 @@
--- The mask decides whether there is a text.
+-- Three texts, one behind the other: at most 3, 11 and 11 bytes.
+use mathlib.Core.List.{_++_}
 use native.Mathlib.Omega.{arith}
-use Rattle.printing.specs.PrintedLaws.{printed-none}
-use Rattle.printing.specs.TextLaws.{server-shown, server-passed}
+use Rattle.schedule.specs.DecimalLaws.{two-short}
+use Rattle.printing.specs.Texts.{marked, spaced}
+use Rattle.printing.specs.PrintedLaws.{printed-then}
 use borrow.Author.Needs.{needs}
 use Rattle.printing.proofs.print_server.Statement.{statement}
 use Rattle.printing.proofs.print_server.Tie as tie
 
-returns : tie.Need-returns
-returns c =
-    let at-print-pair = c .before .before in
-    let at-if1 = at-print-pair .before .before .before in
-    let at-has-server = at-if1 .before in
-    let start = at-has-server .before .before .before in (
-      rw (server-shown (start .args .mask) (start .args .setpoints .now) (start .args .server) (at-has-server .has-server .ensures) (at-if1 .if1 .taken))
-          (at-print-pair .print-pair .ensures .0),
-      at-print-pair .print-pair .ensures .1,
+print-marked-requires : tie.Need-print-marked-requires
+print-marked-requires c κs =
+    let at-print-spaced = c .before .before .before in
+    let start = at-print-spaced .before .before .before in
+    let two = two-short (start .args .server) (omega arith) in
+    omega (arith, at-print-spaced .print-spaced .ensures .0 .end, at-print-spaced .print-spaced .kept .1 .0)
+
+print-marked-requires-2 : tie.Need-print-marked-requires-2
+print-marked-requires-2 c κs =
+    let at-print-marked = c .before .before .before in
+    let at-print-spaced = at-print-marked .before .before .before .before in
+    let start = at-print-spaced .before .before .before in
+    let two = two-short (start .args .server) (omega arith) in
+    omega (
+      arith,
+      at-print-spaced .print-spaced .ensures .0 .end,
+      at-print-spaced .print-spaced .kept .1 .0,
+      at-print-marked .print-marked .ensures .1,
+      at-print-marked .print-marked .kept .1 .1 .0,
     )
 
-returns-2 : tie.Need-returns-2
-returns-2 c = (
-  rw (server-passed (c .before .before .before .before .args .mask) (c .before .before .before .before .args .setpoints .now) (c .before .before .before .before .args .server) (c .before .has-server .ensures) (c .if1 .left))
-      (printed-none (c .before .before .before .before .args .out .now) (c .before .before .before .before .args .at) (omega arith)),
-  omega arith,
-)
+returns : tie.Need-returns
+returns c =
+    let at-tag = c .before .before in
+    let at-setpoint = at-tag .before .before .before .before in
+    let at-server = at-setpoint .before .before .before .before in
+    let start = at-server .before .before .before in
+    let a = start .args in
+    let out = a .out .now in
+    let two = two-short (a .server) (omega arith) in
+    let both = printed-then out (spaced (a .server)) (marked 61 (a .setpoint)) (a .at) (omega arith) (at-server .print-spaced .ensures .0) (at-setpoint .print-marked .ensures .0) in (
+      printed-then out (spaced (a .server) ++ marked 61 (a .setpoint)) (marked 64 (a .tag)) (a .at) (omega arith) both (at-tag .print-marked2 .ensures .0),
+      omega (arith, at-server .print-spaced .ensures .0 .end, at-setpoint .print-marked .ensures .1, at-tag .print-marked2 .ensures .1),
+    )
 
 pub print-server-spec : {M : Type 1} → statement M
 print-server-spec =
     tie.close
-    (tie.spec (λ c κs. search needs) (λ c. search needs) (λ c. search needs) (λ c. search needs) (λ c κs. search needs) (λ c. search needs) returns returns-2)
+    (tie.spec (λ c κs. search needs) print-marked-requires print-marked-requires-2 (λ c. search needs) returns)

@@ -5,16 +5,13 @@ use Rattle.replies.proofs.finish.Tie as tie
 
 returns : tie.Need-returns
 returns c =
-    let at-end-read = c .before .before in
+    let at-end-read = c .before .before .before .before in
     let at-put-client-word = at-end-read .before .before .before .before in
-    let at-shown-words = at-put-client-word .before .before in
     record {
-      shown = rw (at-shown-words .shown-words .ensures);
+      shown = search needs;
       idled = at-put-client-word .put-client-word .ensures;
       recorded = at-end-read .end-read .ensures;
     }
 
 pub finish-spec : {M : Type 1} → statement M
-finish-spec =
-    tie.close
-    (tie.spec (λ c κs. search needs) (λ c κs. search needs) (λ c κs. search needs) (λ c. search needs) (λ c. search needs) returns)
+finish-spec = tie.close (tie.spec (λ c κs. search needs) (λ c κs. search needs) (λ c. search needs) (λ c. search needs) returns)

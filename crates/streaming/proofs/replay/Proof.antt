@@ -5,7 +5,8 @@ use lib.ListN.{length}
 use lib.Seq.{length-take-le}
 use Rattle.tables.specs.Layout.{countWords}
 use Rattle.tables.specs.Tables.{tablesOf}
-use Rattle.playing.specs.Playable.{Playable, unopened-playable}
+use Rattle.playing.specs.Playable.{Playable}
+use Rattle.playing.specs.PlayableLaws.{unopened-playable}
 use Rattle.streaming.specs.Sizes.{clientsSize, linksSize, keysSize, valuesSize, logSize, recordsSize}
 use Rattle.window.specs.Window.{Going}
 use Rattle.turn.specs.Turns.{turned-less}

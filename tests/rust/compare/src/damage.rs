@@ -9,10 +9,11 @@ pub fn damage(tables: &mut Tables, random: &mut Random) {
     if random.chance(1, 6) {
         change_together(tables, random);
     }
-    match random.below(12) {
+    match random.below(13) {
         0 => {}
         1 => cut(tables, random),
-        2..=8 => change_word(tables, random),
+        2 => change_kept_tag(tables, random),
+        3..=9 => change_word(tables, random),
         _ => {
             change_word(tables, random);
             change_word(tables, random);
@@ -51,6 +52,14 @@ fn change_word(tables: &mut Tables, random: &mut Random) {
         8 => count.wrapping_add(1),
         _ => random.word(),
     };
+}
+
+/// A tag that a client keeps becomes 0, the log's last one, the log's length, or one more; of a server beyond k that is free.
+fn change_kept_tag(tables: &mut Tables, random: &mut Random) {
+    let entries = tables.counts[ENTRIES];
+    let client = random.below(tables.count(CLIENTS));
+    let place = CLIENT_WORDS * client + TAGS + random.below((tables.count(SERVERS) + 1).min(16));
+    tables.clients[place] = random.pick(&[0, entries - 1, entries, entries + 1]);
 }
 
 /// A place in a table, which is numbered as in `Tables::all`.

@@ -6,7 +6,7 @@ use crate::messages::{long_message, random_message, with_broken_entry, Lent};
 use crate::tally::Tally;
 use crate::Report;
 use ffi::FrameLibrary;
-use frames::lent::{places, read_lent, write_lent, Fixed};
+use frames::lent::{read_lent, write_lent, Fixed};
 use frames::message::{to_server, KINDS};
 use model::Refusal;
 use schedules::Random;
@@ -75,20 +75,18 @@ impl Comparison {
             return Ok(());
         };
         self.tried.count(if message.is_long() { "long frames" } else { "short frames" });
-        self.whole(&frame, places(&message.fixed))?;
+        self.whole(&frame, message.fixed.entries as usize)?;
         self.prefixes(&frame)?;
         self.turned_bits(&frame)
     }
 
     /// The whole frame, with just the places that it needs, with more, with one too few; and with a byte behind it.
-    fn whole(&mut self, frame: &[u8], (key_places, number_places): (usize, usize)) -> Result<(), String> {
-        self.read(frame, key_places, number_places)?;
-        self.read(frame, key_places + 2, number_places + 3)?;
-        if key_places > 0 {
-            self.read(frame, key_places - 1, number_places)?;
-        }
-        if number_places > 0 {
-            self.read(frame, key_places, number_places - 1)?;
+    fn whole(&mut self, frame: &[u8], entries: usize) -> Result<(), String> {
+        self.read(frame, entries, entries)?;
+        self.read(frame, entries + 2, entries + 3)?;
+        if entries > 0 {
+            self.read(frame, entries - 1, entries)?;
+            self.read(frame, entries, entries - 1)?;
         }
         let behind = self.random.pick(&[0, 0, 1, 128, 255]);
         self.read(&[frame, &[behind]].concat(), 256, 256)

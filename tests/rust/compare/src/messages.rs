@@ -7,7 +7,7 @@ use schedules::Random;
 /// Most entries of a message that is not a long one.
 const SHORT: usize = 24;
 
-/// The fixed part of a message and its entries: key words, and setpoints or masks.
+/// The fixed part of a message and its entries: key words, and tags, setpoints or masks.
 #[derive(Clone, Debug)]
 pub struct Lent {
     pub fixed: Fixed,
@@ -73,10 +73,22 @@ fn good_message(random: &mut Random, kind: u32, entries: usize) -> Lent {
         8 => fixed.number = random.word(),
         _ => {}
     }
-    let number: fn(&mut Random) -> u32 = if kind == 10 { Random::word } else { random_mask };
+    let number = match kind {
+        6 => random_tag,
+        10 => Random::word,
+        _ => random_mask,
+    };
     let keys = (0..entries).map(|_| random_key(random)).collect();
     let numbers = (0..entries).map(|_| number(random)).collect();
     Lent { fixed, keys, numbers }
+}
+
+/// A tag of eight bits, often at an end.
+fn random_tag(random: &mut Random) -> u32 {
+    match random.below(2) {
+        0 => random.pick(&[0, 1, 254, 255]),
+        _ => random.below(256) as u32,
+    }
 }
 
 /// A mask of at least one server, often of one alone.
@@ -126,7 +138,7 @@ fn spoil(random: &mut Random, message: &mut Lent) {
         _ if !keys.is_empty() => {
             let place = random.below(keys.len());
             match numbers.get_mut(place) {
-                Some(number) if random.chance(1, 2) => *number = random.pick(&[0, 1, 65535, 65536, u32::MAX]),
+                Some(number) if random.chance(1, 2) => *number = random.pick(&[0, 1, 255, 256, 65535, 65536, u32::MAX]),
                 _ => keys[place] = broken_key(random),
             }
         }

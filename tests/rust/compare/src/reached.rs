@@ -3,7 +3,7 @@
 use crate::tally::Tally;
 use demand3::Summary;
 use model::answer::word;
-use model::{Outcome, Player, Refusal, State, Store};
+use model::{Answer, Outcome, Player, Refusal, State, Store};
 use std::fmt;
 
 /// Of 100 lines about a third is to be refused, unreadable ones among them.
@@ -22,11 +22,15 @@ const ANSWERS: [&str; 28] = [
     "no 13",
 ];
 
+/// Which WRITEs' setpoints READs show.
+const SHOWN: [&str; 3] = ["of the opening", "of the READ's tag", "of an older WRITE"];
+
 /// What was reached so far.
 #[derive(Default)]
 pub struct Reached {
     total: Summary,
     answers: Tally,
+    shown: Tally,
     /// Transactions that began while others were in progress, and the most in progress at once.
     overlapping: usize,
     at_once: usize,
@@ -40,9 +44,26 @@ impl Reached {
         for line in model::line::lines(schedule) {
             let outcome = player.take_line(line);
             self.answers.count(&name(line, &outcome));
+            self.add_shown(&outcome);
             if outcome.is_ok() && matches!(line[0], b'W' | b'R') {
                 self.add_begin(player.store.as_ref().expect("opened"));
             }
+        }
+    }
+
+    /// The tags that a READ shows.
+    fn add_shown(&mut self, outcome: &Outcome) {
+        let Ok(Answer::Read { tag: own, shown }) = outcome else {
+            return;
+        };
+        for one in shown {
+            let [opening, newest, older] = SHOWN;
+            let origin = match one.tag {
+                0 => opening,
+                tag if tag == *own => newest,
+                _ => older,
+            };
+            self.shown.count(origin);
         }
     }
 
@@ -66,6 +87,7 @@ impl Reached {
     /// Fails where something is missing that schedules are for.
     pub fn require_all(&self) -> Result<(), String> {
         self.answers.require(&ANSWERS)?;
+        self.shown.require(&SHOWN)?;
         let Summary { lines, refused, .. } = self.total;
         if 100 * refused < LEAST_REFUSED * lines || 100 * refused > MOST_REFUSED * lines {
             return Err(format!("{refused} of {lines} lines are refused, and {LEAST_REFUSED} to {MOST_REFUSED} of 100 are due"));
@@ -91,6 +113,7 @@ impl fmt::Display for Reached {
         let share = 100.0 * refused as f32 / lines as f32;
         write!(out, "{lines} lines, {accepted} accepted, {refused} refused ({share:.1} %), {openings} openings, ")?;
         write!(out, "{tagged_writes} tagged WRITEs, {finished_reads} finished READs, ")?;
-        write!(out, "{} begun beside others, at most {} at once; answers: {}", self.overlapping, self.at_once, self.answers)
+        write!(out, "{} begun beside others, at most {} at once; ", self.overlapping, self.at_once)?;
+        write!(out, "setpoints shown: {}; answers: {}", self.shown, self.answers)
     }
 }

@@ -3,6 +3,7 @@
 use crate::damage::damage;
 use model::Step;
 use schedules::{Generator, Random};
+use words::layout::CLIENT_WORDS;
 use words::Tables;
 
 /// Opens a store in tables that hold anything and lets it go on by its own steps. All of these tables, and damaged copies,
@@ -56,7 +57,7 @@ pub fn shown(tables: &Tables) -> String {
         "lengths {:?} counts {} clients {} links {} log {} writes {} reads {}",
         tables.lengths(),
         first(&tables.counts, 23),
-        first(&tables.clients, 152),
+        first(&tables.clients, 4 * CLIENT_WORDS),
         first(&tables.links, 204),
         first(&tables.log, 40),
         first(&tables.writes, 50),

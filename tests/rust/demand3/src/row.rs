@@ -1,6 +1,7 @@
 //! The row of one opening: its order, the walk along it, real time, and the register that prints it.
 
 use crate::run::{Kind, Run, Transaction};
+use crate::text::Value;
 use crate::{violation, Violation};
 
 /// The places of the tagged WRITEs and finished READs in the order of the row:
@@ -35,16 +36,20 @@ fn masked(mask: u32, server: usize) -> bool {
     mask >> server & 1 == 1
 }
 
-/// "The row is walked with k values, at first the opening's."
+/// "The row is walked with k values, at first the opening's." "A shown tag must be that of the last WRITE to the station ahead
+/// of the READ in the row, or 0 where there is none": a WRITE sets its tag with its setpoint.
 pub fn walk(run: &Run, row: &[usize]) -> Result<(), Violation> {
-    let mut values = run.opening.clone();
+    let mut values: Vec<Value> = run.opening.iter().map(|&setpoint| Value { setpoint, tag: 0 }).collect();
     for &place in row {
         let transaction = &run.transactions[place];
         let stations: Vec<usize> = (0..values.len()).filter(|&server| masked(transaction.mask, server)).collect();
         match &transaction.kind {
-            Kind::Write { setpoints, .. } => stations.iter().for_each(|&server| values[server] = setpoints[server]),
+            Kind::Write { setpoints, .. } => {
+                let value = |server: usize| Value { setpoint: setpoints[server], tag: tag(run, place) };
+                stations.iter().for_each(|&server| values[server] = value(server));
+            }
             Kind::Read { shown } => {
-                let due: Vec<(usize, u32)> = stations.iter().map(|&server| (server, values[server])).collect();
+                let due: Vec<(usize, Value)> = stations.iter().map(|&server| (server, values[server])).collect();
                 if *shown != due {
                     return Err(violation(
                         0,

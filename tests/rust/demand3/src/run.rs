@@ -1,6 +1,6 @@
 //! The steps behind one opening: which transactions they make, with tags, ends and delivery counts.
 
-use crate::text::{Asked, Said};
+use crate::text::{Asked, Said, Value};
 use crate::{violation, Violation};
 
 const HEAD: usize = 16;
@@ -11,7 +11,7 @@ pub enum Kind {
     /// `count` is how many WRITEs its client has begun; `setpoints` are those of its begin.
     Write { count: usize, setpoints: Vec<u32> },
     /// What it showed, once it has ended.
-    Read { shown: Vec<(usize, u32)> },
+    Read { shown: Vec<(usize, Value)> },
 }
 
 /// "A transaction begins at an accepted begin and finishes at the next reply delivered to its panel that answers write or read."
@@ -164,7 +164,7 @@ impl Run {
         Ok(())
     }
 
-    fn end_read(&mut self, place: usize, tag: usize, shown: Vec<(usize, u32)>, line: usize) -> Result<(), Violation> {
+    fn end_read(&mut self, place: usize, tag: usize, shown: Vec<(usize, Value)>, line: usize) -> Result<(), Violation> {
         let wanted = self.deliveries_of(place);
         let transaction = &mut self.transactions[place];
         let Kind::Read { shown: kept } = &mut transaction.kind else {

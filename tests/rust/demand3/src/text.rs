@@ -13,6 +13,13 @@ pub enum Asked {
     Unreadable,
 }
 
+/// What a station has at a place of the row: a setpoint, and the tag of the WRITE that put it there, 0 for the opening.
+#[derive(Clone, Copy, Debug, PartialEq, Eq)]
+pub struct Value {
+    pub setpoint: u32,
+    pub tag: usize,
+}
+
 /// An answer.
 #[derive(Clone, Debug, PartialEq, Eq)]
 pub enum Said {
@@ -20,7 +27,7 @@ pub enum Said {
     Wait,
     Next,
     Write(usize),
-    Read(usize, Vec<(usize, u32)>),
+    Read(usize, Vec<(usize, Value)>),
     No(u32),
 }
 
@@ -89,8 +96,9 @@ fn answer_of(answer: &str) -> Option<Said> {
     })
 }
 
-/// `station=setpoint`
-fn pair_of(word: &str) -> Option<(usize, u32)> {
-    let (server, setpoint) = word.split_once('=')?;
-    Some((number(server)? as usize, number(setpoint)?))
+/// `station=setpoint@tag`
+fn pair_of(word: &str) -> Option<(usize, Value)> {
+    let (server, value) = word.split_once('=')?;
+    let (setpoint, tag) = value.split_once('@')?;
+    Some((number(server)? as usize, Value { setpoint: number(setpoint)?, tag: number(tag)? as usize }))
 }

@@ -37,7 +37,7 @@ fn a_read_that_always_shows_the_opening() {
     // Shown and registered consistently at tag 0: only real time is broken.
     let right = printed(WRITE_THEN_READ);
     let wrong =
-        right.replace("11 read 1 0=6", "11 read 0 0=5").replace("W 1 0 1 2 6\nR 1 1 7 11 0\n", "R 0 1 7 11 0\nW 1 0 1 2 6\n");
+        right.replace("11 read 1 0=6@1", "11 read 0 0=5@0").replace("W 1 0 1 2 6\nR 1 1 7 11 0\n", "R 0 1 7 11 0\nW 1 0 1 2 6\n");
     assert_ne!(right, wrong);
     let report = check(WRITE_THEN_READ.as_bytes(), wrong.as_bytes()).unwrap_err();
     assert!(report.what.starts_with("real time"), "{report}");
@@ -45,9 +45,55 @@ fn a_read_that_always_shows_the_opening() {
 
 #[test]
 fn a_setpoint_that_is_not_the_rows() {
-    assert!(sample_report("1=30", "1=45").contains("the row has"));
-    assert!(sample_report("read 0 0=1200 1=30", "read 0 0=1200").contains("the row has"));
-    assert!(sample_report("read 0 0=1200 1=30", "read 0 1=30 0=1200").contains("the row has"));
+    assert!(sample_report("1=30@0", "1=45@0").contains("the row has"));
+    assert!(sample_report("read 0 0=1200@0 1=30@0", "read 0 0=1200@0").contains("the row has"));
+    assert!(sample_report("read 0 0=1200@0 1=30@0", "read 0 1=30@0 0=1200@0").contains("the row has"));
+}
+
+/// Method B: panel 0 writes station 0 (tag 1), panel 1 station 1 twice (tags 2 and 3), nobody station 2. Panel 0's READ of all is
+/// told tag 3; before it ends, panel 1 writes all (tag 4).
+const FOUR_WRITES: &str = "O 2 3 2 5 6 7\n\
+    W 0 1 10 0 0\n> 0 0\n< 0 0\n> 0 16\n< 0 16\n\
+    W 1 2 0 20 0\n> 1 1\n< 1 1\n> 1 16\n< 1 16\n\
+    W 1 2 0 30 0\n> 1 1\n< 1 1\n> 1 16\n< 1 16\n\
+    R 0 7\n> 0 16\n\
+    W 1 7 40 40 40\n> 1 0\n< 1 0\n> 1 1\n< 1 1\n> 1 2\n< 1 2\n> 1 16\n< 1 16\n\
+    < 0 16\n> 0 0\n< 0 0\n> 0 1\n< 0 1\n> 0 2\n< 0 2\n";
+
+#[test]
+fn right_setpoints_with_a_wrong_tag() {
+    let right = printed(FOUR_WRITES);
+    let shown = "read 3 0=10@1 1=30@3 2=7@0";
+    let wrong = [
+        ("the READ's own tag for every station", "read 3 0=10@3 1=30@3 2=7@3"),
+        ("the newest entry's, whatever its mask", "read 3 0=10@4 1=30@4 2=7@4"),
+        ("one too small", "read 3 0=10@0 1=30@2 2=7@0"),
+        ("the WRITE before to the station, which is its panel's count too", "read 3 0=10@1 1=30@2 2=7@0"),
+        ("one too large", "read 3 0=10@2 1=30@4 2=7@1"),
+        ("one too large for the opening alone", "read 3 0=10@1 1=30@3 2=7@1"),
+        ("no tag but the opening's", "read 3 0=10@0 1=30@0 2=7@0"),
+        ("the next WRITE to the station", "read 3 0=10@4 1=30@3 2=7@0"),
+        ("another station's", "read 3 0=10@3 1=30@1 2=7@0"),
+        ("a tag that no WRITE has", "read 3 0=10@1 1=30@5 2=7@0"),
+    ];
+    for (what, wrong) in wrong {
+        assert!(report(FOUR_WRITES, &right, shown, wrong).contains("the row has"), "{what}");
+    }
+}
+
+#[test]
+fn a_wrong_tag_beside_an_equal_setpoint() {
+    // The WRITE changes nothing, so that the tag alone tells it from the opening.
+    let schedule = WRITE_THEN_READ.replace("W 0 1 6", "W 0 1 5");
+    let right = printed(&schedule);
+    assert!(report(&schedule, &right, "read 1 0=5@1", "read 1 0=5@0").contains("the row has"));
+}
+
+#[test]
+fn tags_that_are_not_readable() {
+    for wrong in ["1=30", "1=30@", "1=30@00", "1=30@-", "1=30@0@0", "1@0=30", "1=30@0 2"] {
+        assert!(sample_report("1=30@0", wrong).contains("not an answer"), "{wrong}");
+    }
 }
 
 #[test]
@@ -93,19 +139,19 @@ fn the_write_behind_its_reads_in_the_register() {
 
 #[test]
 fn a_read_that_ends_one_delivery_late() {
-    assert!(sample_report("14 read 0 0=1200 1=30", "14 wait").contains("6 of 6 deliveries and has not ended"));
+    assert!(sample_report("14 read 0 0=1200@0 1=30@0", "14 wait").contains("6 of 6 deliveries and has not ended"));
 }
 
 #[test]
 fn a_read_that_ends_early() {
-    assert!(sample_report("12 wait", "12 read 0 0=1200 1=30").contains("ends after 4 deliveries"));
+    assert!(sample_report("12 wait", "12 read 0 0=1200@0 1=30@0").contains("ends after 4 deliveries"));
 }
 
 #[test]
 fn wait_for_ever_under_a() {
     let schedule = "O 1 1 2 5\nR 0 1\n> 0 0\n< 0 0\n";
     let right = printed(schedule);
-    assert!(report(schedule, &right, "4 read 0 0=5", "4 wait").contains("2 of 2 deliveries"));
+    assert!(report(schedule, &right, "4 read 0 0=5@0", "4 wait").contains("2 of 2 deliveries"));
 }
 
 #[test]
@@ -122,7 +168,7 @@ fn a_reply_without_a_request() {
 fn answers_that_no_step_has() {
     assert!(sample_report("7 wait", "7 ok").contains("no such answer"));
     assert!(sample_report("3 ok", "3 wait").contains("no such answer"));
-    assert!(sample_report("15 write 1", "15 read 1 0=1800 1=45").contains("a WRITE answers read"));
+    assert!(sample_report("15 write 1", "15 read 1 0=1800@1 1=45@1").contains("a WRITE answers read"));
     assert!(sample_report("9 ok", "8 ok").contains("another line number"));
     assert!(sample_report("9 ok", "9 OK").contains("not an answer"));
 }

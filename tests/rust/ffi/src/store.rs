@@ -78,7 +78,7 @@ impl StoreLibrary {
 #[cfg(store_exports)]
 mod linked {
     use model::key::{has_server, servers_of};
-    use model::{Answer, Outcome, Refusal, Step};
+    use model::{Answer, Outcome, Refusal, Shown, Step};
     use words::layout::MASK;
     use words::Tables;
 
@@ -124,11 +124,12 @@ mod linked {
         [counts mut, clients mut, links mut, keys ptr, setpoints ptr, log ptr, writes mut, reads mut]
         (client: u32, target: u32) -> Crossing);
 
-    /// A delivered reply's answer, and the setpoints that a READ shows; 0 where it shows none.
+    /// A delivered reply's answer, and the setpoints that a READ shows with their tags; 0 where it shows none.
     #[repr(C)]
     pub struct Crossing {
         pub number: u64,
         pub setpoints: [u32; 16],
+        pub tags: [u32; 16],
     }
 
     pub fn sound(t: &Tables) -> bool {
@@ -177,7 +178,7 @@ mod linked {
 
     #[inline]
     fn plain(number: u32) -> Crossing {
-        Crossing { number: u64::from(number), setpoints: [0; 16] }
+        Crossing { number: u64::from(number), setpoints: [0; 16], tags: [0; 16] }
     }
 
     pub fn outcome(crossing: Crossing, tables: &Tables, step: &Step) -> Outcome {
@@ -196,19 +197,20 @@ mod linked {
     }
 
     /// 2^32 times 1 to 4 is wait, next, write and read, with the tag added; what is smaller refuses.
-    /// Setpoints beside any other answer than read, or of servers that are not masked, would be wrong.
+    /// Setpoints or tags beside any other answer than read, or of servers that are not masked, would be wrong.
     fn arrival(crossing: Crossing, tables: &Tables, client: usize) -> Outcome {
-        let Crossing { number, setpoints } = crossing;
+        let Crossing { number, setpoints, tags } = crossing;
         let tag = (number % (1 << 32)) as usize;
         let mask = if number >> 32 == 4 { tables.client(client)[MASK] } else { 0 };
-        let stray = (0..16).find(|&server| !has_server(mask, server) && setpoints[server] != 0);
-        assert_eq!(stray, None, "a setpoint is shown that was not asked for");
+        let stray = (0..16).find(|&server| !has_server(mask, server) && (setpoints[server], tags[server]) != (0, 0));
+        assert_eq!(stray, None, "a setpoint or a tag is shown that was not asked for");
+        let shown = |server| Shown { server, setpoint: setpoints[server], tag: tags[server] as usize };
         match number >> 32 {
             0 => Err(refused(tag as u32)),
             1 => Ok(Answer::Wait),
             2 => Ok(Answer::Next),
             3 => Ok(Answer::Write { tag }),
-            4 => Ok(Answer::Read { tag, shown: servers_of(mask).map(|server| (server, setpoints[server])).collect() }),
+            4 => Ok(Answer::Read { tag, shown: servers_of(mask).map(shown).collect() }),
             _ => panic!("{number} is no answer"),
         }
     }

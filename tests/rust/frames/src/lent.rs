@@ -2,7 +2,7 @@
 
 use crate::message::Message;
 use crate::{read, write};
-use model::{Entry, Key, Refusal, Version};
+use model::{Entry, Key, Latest, Refusal, Version};
 
 /// What is fixed in a message, as numbers; what a kind lacks is 0, so the server of one to or from the head.
 #[derive(Clone, Copy, Debug, Default, PartialEq, Eq)]
@@ -14,11 +14,6 @@ pub struct Fixed {
     pub number: u32,
     pub tag: u8,
     pub entries: u32,
-}
-
-/// Whether a kind has a number (setpoint or mask) in each entry.
-fn has_numbers(kind: u32) -> bool {
-    matches!(kind, 10 | 12)
 }
 
 /// Reads a frame: entries go to the front of the slices. Refused by 10 or 11, whichever fault comes first, then by 12, with
@@ -46,7 +41,7 @@ pub fn write_lent(fixed: &Fixed, keys: &[u32], numbers: &[u32], bytes: &mut [u8]
 /// The entries of a message as key words and numbers.
 fn entries_of(message: &Message) -> (Vec<u32>, Vec<u32>) {
     match message {
-        Message::Keys { keys, .. } => (keys.iter().map(|key| key.word()).collect(), Vec::new()),
+        Message::Keys { keys, .. } => keys.iter().map(|latest| (latest.key.word(), latest.tag as u32)).unzip(),
         Message::All { versions, .. } => versions.iter().map(|version| (version.key.word(), version.setpoint)).unzip(),
         Message::Log { entries, .. } => entries.iter().map(|entry| (entry.key.word(), entry.mask)).unzip(),
         _ => (Vec::new(), Vec::new()),
@@ -82,7 +77,11 @@ fn message_of(fixed: &Fixed, keys: &[u32], numbers: &[u32]) -> Option<Message> {
         3 => Message::Enter { client, key, mask: number },
         4 => Message::Entered { client, tag },
         5 => Message::WhichKeys { client },
-        6 => Message::Keys { client, tag, keys: lent_keys(keys, entries)? },
+        6 => {
+            let latest = |(key, &tag)| Latest { key, tag: tag as usize };
+            let keys = lent_keys(keys, entries)?.into_iter();
+            Message::Keys { client, tag, keys: keys.zip(numbers.get(..entries)?).map(latest).collect() }
+        }
         7 => Message::Get { client, server, key },
         8 => Message::Got { client, server, setpoint: number },
         9 => Message::GetAll { client, server },
@@ -105,10 +104,4 @@ fn message_of(fixed: &Fixed, keys: &[u32], numbers: &[u32]) -> Option<Message> {
 fn lent_keys(words: &[u32], entries: usize) -> Option<Vec<Key>> {
     let key = |&word: &u32| Some(Key { count: u8::try_from(word / 256).ok()?, client: (word % 256) as u8 });
     words.get(..entries)?.iter().map(key).collect()
-}
-
-/// How many places each slice needs for the entries of this fixed part.
-pub fn places(fixed: &Fixed) -> (usize, usize) {
-    let entries = fixed.entries as usize;
-    (entries, if has_numbers(fixed.kind) { entries } else { 0 })
 }

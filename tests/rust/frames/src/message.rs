@@ -1,6 +1,6 @@
 //! Messages by their kind. Numbers may be too large for their fields: then the message is not writable.
 
-use model::{Entry, Key, Version};
+use model::{Entry, Key, Latest, Version};
 
 #[derive(Clone, Debug, PartialEq, Eq)]
 pub enum Message {
@@ -9,7 +9,7 @@ pub enum Message {
     Enter { client: u8, key: Key, mask: u32 },
     Entered { client: u8, tag: u8 },
     WhichKeys { client: u8 },
-    Keys { client: u8, tag: u8, keys: Vec<Key> },
+    Keys { client: u8, tag: u8, keys: Vec<Latest> },
     Get { client: u8, server: u8, key: Key },
     Got { client: u8, server: u8, setpoint: u32 },
     GetAll { client: u8, server: u8 },

@@ -3,7 +3,7 @@
 use crate::bits::BitReader;
 use crate::check;
 use crate::message::{to_server, Message, HEAD, KINDS, MOST_KEYS};
-use model::{Entry, Key, Refusal, Version};
+use model::{Entry, Key, Latest, Refusal, Version};
 
 /// The message of a frame; refused by 10 or 11.
 pub fn read(bytes: &[u8]) -> Result<Message, Refusal> {
@@ -70,8 +70,13 @@ fn keys(fields: &mut BitReader, client: u8) -> Result<Message, Refusal> {
     let tag = fields.field(8)? as u8;
     let number = fields.field(5)? as usize;
     check((1..=MOST_KEYS).contains(&number))?;
-    let keys = (0..number).map(|_| key(fields)).collect::<Result<_, _>>()?;
+    let keys = (0..number).map(|_| latest(fields)).collect::<Result<_, _>>()?;
     Ok(Message::Keys { client, tag, keys })
+}
+
+/// "an 8-bit tag after each key": any, whatever the frame's own.
+fn latest(fields: &mut BitReader) -> Result<Latest, Refusal> {
+    Ok(Latest { key: key(fields)?, tag: fields.field(8)? as usize })
 }
 
 /// "n-1 in 8, n times" an entry.

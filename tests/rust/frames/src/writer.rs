@@ -34,7 +34,10 @@ fn body(fields: &mut BitWriter, message: &Message) -> Result<(), Refusal> {
             check((1..=MOST_KEYS).contains(&keys.len()))?;
             fields.field(u32::from(*tag), 8)?;
             fields.field(keys.len() as u32, 5)?;
-            keys.iter().try_for_each(|&entry| key(fields, entry))
+            keys.iter().try_for_each(|latest| {
+                key(fields, latest.key)?;
+                fields.field(latest.tag as u32, 8)
+            })
         }
         Message::Get { key: asked, .. } => key(fields, *asked),
         Message::Got { setpoint, .. } => fields.field(*setpoint, 32),

@@ -1,7 +1,7 @@
 //! The bench cards about frames, the longest frames, and that every cut of a good frame is 10.
 
 use frames::{read, write, Message};
-use model::{Entry, Key, Refusal, Version};
+use model::{Entry, Key, Latest, Refusal, Version};
 
 const CARD: [u8; 8] = [0x12, 0x18, 0x09, 0x00, 0x00, 0x03, 0x84, 0x00];
 
@@ -18,7 +18,7 @@ fn messages() -> Vec<Message> {
         Message::Enter { client: 15, key, mask: 65535 },
         Message::Entered { client: 0, tag: 255 },
         Message::WhichKeys { client: 1 },
-        Message::Keys { client: 3, tag: 0, keys: vec![key; 16] },
+        Message::Keys { client: 3, tag: 0, keys: vec![Latest { key, tag: 255 }; 16] },
         Message::Get { client: 4, server: 0, key: Key::OPENING },
         Message::Got { client: 5, server: 9, setpoint: u32::MAX },
         Message::GetAll { client: 6, server: 7 },
@@ -64,7 +64,19 @@ fn every_kind_goes_there_and_back() {
 #[test]
 fn the_longest_frames() {
     let lengths: Vec<usize> = messages().iter().map(|message| write(message).unwrap().len()).collect();
-    assert_eq!([lengths[5], lengths[9], lengths[11]], [28, 1411, 899]);
+    assert_eq!([lengths[5], lengths[9], lengths[11]], [44, 1411, 899]);
+}
+
+/// Panel 2 is told tag 2, at which station 0 has what tag 1 wrote, with key (1, 2), and station 1 the opening's.
+#[test]
+fn a_tag_behind_each_key() {
+    let written = Latest { key: Key { count: 1, client: 2 }, tag: 1 };
+    let keys = vec![written, Latest { key: Key::OPENING, tag: 0 }];
+    // 0110 0010 10000  00000010 00010  00000001 0010 00000001  00000000 0000 00000000  000000
+    let frame = [0x62, 0x80, 0x10, 0x80, 0x48, 0x04, 0x00, 0x00, 0x00];
+    let message = Message::Keys { client: 2, tag: 2, keys };
+    assert_eq!(write(&message), Ok(frame.to_vec()));
+    assert_eq!(read(&frame), Ok(message));
 }
 
 #[test]
@@ -79,7 +91,8 @@ fn messages_that_are_not_writable() {
         Message::Enter { client: 1, key, mask: 65536 },
         Message::Entered { client: 1, tag: 0 },
         Message::Keys { client: 1, tag: 0, keys: vec![] },
-        Message::Keys { client: 1, tag: 0, keys: vec![key; 17] },
+        Message::Keys { client: 1, tag: 0, keys: vec![Latest { key, tag: 0 }; 17] },
+        Message::Keys { client: 1, tag: 0, keys: vec![Latest { key, tag: 256 }] },
         Message::Get { client: 1, server: 0, key: Key { count: 0, client: 1 } },
         Message::All { client: 1, server: 0, versions: vec![] },
         Message::Log { client: 1, entries: vec![Entry { key, mask: 1 }; 257] },

@@ -2,7 +2,7 @@
 
 use frames::link::message_on;
 use frames::write;
-use model::{Entry, Key, Link, Reply, Request, Version};
+use model::{Entry, Key, Latest, Link, Reply, Request, Version};
 
 const OWN: Key = Key { count: 1, client: 2 };
 
@@ -27,12 +27,13 @@ fn requests() {
 
 #[test]
 fn replies() {
-    let keys = vec![Key::OPENING, OWN];
+    let keys = vec![Latest { key: Key::OPENING, tag: 0 }, Latest { key: OWN, tag: 1 }];
     let versions = vec![Version { key: Key::OPENING, setpoint: 30 }, Version { key: OWN, setpoint: 45 }];
     let entries = vec![Entry { key: Key::OPENING, mask: 3 }, Entry { key: OWN, mask: 2 }];
     assert_eq!(frame(Link::Reply(Reply::SetDone), 1), [0x22, 0x08]);
     assert_eq!(frame(Link::Reply(Reply::Entered { tag: 1 }), 16), [0x42, 0x80, 0x08]);
-    assert_eq!(frame(Link::Reply(Reply::Keys { tag: 1, keys }), 16), [0x62, 0x80, 0x08, 0x80, 0, 0x04, 0x80]);
+    let told = [0x62, 0x80, 0x08, 0x80, 0, 0, 0x04, 0x80, 0x40];
+    assert_eq!(frame(Link::Reply(Reply::Keys { tag: 1, keys }), 16), told);
     assert_eq!(frame(Link::Reply(Reply::Got { setpoint: 45 }), 1), [0x82, 0x08, 0, 0, 0x01, 0x68]);
     let all = [0xA2, 0x08, 0x08, 0, 0, 0, 0, 0x0F, 0, 0x90, 0, 0, 0x01, 0x68];
     assert_eq!(frame(Link::Reply(Reply::All { versions }), 1), all);

@@ -20,6 +20,14 @@ pub enum Refusal {
     Unreadable = 13,
 }
 
+/// What a READ shows of a station: "with each setpoint the tag of the WRITE that put it there, 0 for the opening".
+#[derive(Clone, Copy, Debug, PartialEq, Eq)]
+pub struct Shown {
+    pub server: usize,
+    pub setpoint: u32,
+    pub tag: usize,
+}
+
 /// "A delivered reply answers wait, next, write with tag, or read with tag and setpoints. Other accepted steps answer ok."
 #[derive(Clone, Debug, PartialEq, Eq)]
 pub enum Answer {
@@ -27,7 +35,7 @@ pub enum Answer {
     Wait,
     Next,
     Write { tag: usize },
-    Read { tag: usize, shown: Vec<(usize, u32)> },
+    Read { tag: usize, shown: Vec<Shown> },
 }
 
 pub type Outcome = Result<Answer, Refusal>;
@@ -41,7 +49,7 @@ impl fmt::Display for Answer {
             Answer::Write { tag } => write!(out, "write {tag}"),
             Answer::Read { tag, shown } => {
                 write!(out, "read {tag}")?;
-                shown.iter().try_for_each(|(server, setpoint)| write!(out, " {server}={setpoint}"))
+                shown.iter().try_for_each(|Shown { server, setpoint, tag }| write!(out, " {server}={setpoint}@{tag}"))
             }
         }
     }

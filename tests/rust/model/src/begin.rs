@@ -3,7 +3,7 @@
 use crate::answer::{Answer, Outcome, Refusal};
 use crate::client::State;
 use crate::history::{ReadRecord, WriteRecord};
-use crate::key::{key_at, servers_of, Key};
+use crate::key::{latest, servers_of, Key};
 use crate::link::{Link, Request};
 use crate::store::{Method, Store};
 use crate::{COORDINATOR, MOST_BEGUN};
@@ -70,7 +70,7 @@ impl Store {
         match self.method {
             Method::A => {
                 reader.tag = tag;
-                reader.ask_for_keys(|server| key_at(&self.log, server, tag));
+                reader.ask_for_keys(|server| latest(&self.log, server, tag));
             }
             Method::B => {
                 reader.links[COORDINATOR] = Link::Request(Request::WhichKeys);

@@ -1,6 +1,7 @@
 //! A panel: its state, its fields and its links.
 
-use crate::key::{servers_of, Entry, Key, Version};
+use crate::answer::Shown;
+use crate::key::{servers_of, Entry, Latest, Version};
 use crate::link::{Link, Request};
 use crate::COORDINATOR;
 
@@ -25,6 +26,8 @@ pub struct Client {
     pub mask: u32,
     pub tag: usize,
     pub setpoints: [u32; 16],
+    /// "Under A and B a panel keeps the wanted stations' tags while it asks."
+    pub tags: [usize; 16],
     /// Under C, the versions received from each server in this READ; n is their number.
     pub versions: [Vec<Version>; 16],
     /// Under C, the log received in this READ.
@@ -46,18 +49,19 @@ impl Client {
         self.servers_answered() && self.links[COORDINATOR] == Link::Nothing
     }
 
-    /// "ask each masked station for its key"
-    pub fn ask_for_keys(&mut self, key_of: impl Fn(usize) -> Key) {
+    /// "ask each masked station for its key"; its tag is kept meanwhile, and behind the READ's end.
+    pub fn ask_for_keys(&mut self, latest_of: impl Fn(usize) -> Latest) {
         for server in servers_of(self.mask) {
-            let key = key_of(server);
+            let Latest { key, tag } = latest_of(server);
             self.links[server] = Link::Request(Request::Get { key });
+            self.tags[server] = tag;
         }
         self.state = State::AskingSetpoints;
     }
 
-    /// The setpoints of the masked servers, as a READ shows them.
-    pub fn shown(&self) -> Vec<(usize, u32)> {
-        let pairs = servers_of(self.mask).map(|server| (server, self.setpoints[server]));
-        pairs.collect()
+    /// The setpoints of the masked servers, as a READ shows them beside these tags.
+    pub fn shown(&self, tags: &[usize; 16]) -> Vec<Shown> {
+        let shown = servers_of(self.mask).map(|server| Shown { server, setpoint: self.setpoints[server], tag: tags[server] });
+        shown.collect()
     }
 }

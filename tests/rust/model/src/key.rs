@@ -41,12 +41,19 @@ pub fn servers_of(mask: u32) -> impl Iterator<Item = usize> {
     (0..16).filter(move |&server| has_server(mask, server))
 }
 
+/// What the search back through the log gives: an entry's key, and its tag.
+#[derive(Clone, Copy, Debug, PartialEq, Eq)]
+pub struct Latest {
+    pub key: Key,
+    pub tag: usize,
+}
+
 /// "The key of station i at tag t is that of the latest log entry, at t or before it, whose mask has i."
 /// The caller's log has an entry of all stations at tag 0, so there is one.
-pub fn key_at(log: &[Entry], server: usize, tag: usize) -> Key {
-    let entries = log[..=tag].iter();
-    let latest = entries.rev().find(|entry| has_server(entry.mask, server));
-    latest.expect("tag 0 has all stations").key
+pub fn latest(log: &[Entry], server: usize, tag: usize) -> Latest {
+    let mut entries = log[..=tag].iter();
+    let tag = entries.rposition(|entry| has_server(entry.mask, server)).expect("tag 0 has all stations");
+    Latest { key: log[tag].key, tag }
 }
 
 /// "A key is looked up as the first version that bears it."

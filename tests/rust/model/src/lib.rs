@@ -1,5 +1,5 @@
-//! Document 01 in plain Rust: the store, its five steps, the history and the program that plays a schedule.
-//! It is written from the paper and the readings in docs/DECISIONS.md, and shares no code with the proved crates.
+//! Documents 01 and 02 (E1) in plain Rust: the store, its five steps, the history and the program that plays a schedule.
+//! It is written from the papers and the readings in docs/DECISIONS.md, and shares no code with the proved crates.
 //!
 //! A press is a `Store` here, a station a server, a panel a client, the head the coordinator, the register the history.
 
@@ -17,10 +17,10 @@ mod request;
 pub mod step;
 pub mod store;
 
-pub use answer::{Answer, Outcome, Refusal};
+pub use answer::{Answer, Outcome, Refusal, Shown};
 pub use client::{Client, State};
 pub use history::{ReadRecord, WriteRecord};
-pub use key::{Entry, Key, Version};
+pub use key::{Entry, Key, Latest, Version};
 pub use link::{Link, Reply, Request};
 pub use replay::{replay, Player};
 pub use step::Step;

@@ -1,6 +1,6 @@
 //! What a link (panel, target) holds: nothing, a request or a reply with its contents.
 
-use crate::key::{Entry, Key, Version};
+use crate::key::{Entry, Key, Latest, Version};
 
 /// What a client sends.
 #[derive(Clone, Debug, PartialEq, Eq)]
@@ -18,7 +18,7 @@ pub enum Request {
 pub enum Reply {
     SetDone,
     Entered { tag: usize },
-    Keys { tag: usize, keys: Vec<Key> },
+    Keys { tag: usize, keys: Vec<Latest> },
     Got { setpoint: u32 },
     All { versions: Vec<Version> },
     Log { entries: Vec<Entry> },

@@ -3,7 +3,7 @@
 use crate::answer::{Answer, Outcome, Refusal};
 use crate::choice::chosen_tag;
 use crate::client::State;
-use crate::key::{key_at, servers_of, setpoint_of, Key};
+use crate::key::{latest, servers_of, setpoint_of, Key, Latest};
 use crate::link::{Link, Reply, Request};
 use crate::store::Store;
 use crate::COORDINATOR;
@@ -31,7 +31,7 @@ impl Store {
             }
             Reply::Got { setpoint } => {
                 self.clients[client].setpoints[target] = setpoint;
-                self.end_read_if(client, self.clients[client].servers_answered())
+                self.end_if_answered(client)
             }
             Reply::All { versions } => {
                 self.clients[client].versions[target] = versions;
@@ -66,37 +66,47 @@ impl Store {
         Answer::Write { tag }
     }
 
-    /// C: "when all replies are in", the tag is chosen and the setpoints are stored.
-    fn choose_if_complete(&mut self, client: usize) -> Answer {
-        let complete = self.clients[client].all_answered();
-        if complete {
-            self.choose(client);
+    /// A and B: the tags shown are those kept since the stations were asked.
+    fn end_if_answered(&mut self, client: usize) -> Answer {
+        if !self.clients[client].servers_answered() {
+            return Answer::Wait;
         }
-        self.end_read_if(client, complete)
+        let tags = self.clients[client].tags;
+        self.end_read(client, &tags)
     }
 
-    fn choose(&mut self, client: usize) {
+    /// C: "when all replies are in", the tag is chosen and the setpoints are stored.
+    fn choose_if_complete(&mut self, client: usize) -> Answer {
+        if !self.clients[client].all_answered() {
+            return Answer::Wait;
+        }
+        let tags = self.choose(client);
+        self.end_read(client, &tags)
+    }
+
+    /// The stations' tags, which C shows and does not keep.
+    fn choose(&mut self, client: usize) -> [usize; 16] {
         let reader = &mut self.clients[client];
+        let mut tags = [0; 16];
         reader.tag = chosen_tag(&reader.log, &reader.versions, reader.mask);
         for server in servers_of(reader.mask) {
-            let key = key_at(&reader.log, server, reader.tag);
+            let Latest { key, tag } = latest(&reader.log, server, reader.tag);
             let setpoint = setpoint_of(&reader.versions[server], key);
             reader.setpoints[server] = setpoint.expect("the chosen tag's key was received");
+            tags[server] = tag;
         }
         reader.versions = Default::default();
         reader.log.clear();
+        tags
     }
 
-    /// Ends a READ that has all it asked for: the tag is recorded and shown with the setpoints.
-    fn end_read_if(&mut self, client: usize, complete: bool) -> Answer {
-        if !complete {
-            return Answer::Wait;
-        }
+    /// Ends a READ that has all it asked for: its tag is recorded, and shown with the setpoints and theirs.
+    fn end_read(&mut self, client: usize, tags: &[usize; 16]) -> Answer {
         let reader = &mut self.clients[client];
         reader.state = State::Idle;
         let record = &mut self.reads[reader.record];
         record.tag = reader.tag;
         record.end = Some(self.step);
-        Answer::Read { tag: reader.tag, shown: reader.shown() }
+        Answer::Read { tag: reader.tag, shown: reader.shown(tags) }
     }
 }

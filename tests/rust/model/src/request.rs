@@ -1,7 +1,7 @@
 //! The delivery of a request: what a station or the head does with it, and the reply left on the link.
 
 use crate::answer::{Answer, Outcome, Refusal};
-use crate::key::{key_at, setpoint_of, Entry, Key, Version};
+use crate::key::{latest, setpoint_of, Entry, Key, Version};
 use crate::link::{Link, Reply, Request};
 use crate::store::Store;
 use crate::MOST_HELD;
@@ -50,10 +50,10 @@ impl Store {
         Ok(Reply::Entered { tag })
     }
 
-    /// "its reply has the last tag and all k keys"
+    /// "its reply has the last tag and all k keys", each with its own tag
     fn newest_keys(&self) -> Reply {
         let tag = self.last_tag();
-        let keys = (0..self.servers.len()).map(|server| key_at(&self.log, server, tag));
+        let keys = (0..self.servers.len()).map(|server| latest(&self.log, server, tag));
         Reply::Keys { tag, keys: keys.collect() }
     }
 

@@ -1,7 +1,7 @@
-//! The bench cards that are about steps.
+//! The bench cards that are about steps, and the tags that READs show.
 
-use model::key::{key_at, Entry, Key};
-use model::{replay, Answer, Refusal, Store};
+use model::key::{latest, servers_of, Entry, Key, Latest};
+use model::{replay, Answer, Refusal, Shown, Store};
 
 fn opened(method: u32, servers: u32, clients: u32) -> Store {
     let setpoints: Vec<u32> = (0..servers).map(|server| 100 + server).collect();
@@ -14,14 +14,20 @@ fn cross(store: &mut Store, client: u32, target: u32) -> Answer {
     store.deliver_reply(client, target).expect("a reply")
 }
 
-/// A WRITE of one value to the first `servers` servers, from its begin to its end.
-fn write_all(store: &mut Store, client: u32, servers: u32, setpoint: u32) -> Answer {
+/// A WRITE of one value to the servers of a mask, from its begin to its end.
+fn write_to(store: &mut Store, client: u32, mask: u32, setpoint: u32) -> Answer {
     let setpoints = vec![setpoint; store.servers.len()];
-    store.begin_write(client, (1 << servers) - 1, &setpoints).expect("accepted");
-    for server in 0..servers {
-        cross(store, client, server);
+    store.begin_write(client, mask, &setpoints).expect("accepted");
+    for server in servers_of(mask) {
+        cross(store, client, server as u32);
     }
     cross(store, client, 16)
+}
+
+/// The answer of a READ, of each server its number, setpoint and tag.
+fn read(tag: usize, shown: &[(usize, u32, usize)]) -> Answer {
+    let shown = shown.iter().map(|&(server, setpoint, tag)| Shown { server, setpoint, tag });
+    Answer::Read { tag, shown: shown.collect() }
 }
 
 #[test]
@@ -50,8 +56,8 @@ fn a_busy_panel_with_mask_0() {
 fn keys_at_tag_1() {
     let first = Key { count: 1, client: 0 };
     let log = [Entry { key: Key::OPENING, mask: 3 }, Entry { key: first, mask: 1 }];
-    assert_eq!(key_at(&log, 0, 1), first);
-    assert_eq!(key_at(&log, 1, 1), Key::OPENING);
+    assert_eq!(latest(&log, 0, 1), Latest { key: first, tag: 1 });
+    assert_eq!(latest(&log, 1, 1), Latest { key: Key::OPENING, tag: 0 });
 }
 
 #[test]
@@ -59,11 +65,10 @@ fn c_one_write_seen_by_one_station_only() {
     let mut store = opened(3, 2, 2);
     store.begin_read(1, 3).unwrap();
     store.deliver_request(1, 0).unwrap();
-    assert_eq!(write_all(&mut store, 0, 2, 9), Answer::Write { tag: 1 });
+    assert_eq!(write_to(&mut store, 0, 3, 9), Answer::Write { tag: 1 });
     assert_eq!(store.deliver_reply(1, 0), Ok(Answer::Wait));
     assert_eq!(cross(&mut store, 1, 1), Answer::Wait);
-    let shown = vec![(0, 100), (1, 101)];
-    assert_eq!(cross(&mut store, 1, 16), Answer::Read { tag: 0, shown });
+    assert_eq!(cross(&mut store, 1, 16), read(0, &[(0, 100, 0), (1, 101, 0)]));
 }
 
 #[test]
@@ -79,7 +84,7 @@ fn c_does_not_stop_at_the_first_missing_key() {
     assert_eq!(cross(&mut store, 0, 16), Answer::Write { tag: 1 });
     assert_eq!(cross(&mut store, 1, 16), Answer::Write { tag: 2 });
     assert_eq!(store.deliver_reply(2, 0), Ok(Answer::Wait));
-    assert_eq!(cross(&mut store, 2, 16), Answer::Read { tag: 2, shown: vec![(0, 8)] });
+    assert_eq!(cross(&mut store, 2, 16), read(2, &[(0, 8, 2)]));
 }
 
 #[test]
@@ -87,7 +92,7 @@ fn write_256_is_refused() {
     for method in 1..=3 {
         let mut store = opened(method, 1, 2);
         for number in 1..=255 {
-            assert_eq!(write_all(&mut store, 1, 1, 5), Answer::Write { tag: number });
+            assert_eq!(write_to(&mut store, 1, 1, 5), Answer::Write { tag: number });
         }
         assert_eq!(store.begin_write(1, 1, &[5]), Err(Refusal::Exhausted));
         assert_eq!(store.log.len(), 256);
@@ -127,4 +132,80 @@ fn a_reads_at_the_head_and_writes_elsewhere() {
     assert_eq!(store.begin_write(0, 1, &[5]), Err(Refusal::WrongPart));
     assert_eq!(store.begin_read(1, 1), Err(Refusal::WrongPart));
     assert_eq!(store.deliver_request(0, 16), Err(Refusal::NothingThere));
+}
+
+/// Targets in the order in which a READ of both servers can go through.
+fn both(method: u32) -> &'static [u32] {
+    [&[0, 1][..], &[16, 0, 1], &[0, 1, 16]][method as usize - 1]
+}
+
+#[test]
+fn one_write_to_one_station_then_a_read_of_both() {
+    for method in 1..=3 {
+        let mut store = opened(method, 2, 2);
+        write_to(&mut store, 1, 1, 1800);
+        store.begin_read(0, 3).unwrap();
+        let answers: Vec<Answer> = both(method).iter().map(|&target| cross(&mut store, 0, target)).collect();
+        let last = answers.last().expect("an answer");
+        assert_eq!(*last, read(1, &[(0, 1800, 1), (1, 101, 0)]));
+        assert_eq!(last.to_string(), "read 1 0=1800@1 1=101@0");
+    }
+}
+
+#[test]
+fn c_falls_back_to_an_older_tag_and_shows_its_tags() {
+    let mut store = opened(3, 2, 2);
+    write_to(&mut store, 0, 1, 7);
+    write_to(&mut store, 0, 2, 8);
+    store.begin_read(1, 3).unwrap();
+    store.deliver_request(1, 0).unwrap();
+    assert_eq!(write_to(&mut store, 0, 3, 9), Answer::Write { tag: 3 });
+    cross(&mut store, 1, 1);
+    cross(&mut store, 1, 16);
+    // Server 1 has 9 too, but server 0 answered without it: tag 2, at which server 0 has what tag 1 wrote.
+    assert_eq!(store.deliver_reply(1, 0), Ok(read(2, &[(0, 7, 1), (1, 8, 2)])));
+}
+
+/// The tags that client 0 keeps for two servers.
+fn kept(store: &Store) -> [usize; 2] {
+    [store.clients[0].tags[0], store.clients[0].tags[1]]
+}
+
+#[test]
+fn a_keeps_the_wanted_tags_from_the_begin() {
+    let mut store = opened(1, 2, 2);
+    write_to(&mut store, 1, 3, 7);
+    store.begin_read(0, 1).unwrap();
+    assert_eq!(kept(&store), [1, 0]);
+    write_to(&mut store, 1, 3, 8);
+    assert_eq!(cross(&mut store, 0, 0), read(1, &[(0, 7, 1)]));
+    // Station 0's stays where it is not wanted, and where the READ has ended.
+    store.begin_read(0, 2).unwrap();
+    assert_eq!(kept(&store), [1, 2]);
+    cross(&mut store, 0, 1);
+    assert_eq!(kept(&store), [1, 2]);
+}
+
+#[test]
+fn b_keeps_the_wanted_tags_from_the_keys_reply() {
+    let mut store = opened(2, 2, 2);
+    write_to(&mut store, 1, 3, 7);
+    store.begin_read(0, 2).unwrap();
+    store.deliver_request(0, 16).unwrap();
+    write_to(&mut store, 1, 3, 8);
+    assert_eq!(kept(&store), [0, 0]);
+    store.deliver_reply(0, 16).unwrap();
+    assert_eq!(kept(&store), [0, 1]);
+    assert_eq!(cross(&mut store, 0, 1), read(1, &[(1, 7, 1)]));
+}
+
+#[test]
+fn c_keeps_no_tags() {
+    let mut store = opened(3, 2, 2);
+    write_to(&mut store, 1, 3, 7);
+    store.clients[0].tags[1] = 1;
+    store.begin_read(0, 1).unwrap();
+    cross(&mut store, 0, 0);
+    assert_eq!(cross(&mut store, 0, 16), read(1, &[(0, 7, 1)]));
+    assert_eq!(kept(&store), [0, 1]);
 }

@@ -22,6 +22,11 @@ fn the_sample_prints_its_output() {
 }
 
 #[test]
+fn the_sample_shows_the_opening() {
+    assert!(printed(INPUT).contains("\n14 read 0 0=1200@0 1=30@0\n"));
+}
+
+#[test]
 fn a_missing_last_newline_changes_nothing() {
     assert_eq!(printed(INPUT.trim_end()), OUTPUT);
 }

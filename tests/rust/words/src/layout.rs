@@ -17,7 +17,7 @@ pub struct Tables {
 
 /// Words of each table's row, and rows of a fixed number.
 pub const COUNTS_WORDS: usize = 23;
-pub const CLIENT_WORDS: usize = 38;
+pub const CLIENT_WORDS: usize = 54;
 pub const LINK_WORDS: usize = 3;
 pub const LINKS_OF_CLIENT: usize = 17;
 pub const VERSIONS_OF_SERVER: usize = 256;
@@ -44,6 +44,7 @@ pub const TAG: usize = 3;
 pub const RECORD: usize = 4;
 pub const SETPOINTS: usize = 5;
 pub const RECEIVED: usize = 21;
+pub const TAGS: usize = 38;
 
 /// Kinds of what a link holds.
 pub const NOTHING: u32 = 0;

@@ -1,7 +1,7 @@
 //! The model's store from sound tables.
 
 use crate::layout::*;
-use model::key::key_at;
+use model::key::latest;
 use model::{Client, Entry, Link, Method, ReadRecord, Reply, Request, State, Store, Version, WriteRecord, COORDINATOR};
 
 /// The store that sound tables hold.
@@ -65,13 +65,14 @@ fn state_of(word: u32) -> State {
 
 fn client_of(tables: &Tables, servers: &[Vec<Version>], log: &[Entry], client: usize) -> Client {
     let row = tables.client(client);
-    let received = &row[RECEIVED..];
+    let received = &row[RECEIVED..TAGS];
     let mut found = Client {
         state: state_of(row[STATE]),
         count: row[COUNT] as u8,
         mask: row[MASK],
         tag: row[TAG] as usize,
         setpoints: row[SETPOINTS..RECEIVED].try_into().expect("16 setpoints"),
+        tags: std::array::from_fn(|server| row[TAGS + server] as usize),
         log: log[..received[COORDINATOR] as usize].to_vec(),
         record: row[RECORD] as usize,
         ..Client::default()
@@ -114,7 +115,7 @@ fn reply_of(number: u32, state: State, target: usize, servers: &[Vec<Version>], 
         State::WaitingForTag => Reply::Entered { tag: first },
         State::AskingCoordinator => {
             let tag = first - 1;
-            let keys = (0..servers.len()).map(|server| key_at(log, server, tag));
+            let keys = (0..servers.len()).map(|server| latest(log, server, tag));
             Reply::Keys { tag, keys: keys.collect() }
         }
         State::AskingSetpoints => Reply::Got { setpoint: number },

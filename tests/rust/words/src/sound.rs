@@ -120,6 +120,7 @@ fn client_sound(tables: &Tables, press: &Press, client: usize) -> bool {
         && (count >= 1 || !matches!(state, 1 | 2))
         && (press.mask(mask) || (state == 0 && mask == 0))
         && (row[TAG] as usize) < tables.count(ENTRIES)
+        && (0..press.servers).all(|server| (row[TAGS + server] as usize) < tables.count(ENTRIES))
         && (0..LINKS_OF_CLIENT).all(|target| link_sound(tables, press, client, target))
         && (0..LINKS_OF_CLIENT).all(|target| received_sound(tables, client, target))
         && waits(tables, client)

@@ -104,6 +104,9 @@ fn client_words(client: &Client) -> [u32; CLIENT_WORDS] {
         row[RECEIVED + server] = received.len() as u32;
     }
     row[RECEIVED + COORDINATOR] = client.log.len() as u32;
+    for (server, &tag) in client.tags.iter().enumerate() {
+        row[TAGS + server] = tag as u32;
+    }
     row
 }
 

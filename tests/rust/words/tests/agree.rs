@@ -2,7 +2,7 @@
 
 use model::{Refusal, Step};
 use schedules::Generator;
-use words::layout::{CLIENTS, HELD, METHOD, STEP};
+use words::layout::{CLIENTS, CLIENT_WORDS, HELD, METHOD, STEP, TAGS};
 use words::{sound, store_of, take, Tables};
 
 /// Opens a store in tables full of a word.
@@ -54,6 +54,34 @@ fn single_words_that_break_soundness() {
         broken.counts[place] = word;
         assert!(!sound(&broken), "counts[{place}] = {word}");
         assert_eq!(take(&mut broken, &Step::BeginRead { client: 0, mask: 1 }), Err(Refusal::Unsound));
+    }
+}
+
+/// Tables whose log has tags 0 and 1: client 1 has written to server 0 and waits for its tag, client 0 is idle.
+fn written(method: u32) -> Tables {
+    let opening = Step::Open { method, servers: 2, clients: 2, setpoints: vec![1, 2] };
+    let mut tables = opened(&opening, 0);
+    let (client, mask) = (1, 1);
+    let steps = [
+        Step::BeginWrite { client, mask, setpoints: vec![8, 9] },
+        Step::DeliverRequest { client, target: 0 },
+        Step::DeliverReply { client, target: 0 },
+        Step::DeliverRequest { client, target: 16 },
+    ];
+    steps.iter().for_each(|step| drop(take(&mut tables, step).expect("accepted")));
+    tables
+}
+
+#[test]
+fn kept_tags_are_within_the_log() {
+    let words =
+        [(0, 1, true), (0, 2, false), (1, 1, true), (1, 2, false), (1, u32::MAX, false), (2, 2, true), (15, u32::MAX, true)];
+    for (server, tag, fine) in words {
+        for (method, client) in [(1, 0), (1, 1), (2, 0), (2, 1), (3, 0), (3, 1)] {
+            let mut tables = written(method);
+            tables.clients[CLIENT_WORDS * client + TAGS + server] = tag;
+            assert_eq!(sound(&tables), fine, "method {method}, client {client}, server {server}, tag {tag}");
+        }
     }
 }
 

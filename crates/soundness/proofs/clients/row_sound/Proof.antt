@@ -21,13 +21,32 @@ returns-3 c = λ t. rw (
 )
 
 returns-4 : tie.Need-returns-4
-returns-4 c = λ t. rw (
-  holds (c .before .before .before .before .before .before .state-sound .ensures t) (c .before .before .before .before .before .if1 .left),
-  holds (c .before .before .before .before .count-sound .ensures t) (c .before .before .before .if2 .left),
-  holds (c .before .before .mask-sound .ensures t) (c .before .if3 .left),
-) (c .tag-sound .ensures t)
+returns-4 c =
+    let at-mask = c .before .before .before in
+    let at-count = at-mask .before .before in
+    let at-state = at-count .before .before in
+    λ t. rw (
+      holds (at-state .state-sound .ensures t) (at-count .before .if1 .left),
+      holds (at-count .count-sound .ensures t) (at-mask .before .if2 .left),
+      holds (at-mask .mask-sound .ensures t) (c .before .before .if3 .left),
+      fails (c .before .tag-sound .ensures t) (c .if4 .taken),
+    )
+
+returns-5 : tie.Need-returns-5
+returns-5 c =
+    let at-tag = c .before .before in
+    let at-mask = at-tag .before .before in
+    let at-count = at-mask .before .before in
+    let at-state = at-count .before .before in
+    λ t. rw (
+      holds (at-state .state-sound .ensures t) (at-count .before .if1 .left),
+      holds (at-count .count-sound .ensures t) (at-mask .before .if2 .left),
+      holds (at-mask .mask-sound .ensures t) (at-tag .before .if3 .left),
+      holds (at-tag .tag-sound .ensures t) (c .before .if4 .left),
+    ) (c .kept-tags-sound .ensures t)
 
 pub row-sound-spec : {M : Type 1} → statement M
 row-sound-spec =
     tie.close
-    (tie.spec (λ c κs. search needs) returns (λ c κs. search needs) returns-2 (λ c κs. search needs) returns-3 (λ c κs. search needs) returns-4)
+    (tie.spec (λ c κs. search needs) returns (λ c κs. search needs) returns-2 (λ c κs. search needs) returns-3 (λ c κs. search needs) returns-4
+    (λ c κs. search needs) returns-5)

@@ -1,12 +1,12 @@
--- A space and the digits behind it; a number of 32 bits has at most ten.
+-- A byte and the digits behind it; a number of 32 bits has at most ten.
 use mathlib.Core.List.{[], _∷_}
 use native.Mathlib.Omega.{arith}
 use Rattle.schedule.specs.Decimal.{decimal}
 use Rattle.schedule.specs.DecimalLaws.{word-short}
 use Rattle.printing.specs.PrintedLaws.{printed-then}
 use borrow.Author.Needs.{needs}
-use Rattle.printing.proofs.print_spaced.Statement.{statement}
-use Rattle.printing.proofs.print_spaced.Tie as tie
+use Rattle.printing.proofs.print_marked.Statement.{statement}
+use Rattle.printing.proofs.print_marked.Tie as tie
 
 print-decimal-requires : tie.Need-print-decimal-requires
 print-decimal-requires c κs =
@@ -21,12 +21,12 @@ returns c =
     let start = at-put-byte .before .before .before in
     let a = start .args in
     let s = word-short (a .number) (start .fits .number .fits) in (
-      printed-then (a .out .now) (32 ∷ []) (decimal (a .number)) (a .at) (omega arith)
+      printed-then (a .out .now) (a .byte ∷ []) (decimal (a .number)) (a .at) (omega arith)
           (at-put-byte .put-byte .ensures) (at-print-decimal .print-decimal .ensures),
       omega
           (arith, at-put-byte .put-byte .ensures .end, at-print-decimal .print-decimal .ensures .end),
     )
 
-pub print-spaced-spec : {M : Type 1} → statement M
-print-spaced-spec =
+pub print-marked-spec : {M : Type 1} → statement M
+print-marked-spec =
     tie.close (tie.spec (λ c κs. search needs) print-decimal-requires (λ c. search needs) returns)

@@ -1,0 +1,38 @@
+-- `choice::chosen_value` meets its contract: the version is there since the tag qualifies.
+use Prim.Native.Nat.{_≤_}
+use mathlib.Core.Path.{ap, _∙_}
+use native.Mathlib.Omega.{arith}
+use Rattle.choice.specs.Cases.{kept-place}
+use borrow.Author.Needs.{needs}
+use Rattle.choice.proofs.chosen_value.Statement.{statement}
+use Rattle.choice.proofs.chosen_value.Tie as tie
+
+version-setpoint-requires : tie.Need-version-setpoint-requires
+version-setpoint-requires c κs =
+    let at-latest-entry = c .before .before in
+    let at-client-word = at-latest-entry .before in
+    let start = at-client-word .before .before .before .before .before in
+    let a = start .args in
+    let p = start .pre in
+    let n = at-client-word .client-word .ensures in
+    let key = ap (λ x. x .key) (at-latest-entry .latest-entry .ensures) in
+    let l = kept-place (a .keys .now) (a .log .now) (a .clients .now) (a .client) (a .tag) (a .server) n key (c .find .ensures) (p .1 .1) in
+    let h : at-client-word .client-word .result ≤ 256 = rw n (p .0 .count) in
+    omega arith
+
+returns : tie.Need-returns
+returns c =
+    let at-find = c .before in
+    let at-latest-entry = at-find .before .before in
+    let at-client-word = at-latest-entry .before in
+    rw (
+      c .version-setpoint .ensures,
+      at-find .find .ensures,
+      at-latest-entry .latest-entry .ensures,
+      at-client-word .client-word .ensures,
+    )
+
+pub chosen-value-spec : {M : Type 1} → statement M
+chosen-value-spec =
+    tie.close
+    (tie.spec (λ c. search needs) (λ c κs. search needs) (λ c. search needs) (λ c κs. search needs) (λ c κs. search needs) version-setpoint-requires returns)
