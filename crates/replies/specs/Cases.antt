@@ -51,7 +51,9 @@ module _ (q i : ℕ) (t : Tables) {step : ℕ} {counts links : List ℕ} (s : Se
       -- the state is no part of what is shown
       pub got-ends : {clients′ reads : List ℕ} {place tag : ℕ} → b ≡ false → place ≡ recordOf t q → tag ≡ tagOf t q →
           clients′ ≡ putClientWord clients q stateField idle → reads ≡ endedRecord place step (taggedRecord place tag (t .reads)) →
-          arrived (rowShown (tagOf t q) clients′ q (maskOf t q)) (tablesOf counts clients′ links (t .keys) (t .values) (t .log) (t .writes) reads) ≡ onGot w q i t
+          arrived (rowShown (tagOf t q) clients′ q (maskOf t q))
+          (tablesOf counts clients′ links (t .keys) (t .values) (t .log) (t .writes) reads)
+          ≡ onGot w q i t
       unfolding onGot
       got-ends e p′ a c r =
           let row = gotSetpoint w q i t in

@@ -47,7 +47,8 @@ abbrev pub rowShown : ℕ → List ℕ → ℕ → ℕ → Delivered
 rowShown tag clients q mask = readShown tag (shownTags clients q mask) clients q mask
 
 -- what the end of a READ leaves whose client has the row and shows the tags
-pub record Finished (row reads : List ℕ) (q mask place tag : ℕ) (tags : List ℕ) (step : ℕ) (d : Delivered) (clients′ reads′ : List ℕ) : Type 0 where
+pub record Finished
+    (row reads : List ℕ) (q mask place tag : ℕ) (tags : List ℕ) (step : ℕ) (d : Delivered) (clients′ reads′ : List ℕ) : Type 0 where
   pub shown : d ≡ readShown tag tags row q mask
   pub idled : clients′ ≡ putClientWord row q stateField idle
   pub recorded : reads′ ≡ endedRecord place step (taggedRecord place tag reads)

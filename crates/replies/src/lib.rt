@@ -11,7 +11,7 @@ ghost use mathlib.Core.Bool.{cond};
 ghost use Rattle.rules.specs.declared.Arrival.the-variants.{Wait};
 ghost use Rattle.rules.specs.Answers.{arrived, nothingShown};
 ghost use Rattle.rules.specs.Common.{idle, entering, coordinator, request, endedRecord, taggedRecord};
-ghost use Rattle.rules.specs.Reply.{said, onSetDone, onEntered, onKeys, onGot, onAll};
+ghost use Rattle.rules.specs.Reply.{onSetDone, onEntered, onKeys, onGot, onAll};
 ghost use Rattle.replies.specs.Ready.{Settled, CountFits, GotReady, KeysReady, rowShown, Concludable, FinishedByC, AllReady};
 ghost use Rattle.choice.specs.Ready.{ChoiceReady};
 ghost use Rattle.requests.specs.Ready.{Answerable};
@@ -76,8 +76,9 @@ pub fn set_done(
     requires { ⌜ CountFits (now clients) client ⌝ }
     requires { ⌜ HasLinks (now links) client ⌝ }
     ensures { λ r. ⌜ ((keys values log writes reads : List ℕ) →
-        said r (tablesOf (now (counts .exit)) (now (clients .exit)) (now (links .exit)) keys values log writes reads)
-        ≡ onSetDone client target (tablesOf (now (counts .entry)) (now (clients .entry)) (now (links .entry)) keys values log writes reads)) ⌝ }
+        arrived (nothingShown r) (tablesOf (now (counts .exit)) (now (clients .exit)) (now (links .exit)) keys values log writes reads)
+        ≡ onSetDone client target
+        (tablesOf (now (counts .entry)) (now (clients .entry)) (now (links .entry)) keys values log writes reads)) ⌝ }
 {
     settle(counts, links, client, target);
     if rules::is_pending(&*links, client) {
@@ -100,8 +101,10 @@ pub fn entered(
     requires { ⌜ Answerable (now counts) (now links) client target ⌝ }
     requires { ⌜ GotReady (now clients) (now writes) client ⌝ }
     ensures { λ r. ⌜ ((keys values log reads : List ℕ) →
-        said r (tablesOf (now (counts .exit)) (now (clients .exit)) (now (links .exit)) keys values log (now (writes .exit)) reads)
-        ≡ onEntered contents client target (tablesOf (now (counts .entry)) (now (clients .entry)) (now (links .entry)) keys values log (now (writes .entry)) reads)) ⌝ }
+        arrived (nothingShown r)
+        (tablesOf (now (counts .exit)) (now (clients .exit)) (now (links .exit)) keys values log (now (writes .exit)) reads)
+        ≡ onEntered contents client target
+        (tablesOf (now (counts .entry)) (now (clients .entry)) (now (links .entry)) keys values log (now (writes .entry)) reads)) ⌝ }
 {
     let step = settle(counts, links, client, target);
     let place = clients::client_word(clients, client, clients::RECORD);
@@ -125,8 +128,10 @@ pub fn keys_told(
     requires { ⌜ HasLinks (now links) client ⌝ }
     requires { ⌜ KeysReady (now counts) (now clients) (now log) client (contents .number) ⌝ }
     ensures { λ r. ⌜ ((keys values writes reads : List ℕ) →
-        said r (tablesOf (now (counts .exit)) (now (clients .exit)) (now (links .exit)) keys values (now (log .entry)) writes reads)
-        ≡ onKeys contents client target (tablesOf (now (counts .entry)) (now (clients .entry)) (now (links .entry)) keys values (now (log .entry)) writes reads)) ⌝ }
+        arrived (nothingShown r)
+        (tablesOf (now (counts .exit)) (now (clients .exit)) (now (links .exit)) keys values (now (log .entry)) writes reads)
+        ≡ onKeys contents client target
+        (tablesOf (now (counts .entry)) (now (clients .entry)) (now (links .entry)) keys values (now (log .entry)) writes reads)) ⌝ }
 {
     let servers = counts::count_at(counts, counts::SERVERS);
     let mask = clients::client_word(clients, client, clients::MASK);
@@ -156,8 +161,8 @@ fn finish(clients: &mut [u32], reads: &mut [u32], client: usize, place: u32, tag
     history::end_read(reads, place as usize, tag, step);
 }
 
-// State 4: a setpoint has come; the last one ends the READ. The answer is whether the client still waits; where it does not, the READ shows what the
-// client's row has.
+// State 4: a setpoint has come; the last one ends the READ. The answer is whether the client still waits; where it does not, the READ shows
+// what the client's row has.
 pub fn got(
     counts: &mut [u32],
     clients: &mut [u32],
@@ -172,7 +177,8 @@ pub fn got(
     requires { ⌜ GotReady (now clients) (now reads) client ⌝ }
     ensures { λ r. ⌜ ((keys values log writes : List ℕ) →
         arrived (cond r (nothingShown Wait)
-        (rowShown (clientWord (now (clients .entry)) client tagField) (now (clients .exit)) client (clientWord (now (clients .entry)) client maskField)))
+        (rowShown (clientWord (now (clients .entry)) client tagField) (now (clients .exit)) client
+        (clientWord (now (clients .entry)) client maskField)))
         (tablesOf (now (counts .exit)) (now (clients .exit)) (now (links .exit)) keys values log writes (now (reads .exit)))
         ≡ onGot contents client target
         (tablesOf (now (counts .entry)) (now (clients .entry)) (now (links .entry)) keys values log writes (now (reads .entry)))) ⌝ }
@@ -208,7 +214,8 @@ fn finish_by_c(
 ) -> Delivered
     requires { ⌜ ChoiceReady (now clients) (now keys) (now values) client servers ⌝ }
     requires { ⌜ Concludable (now clients) (now keys) (now log) (now reads) client mask servers place ⌝ }
-    ensures { λ r. ⌜ FinishedByC (now (clients .entry)) (now (keys .entry)) (now (values .entry)) (now (log .entry)) (now (reads .entry)) client mask servers place step r (now (clients .exit)) (now (reads .exit)) ⌝ }
+    ensures { λ r. ⌜ FinishedByC (now (clients .entry)) (now (keys .entry)) (now (values .entry)) (now (log .entry)) (now (reads .entry))
+        client mask servers place step r (now (clients .exit)) (now (reads .exit)) ⌝ }
 {
     let entries = clients::client_word(clients, client, clients::RECEIVED + links::COORDINATOR);
     let tag = choice::chosen_tag(
