@@ -85,11 +85,11 @@ module _ (q i : ℕ) (t : Tables) {step : ℕ} {counts links : List ℕ} (s : Se
       all-ends e m p′ h f = rw (is-pending e, f .shown, f .idled, f .recorded, g, m, p′, h, s .stepped, s .counted′, s .emptied)
 
   -- state 2
-  pub write-ends : (w : Contents) {clients writes : List ℕ} {place : ℕ} → place ≡ recordOf t q →
+  pub write-ends : (w : Contents) {a : Arrival} {clients writes : List ℕ} {place : ℕ} → a ≡ Write (w .number) → place ≡ recordOf t q →
       clients ≡ putClientWord (putClientWord (t .clients) q tagField (w .number)) q stateField idle → writes ≡ endedRecord place step (t .writes) →
-      said (Write (w .number)) (tablesOf counts clients links (t .keys) (t .values) (t .log) writes (t .reads)) ≡ onEntered w q i t
+      said a (tablesOf counts clients links (t .keys) (t .values) (t .log) writes (t .reads)) ≡ onEntered w q i t
   unfolding onEntered
-  write-ends w p c r = rw (c, r, p, s .stepped, s .counted′, s .emptied)
+  write-ends w e p c r = rw (e, c, r, p, s .stepped, s .counted′, s .emptied)
 
   -- state 3
   pub keys-ask : (w : Contents) {clients links′ : List ℕ} {mask k : ℕ} → mask ≡ maskOf t q → k ≡ serversOf t →

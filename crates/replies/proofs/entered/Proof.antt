@@ -16,7 +16,7 @@ returns c =
     let a = start .args in
     λ keys values log reads. write-ends (a .client) (a .target)
     (tablesOf (a .counts .now) (a .clients .now) (a .links .now) keys values log (a .writes .now) reads)
-    (at-settle .settle .ensures) (a .contents) (at-client-word .client-word .ensures)
+    (at-settle .settle .ensures) (a .contents) (search needs) (at-client-word .client-word .ensures)
     (rw (at-put-client-word2 .put-client-word2 .ensures, at-put-client-word .put-client-word .ensures))
     (at-put-record-word .put-record-word .ensures)
 
