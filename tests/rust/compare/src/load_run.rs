@@ -85,7 +85,8 @@ fn one_load(library: LoadLibrary, seed: u64, case: usize, counts: &mut Counts) -
 fn one_store(library: LoadLibrary, seed: u64, counts: &mut Counts) -> Result<(), String> {
     let mut random = Random::new(seed.rotate_left(32));
     visit_store(seed, &mut |tables, step| {
-        let mut load = Load { library, random: random.clone(), tables: tables.clone(), seed: random.word(), counts };
+        let seed = random.word();
+        let mut load = Load { library, random: random.clone(), tables: tables.clone(), seed, counts };
         load.counts.tables += 1;
         load.pick()?;
         load.part()?;
@@ -115,13 +116,22 @@ impl Load<'_> {
         Load { library, random, tables, seed, counts }
     }
 
-    /// To the end, in one call: 255 WRITEs and 255 READs of all k servers, of 2k + 3 steps each, but READs under A of 2k + 1.
+    /// To the end, in one call or in long parts: 255 WRITEs and 255 READs of all k servers, of 2k + 3 steps each, but READs under A of
+    /// 2k + 1.
     fn whole(&mut self) -> Result<(), String> {
         let (method, servers) = (self.tables.counts[METHOD], self.tables.counts[SERVERS]);
-        let end = self.play(ENOUGH, STEP_WORDS * ENOUGH as usize)?;
+        let part = self.random.pick(&[ENOUGH, ENOUGH, 3000, 850]);
+        let mut steps = 0;
+        loop {
+            let end = self.play(part, STEP_WORDS * part as usize)?;
+            steps += end.steps;
+            if end.steps < part {
+                break;
+            }
+        }
         let due = if method == 1 { 1020 * (servers + 1) } else { 510 * (2 * servers + 3) };
-        if end.steps != due {
-            return Err(format!("{} steps to the end, and {due} are due", end.steps));
+        if steps != due {
+            return Err(format!("{steps} steps to the end, and {due} are due"));
         }
         self.counts.ends.count(&format!("method {method} to the end"));
         self.pick()
