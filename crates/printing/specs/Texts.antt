@@ -8,6 +8,8 @@ use lib.ListN.{getD}
 use Rattle.ranges.specs.Turns.{turns}
 use Rattle.keys.specs.Masks.{hasServer}
 use Rattle.schedule.specs.Decimal.{decimal, spacedAll}
+use Rattle.schedule.specs.declared.Step.{Step}
+use Rattle.schedule.specs.Steps.{stepText}
 use Rattle.printing.specs.declared.Word.{Word}
 use Rattle.printing.specs.declared.Word.the-variants.{Ok, Wait, Next, Write, Read, No}
 
@@ -51,6 +53,18 @@ endText end = cond (eqb end 0) (32 ∷ 45 ∷ []) (spaced end)
 abbrev pub writeText : ℕ → ℕ → ℕ → ℕ → ℕ → List ℕ
 writeText tag client count begin end = (((87 ∷ []) ++ spacedAll (tag ∷ client ∷ count ∷ begin ∷ [])) ++ endText end) ++ (10 ∷ [])
 
+-- a line of a byte and some numbers
+abbrev pub rowText : ℕ → List ℕ → List ℕ
+rowText byte numbers = ((byte ∷ []) ++ spacedAll numbers) ++ (10 ∷ [])
+
 -- "`R tag panel begin end overlap`"
 abbrev pub readText : ℕ → ℕ → ℕ → ℕ → ℕ → List ℕ
-readText tag client begin end overlap = ((82 ∷ []) ++ spacedAll (tag ∷ client ∷ begin ∷ end ∷ overlap ∷ [])) ++ (10 ∷ [])
+readText tag client begin end overlap = rowText 82 (tag ∷ client ∷ begin ∷ end ∷ overlap ∷ [])
+
+-- a step as a line of a schedule
+abbrev pub stepLine : Step → List ℕ → List ℕ
+stepLine step setpoints = stepText (record { step = step; setpoints = setpoints }) ++ (10 ∷ [])
+
+-- `no NUMBER`, where a program refuses all that it is asked for
+abbrev pub refusalText : ℕ → List ℕ
+refusalText number = ((110 ∷ 111 ∷ []) ++ spaced number) ++ (10 ∷ [])
