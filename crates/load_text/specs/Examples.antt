@@ -4,7 +4,7 @@ use mathlib.Core.List.{[], _∷_}
 use Rattle.schedule.specs.declared.Step.the-variants.{Open, BeginWrite, Request}
 use Rattle.schedule.specs.Decimal.{digits, spacedAll}
 use Rattle.schedule.specs.Numbers.{digitOf, readOn, numberOf, spacedOf, numbersBehind}
-use Rattle.printing.specs.Texts.{stepLine, refusalText}
+use Rattle.printing.specs.StepTexts.{stepLine, refusalText}
 use Rattle.load_text.specs.declared.Asked.the-variants.{Unreadable, Load}
 use Rattle.load_text.specs.Asked.{askedOf}
 

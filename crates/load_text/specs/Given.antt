@@ -9,7 +9,7 @@ use Rattle.rules.specs.declared.Answer.the-variants.{Ok, Refused}
 use Rattle.rules.specs.Answers.{Left}
 use Rattle.refusals.specs.Steps.{open′}
 use Rattle.schedule.specs.declared.Step.the-variants.{Open}
-use Rattle.printing.specs.Texts.{stepLine, refusalText}
+use Rattle.printing.specs.StepTexts.{stepLine, refusalText}
 use Rattle.printing.specs.Printed.{Printed}
 use Rattle.workload.specs.declared.Next.{Next}
 use Rattle.workload.specs.declared.Next.the-variants as next

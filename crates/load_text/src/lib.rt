@@ -9,7 +9,7 @@ ghost use Rattle.rules.specs.declared.Answer.the-variants.{Ok};
 ghost use Rattle.schedule.specs.Numbers.{numbersOf};
 ghost use Rattle.schedule.specs.NumberLaws.{before};
 ghost use Rattle.schedule.specs.Steps.{lineMost};
-ghost use Rattle.printing.specs.Texts.{stepLine};
+ghost use Rattle.printing.specs.StepTexts.{stepLine};
 ghost use Rattle.printing.specs.Printed.{Printed};
 ghost use Rattle.printing.specs.Sizes.{answerMost};
 ghost use Rattle.load_text.specs.Asked.{askedBy, askedOf};

@@ -28,11 +28,3 @@ rowMost n = 1 + markedMost * n + 1
 -- a line of the register has five
 abbrev pub recordMost : ℕ
 recordMost = rowMost 5
-
--- a step's line at most three ahead of its setpoints
-abbrev pub stepMost : ℕ → ℕ
-stepMost setpoints = rowMost (3 + setpoints)
-
--- `no`, a number and byte 10
-abbrev pub refusalMost : ℕ
-refusalMost = 2 + markedMost + 1

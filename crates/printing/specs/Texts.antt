@@ -8,8 +8,6 @@ use lib.ListN.{getD}
 use Rattle.ranges.specs.Turns.{turns}
 use Rattle.keys.specs.Masks.{hasServer}
 use Rattle.schedule.specs.Decimal.{decimal, spacedAll}
-use Rattle.schedule.specs.declared.Step.{Step}
-use Rattle.schedule.specs.Steps.{stepText}
 use Rattle.printing.specs.declared.Word.{Word}
 use Rattle.printing.specs.declared.Word.the-variants.{Ok, Wait, Next, Write, Read, No}
 
@@ -60,11 +58,3 @@ rowText byte numbers = ((byte ∷ []) ++ spacedAll numbers) ++ (10 ∷ [])
 -- "`R tag panel begin end overlap`"
 abbrev pub readText : ℕ → ℕ → ℕ → ℕ → ℕ → List ℕ
 readText tag client begin end overlap = rowText 82 (tag ∷ client ∷ begin ∷ end ∷ overlap ∷ [])
-
--- a step as a line of a schedule
-abbrev pub stepLine : Step → List ℕ → List ℕ
-stepLine step setpoints = stepText (record { step = step; setpoints = setpoints }) ++ (10 ∷ [])
-
--- `no NUMBER`, where a program refuses all that it is asked for
-abbrev pub refusalText : ℕ → List ℕ
-refusalText number = ((110 ∷ 111 ∷ []) ++ spaced number) ++ (10 ∷ [])

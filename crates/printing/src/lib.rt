@@ -4,10 +4,11 @@ ghost use mathlib.Core.List.{[], _∷_, _++_};
 ghost use lib.ListN.{length};
 ghost use Rattle.schedule.specs.Decimal.{decimal, spacedAll};
 ghost use Rattle.printing.specs.Texts.{marked, spaced, serverText, maskedText, serversBelow, wordText, answerText};
-ghost use Rattle.printing.specs.Texts.{endText, writeText, readText, rowText, stepLine, refusalText};
+ghost use Rattle.printing.specs.Texts.{endText, writeText, readText, rowText};
 ghost use Rattle.printing.specs.Printed.{Printed};
 ghost use Rattle.printing.specs.Sizes.{markedMost, serverMost, shownMost, wordMost, answerMost};
-ghost use Rattle.printing.specs.Sizes.{rowMost, recordMost, stepMost, refusalMost};
+ghost use Rattle.printing.specs.Sizes.{rowMost, recordMost};
+ghost use Rattle.printing.specs.StepTexts.{stepLine, refusalText, stepMost, refusalMost};
 use schedule::Step;
 
 // The longest answer in bytes, made as `Sizes` makes it: the line's number, ` read`, the tag, each station with its setpoint and tag, and byte 10.
