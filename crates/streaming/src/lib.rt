@@ -24,17 +24,17 @@ const MOST_SERVERS: usize = 16;
 
 const MOST_CLIENTS: usize = 16;
 
-const CLIENTS: usize = clients::WIDTH * MOST_CLIENTS;
+pub const CLIENTS: usize = clients::WIDTH * MOST_CLIENTS;
 
-const LINKS: usize = links::WIDTH * (links::TARGETS * MOST_CLIENTS);
+pub const LINKS: usize = links::WIDTH * (links::TARGETS * MOST_CLIENTS);
 
-const KEYS: usize = versions::PLACES * MOST_SERVERS;
+pub const KEYS: usize = versions::PLACES * MOST_SERVERS;
 
-const VALUES: usize = versions::PLACES * MOST_SERVERS;
+pub const VALUES: usize = versions::PLACES * MOST_SERVERS;
 
-const LOG: usize = log::WIDTH * log::PLACES;
+pub const LOG: usize = log::WIDTH * log::PLACES;
 
-const RECORDS: usize = records::WIDTH * records::PLACES;
+pub const RECORDS: usize = records::WIDTH * records::PLACES;
 
 // Answers a line, unless it is answered already, and passes it.
 fn answer_line(
