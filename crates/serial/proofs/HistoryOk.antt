@@ -14,8 +14,7 @@ use Rattle.serial.specs.Steps.{Played}
 use Rattle.serial.specs.History.{Value, Transaction, noWrite, Doing, nothing, writing, tagged, reading, History}
 use Rattle.serial.specs.Row.{readsOf, rowTo, row, walked, Walk, at, RealTime}
 use Rattle.serial.specs.Claim.{EndsAt, Unfinished, Answers, Claim}
-use Rattle.serial.proofs.Lists.{Pairs, pairs-append, pairs-map, pairs-at, NotAbove}
-use Rattle.serial.proofs.Lists.{OfTag, reads-each, reads-only, reads-pairs, row-complete}
+use Rattle.serial.proofs.Lists.{Pairs, pairs-append, pairs-map, pairs-at, OfTag, reads-each, reads-only, reads-pairs, row-complete}
 use Rattle.serial.proofs.Owed.{valueAt, valueIn}
 
 -- A transaction in time. `tagsAt c` is the number of WRITEs tagged before step c.
@@ -34,8 +33,9 @@ DoingOk clock tags tagsAt floor (writing mask setpoints begin) = (begin < clock)
 DoingOk clock tags tagsAt floor (tagged tag) = (1 ≤ tag) × (tag ≤ tags)
 DoingOk clock tags tagsAt floor (reading mask begin deliveries) = (begin < clock) × (tagsAt begin ≤ floor) × (floor ≤ tags)
 
-abbrev pub begins : Transaction → ℕ
-begins x = x .begin
+-- the first began no later than the second
+abbrev pub NoLater : Transaction → Transaction → Type 0
+NoLater x y = x .begin ≤ y .begin
 
 -- the second did not end before the first began
 abbrev pub NotBefore : Transaction → Transaction → Type 0
@@ -52,7 +52,7 @@ pub record WriteOk (clock : ℕ) (tagsAt : ℕ → ℕ) (place : ℕ) (x : Trans
 
 pub record HistoryOk (tagsAt floor : ℕ → ℕ) (h : History) : Type 0 where
   -- READs stand in order of their begins
-  pub order : Pairs (NotAbove begins) (h .reads)
+  pub order : Pairs NoLater (h .reads)
   pub rising : Rising (h .clock) tagsAt
   pub now : tagsAt (h .clock) ≡ h .tags
   pub writes : (tag : ℕ) → 1 ≤ tag → tag ≤ h .tags → WriteOk (h .clock) tagsAt tag (h .write tag)
@@ -143,8 +143,8 @@ module _ (tagsAt floor : ℕ → ℕ) (h : History) (ok : HistoryOk tagsAt floor
   -- a READ ahead of another began no later, and the other ended behind its own begin
   reads-ordered : (tag : ℕ) → Pairs NotBefore (readsOf tag (h .reads))
   reads-ordered tag =
-      pairs-map Time (NotAbove begins) NotBefore (λ x y timed q e f. omega (arith, q, timed .high e f .0)) (readsOf tag (h .reads))
-      (reads-only Time tag (h .reads) (ok .reads)) (reads-pairs (NotAbove begins) tag (h .reads) (ok .order))
+      pairs-map Time NoLater NotBefore (λ x y timed q e f. omega (arith, q, timed .high e f .0)) (readsOf tag (h .reads))
+      (reads-only Time tag (h .reads) (ok .reads)) (reads-pairs NoLater tag (h .reads) (ok .order))
 
   later : (x y : Transaction) → Time x → Time y → tagsAt (x .begin) < y .tag → NotBefore x y
   later = not-before (h .clock) tagsAt (ok .rising)

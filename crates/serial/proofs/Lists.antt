@@ -35,22 +35,18 @@ module _ {A : Type 0} where
   pairs-map P R Q f [] e a = tt
   pairs-map P R Q f (x ∷ xs) e a = (each-both P (R x) (Q x) (f x) xs (e .1) (a .0), pairs-map P R Q f xs (e .1) (a .1))
 
-  -- one member more, by its number: what is in order stays in order
-  module _ (number : A → ℕ) where
-    abbrev pub NotAbove : A → A → Type 0
-    NotAbove x y = number x ≤ number y
-
-    pub pairs-inserted : (x : A) (xs : List A) → Pairs NotAbove xs → Pairs NotAbove (inserted number x xs)
+  -- one member more, by its number: each two stay so, where numbers in order say so of the new one and any other
+  module _ (number : A → ℕ) (R : A → A → Type 0) (x : A) (ahead : (y : A) → number y ≤ number x → R y x)
+      (behind : (y : A) → number x < number y → R x y) (through : (y z : A) → R x y → R y z → R x z) where
+    pub pairs-inserted : (xs : List A) → Pairs R xs → Pairs R (inserted number x xs)
     unfolding inserted
-    pairs-inserted x [] a = (tt, tt)
-    pairs-inserted x (y ∷ ys) a =
+    pairs-inserted [] a = (tt, tt)
+    pairs-inserted (y ∷ ys) a =
         by-test (ltb (number x) (number y))
         (λ b.
-        let l = ltb-true (number x) (number y) b in
-        rw b ((omega arith, each-map (NotAbove y) (NotAbove x) (λ z h. omega arith) ys (a .0)), a))
-        (λ b.
-        let l = ltb-false (number x) (number y) b in
-        rw b (each-inserted number (NotAbove y) x ys l (a .0), pairs-inserted x ys (a .1)))
+        let r = behind y (ltb-true _ _ b) in
+        rw b ((r, each-map (R y) (R x) (λ z. through y z r) ys (a .0)), a))
+        (λ b. rw b (each-inserted number (R y) x ys (ahead y (ltb-false _ _ b)) (a .0), pairs-inserted ys (a .1)))
 
   pub pairs-at : (R : A → A → Type 0) (d : A) (xs : List A) → Pairs R xs → (i j : ℕ) → i < j → j < length xs → R (getD xs i d) (getD xs j d)
   pairs-at R d [] a i j l k = let z : ⊥ = omega arith in absurd z
