@@ -13,7 +13,7 @@ use Rattle.rules.specs.declared.Arrival.{Arrival}
 use Rattle.rules.specs.declared.Arrival.the-variants as arrival
 use Rattle.rules.specs.declared.Delivered.{Delivered}
 use Rattle.serial.specs.Steps.{Event, opened, begun-write, begun-read, requested, replied}
-use Rattle.serial.specs.History.{Value, valueOpened, valueWritten, valueShown, changed, Transaction, Doing, nothing, writing}
+use Rattle.serial.specs.History.{Value, valueOpened, valueWritten, changed, Transaction, Doing, nothing, writing}
 use Rattle.serial.specs.History.{tagged, reading, History, historyOf, passed, turned, begun, delivered, writeOf, given, entered}
 use Rattle.serial.specs.History.{ended, wrote, showed, arrived, fresh, extraOf, atCoordinator, after}
 use Rattle.serial.specs.Claim.{EndsAt, Unfinished}
