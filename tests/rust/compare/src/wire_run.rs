@@ -147,11 +147,13 @@ fn compare_list(library: WireLibrary, tables: &Tables, random: &mut Random, coun
         let place = (0..list.len()).find(|&place| list[place] != expected_list[place]).expect("they differ");
         return Err(format!("word {place} is {}, the model's {}; {}", list[place], expected_list[place], shown(tables)));
     }
-    counts.lists.count(&match expected {
-        Ok(_) => "listed".into(),
-        Err(refusal) => refusal.to_string(),
-    });
-    count_orders(&whole[..LINE_WORDS * lines], &mut counts.lists);
+    match expected {
+        Ok(lines) => {
+            counts.lists.count("listed");
+            count_orders(&list[..LINE_WORDS * lines], &mut counts.lists);
+        }
+        Err(refusal) => counts.lists.count(&refusal.to_string()),
+    }
     Ok(())
 }
 
