@@ -9,6 +9,7 @@ use Rattle.ranges.specs.Sum.{sumBelow}
 use Rattle.ranges.specs.First.{firstFrom}
 use Rattle.ranges.specs.Last.{lastBelow}
 use Rattle.ranges.specs.Turns.{turns}
+use Rattle.ranges.specs.Inserted.{inserted}
 use Rattle.tables.specs.Layout.{countWords, clientWidth, serverPlaces, logPlaces, entryWidth, recordPlaces, recordWidth}
 use Rattle.tables.specs.Links.{targets, linkWidth, linkAt, putLink}
 use Rattle.tables.specs.Tables.{Tables, tablesOf}
@@ -22,7 +23,7 @@ use Rattle.soundness.specs.Sound.{requestSound, replySound, contentSound, linkS
 use Rattle.soundness.specs.Sound.{openSound, recordsSound, sound}
 use Rattle.refusals.specs.Refusals.{openRefusal, writeRefusal, readRefusal, deliveryRefusal}
 use Rattle.refusals.specs.Steps as store
-use Rattle.listing.specs.Register.{placesBelow, passing, inserted, insertedAll, listedTo}
+use Rattle.listing.specs.Register.{placesBelow, passing, insertedAll, listedTo}
 use Rattle.schedule.specs.Lines.{linesOf}
 use Rattle.schedule.specs.Numbers.{digitOf, digitHead, readOn, numberOf, spacedOf, numbersBehind}
 use Rattle.schedule.specs.Decimal.{digits, spacedAll}
@@ -125,11 +126,10 @@ printed text t = answersFrom 1 (linesOf text) t ++ registerPrinted (leftBy (line
 
 pub sample-printed : printed text zeros ≡ answers ++ lines
 unfolding text answers lines zeros leftBy printed linesOf digitOf digitHead readOn numberOf spacedOf numbersBehind digits spacedAll stepOf
-    played answersFrom registerPrinted flatMap placesBelow passing inserted insertedAll listedTo
-    store.open′ store.beginWrite store.beginRead store.deliverRequest store.deliverReply
-    openRefusal writeRefusal readRefusal deliveryRefusal longEnough pressFits turns
+    played answersFrom registerPrinted flatMap placesBelow passing inserted insertedAll listedTo store.open′ store.beginWrite
+    store.beginRead store.deliverRequest store.deliverReply openRefusal writeRefusal readRefusal deliveryRefusal longEnough pressFits turns
     sound scalarsSound keyInRange serverSound entrySound logSound stateAllowed uses requestSound replySound contentSound linkSound
     receivedSound clientSound writeSound readSound openSound recordsSound allBelow anyBelow sumBelow linkAt putLink firstFrom lastBelow
-    appended log.entered begunWrite begunRead onSet onEnter onWhichKeys onGet onGetAll onRequestIn requestDelivered
-    onSetDone onEntered onKeys onGot onAll onReplyIn replyDelivered
+    appended log.entered begunWrite begunRead onSet onEnter onWhichKeys onGet onGetAll onRequestIn requestDelivered onSetDone onEntered
+    onKeys onGot onAll onReplyIn replyDelivered
 sample-printed = refl
