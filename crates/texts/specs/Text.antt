@@ -6,6 +6,7 @@ use lib.ListN.{length, drop}
 use lib.Dec.{eqb, leb}
 use Rattle.tables.specs.Layout.{countWords}
 use Rattle.tables.specs.Tables.{Tables, methodOf}
+use Rattle.rules.specs.Answers.{ok, no′, Said, saying}
 use Rattle.soundness.specs.Sound.{sound}
 use Rattle.schedule.specs.Lines.{linesOf}
 use Rattle.printing.specs.Sizes.{answerMost}
@@ -31,14 +32,20 @@ playable t = leb countWords (length (t .counts)) && (eqb (methodOf t) 0 || sound
 abbrev pub roomFor : ℕ → ℕ
 roomFor lines = answerMost * lines + registerMost
 
+-- how many bytes it printed, or the number of the refusal
+abbrev pub textSaid : TextPlayed → Said
+textSaid (Printed n) = saying ok (n ∷ [])
+textSaid (Refused n) = saying no′ (n ∷ [])
+
 -- what playing a text answers, and the lent space and tables that it leaves
 pub record TextLeft : Type 0 where
   pub answer : TextPlayed
+  pub said : Said
   pub out : List ℕ
   pub tables : Tables
 
 abbrev pub textLeft : TextPlayed → List ℕ → Tables → TextLeft
-textLeft a out t = record { answer = a; out = out; tables = t }
+textLeft a out t = record { answer = a; said = textSaid a; out = out; tables = t }
 
 -- 2 "tables not sound", then 12 "lent space too small", with everything as before; else the print, and behind it what the space held
 unfoldable pub playText : List ℕ → List ℕ → Tables → TextLeft

@@ -23,7 +23,7 @@ use Rattle.playing.specs.Played.{playedLine, shownText, LinePlayed, answersFrom
 use Rattle.playing.specs.Playable.{Playable}
 use Rattle.playing.specs.PlayableLaws.{step-playable}
 use Rattle.texts.specs.declared.TextPlayed.the-variants as played
-use Rattle.texts.specs.Text.{leftByLines, printOf, playable, roomFor, TextLeft, textLeft, playText}
+use Rattle.texts.specs.Text.{leftByLines, printOf, playable, roomFor, textLeft, playText}
 
 -- whether tables may be played on, as the code finds it
 module _ (t : Tables) where
@@ -117,7 +117,8 @@ answers-more : (number : ℕ) (line : List ℕ) (lines : List (List ℕ)) (t : T
 unfolding answersFrom
 answers-more number line lines t = refl
 
-left-more : (line : List ℕ) (lines : List (List ℕ)) (t : Tables) → leftByLines (line ∷ lines) t ≡ leftByLines lines (playedLine line t .tables)
+left-more : (line : List ℕ) (lines : List (List ℕ)) (t : Tables) →
+    leftByLines (line ∷ lines) t ≡ leftByLines lines (playedLine line t .tables)
 unfolding leftByLines
 left-more line lines t = refl
 
@@ -137,7 +138,8 @@ module _ (text : List ℕ) where
       })
 
   -- a line that begins in the text ends there
-  pub line-within : {start : ℕ} {line : List ℕ} → start < length text → line ≡ lineOf (drop start text) → start + length line ≤ length text
+  pub line-within : {start : ℕ} {line : List ℕ} → start < length text → line ≡ lineOf (drop start text) →
+      start + length line ≤ length text
   line-within {start} h e = rw e (end-within text start (omega (arith, h)))
 
   no-lines : {start : ℕ} → length text ≤ start → linesOf (drop start text) ≡ []

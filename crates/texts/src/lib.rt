@@ -53,8 +53,8 @@ fn may_play(
     writes: &[u32],
     reads: &[u32],
 ) -> bool
-    ensures { λ r. ⌜ r ≡ playable (tablesOf (now (counts .entry)) (now (clients .entry)) (now (links .entry)) (now (keys .entry))
-        (now (values .entry)) (now (log .entry)) (now (writes .entry)) (now (reads .entry))) ⌝ }
+    ensures { λ r. ⌜ r ≡ playable (tablesOf (now (counts .entry)) (now (clients .entry)) (now (links .entry))
+        (now (keys .entry)) (now (values .entry)) (now (log .entry)) (now (writes .entry)) (now (reads .entry))) ⌝ }
 {
     if counts.len() < tables::counts::WORDS {
         return false;
@@ -80,10 +80,10 @@ fn play_lines(
 ) -> usize
     requires { ⌜ Playable (tablesOf (now counts) (now clients) (now links) (now keys) (now values) (now log) (now writes) (now reads)) ⌝ }
     requires { ⌜ roomFor (length (linesOf (now text))) ≤ length (now out) ⌝ }
-    ensures { λ r. ⌜ LinesPlayed (now (text .entry)) (tablesOf (now (counts .entry)) (now (clients .entry)) (now (links .entry)) (now (keys .entry))
-        (now (values .entry)) (now (log .entry)) (now (writes .entry)) (now (reads .entry)))
-        (now (out .entry)) r (now (out .exit)) (tablesOf (now (counts .exit)) (now (clients .exit)) (now (links .exit)) (now (keys .exit))
-        (now (values .exit)) (now (log .exit)) (now (writes .exit)) (now (reads .exit))) ⌝ }
+    ensures { λ r. ⌜ LinesPlayed (now (text .entry)) (tablesOf (now (counts .entry)) (now (clients .entry)) (now (links .entry))
+        (now (keys .entry)) (now (values .entry)) (now (log .entry)) (now (writes .entry)) (now (reads .entry)))
+        (now (out .entry)) r (now (out .exit)) (tablesOf (now (counts .exit)) (now (clients .exit)) (now (links .exit))
+        (now (keys .exit)) (now (values .exit)) (now (log .exit)) (now (writes .exit)) (now (reads .exit))) ⌝ }
 {
     let mut start = 0;
     let mut lines = 0u64;
@@ -126,8 +126,8 @@ pub fn print_end(
 ) -> usize
     requires { ⌜ Playable (tablesOf (now counts) (now clients) (now links) (now keys) (now values) (now log) (now writes) (now reads)) ⌝ }
     requires { ⌜ at + registerMost ≤ length (now out) ⌝ }
-    ensures { λ r. ⌜ Printed (now (out .entry)) at (registerPrinted (tablesOf (now (counts .entry)) (now (clients .entry)) (now (links .entry)) (now (keys .entry))
-        (now (values .entry)) (now (log .entry)) (now (writes .entry)) (now (reads .entry))))
+    ensures { λ r. ⌜ Printed (now (out .entry)) at (registerPrinted (tablesOf (now (counts .entry)) (now (clients .entry))
+        (now (links .entry)) (now (keys .entry)) (now (values .entry)) (now (log .entry)) (now (writes .entry)) (now (reads .entry))))
         r (now (out .exit)) × (r ≤ at + registerMost) ⌝ }
 {
     if tables::counts::count_at(counts, METHOD) == 0 {
@@ -160,10 +160,10 @@ pub fn play_text(
     text: &[u8],
     out: &mut [u8],
 ) -> TextPlayed
-    ensures { λ r. ⌜ textLeft r (now (out .exit)) (tablesOf (now (counts .exit)) (now (clients .exit)) (now (links .exit)) (now (keys .exit))
-        (now (values .exit)) (now (log .exit)) (now (writes .exit)) (now (reads .exit)))
-        ≡ playText (now (text .entry)) (now (out .entry)) (tablesOf (now (counts .entry)) (now (clients .entry)) (now (links .entry)) (now (keys .entry))
-        (now (values .entry)) (now (log .entry)) (now (writes .entry)) (now (reads .entry))) ⌝ }
+    ensures { λ r. ⌜ textLeft r (now (out .exit)) (tablesOf (now (counts .exit)) (now (clients .exit)) (now (links .exit))
+        (now (keys .exit)) (now (values .exit)) (now (log .exit)) (now (writes .exit)) (now (reads .exit)))
+        ≡ playText (now (text .entry)) (now (out .entry)) (tablesOf (now (counts .entry)) (now (clients .entry)) (now (links .entry))
+        (now (keys .entry)) (now (values .entry)) (now (log .entry)) (now (writes .entry)) (now (reads .entry))) ⌝ }
 {
     if !may_play(
         &*counts,

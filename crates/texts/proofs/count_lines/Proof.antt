@@ -19,7 +19,11 @@ loop-holds c = counting-begun _
 
 add-start : tie.Need-add-start Inv-loop μ-loop
 add-start c =
-    omega (arith, c .line-end .ensures, end-within (c .before .before .before .before .args .text .now) (c .before .before .loop .start) (omega (arith, c .before .loop-test .taken)), c .before .before .before .before .good)
+    let at-test = c .before in
+    let at-loop = at-test .before in
+    let start = at-loop .before .before in
+    let within = end-within (start .args .text .now) (at-loop .loop .start) (omega (arith, at-test .loop-test .taken)) in
+    omega (arith, c .line-end .ensures, within, start .good)
 
 add-lines : tie.Need-add-lines Inv-loop μ-loop
 add-lines c = omega (arith, c .before .before .loop .inv .below, c .before .loop-test .taken, c .before .before .before .before .good)

@@ -9,19 +9,32 @@ use Rattle.texts.proofs.print_end.Tie as tie
 
 returns : tie.Need-returns
 returns c =
-    let a = c .before .before .before .before .before .before .before .before .before .before .before .args in
-    let t = tablesOf (a .counts .now) (a .clients .now) (a .links .now) (a .keys .now) (a .values .now) (a .log .now) (a .writes .now) (a .reads .now) in
-    (unopened-printed t (a .out .now) (a .at) (omega (arith, c .before .before .before .before .before .before .before .before .before .before .before .pre .1)) (sym (c .before .count-at .ensures) ∙ c .if1 .taken), omega arith)
+    let at-count = c .before in
+    let start = at-count .before .before .before .before .before .before .before .before .before .before in
+    let a = start .args in
+    let t = tablesOf (a .counts .now) (a .clients .now) (a .links .now) (a .keys .now) (a .values .now) (a .log .now) (a .writes .now)
+    (a .reads .now) in
+    let none = sym (at-count .count-at .ensures) ∙ c .if1 .taken in
+    (unopened-printed t (a .out .now) (a .at) (omega (arith, start .pre .1)) none, omega arith)
 
 print-register-requires : tie.Need-print-register-requires
 print-register-requires c κs =
-    let p = c .before .before .before .before .before .before .before .before .before .before .before .before .pre in (p .0 .sound (omega (arith, c .before .before .count-at .ensures, c .before .if1 .left)), p .1)
+    let at-opened = c .before in
+    let at-count = at-opened .before in
+    let start = at-count .before .before .before .before .before .before .before .before .before .before in
+    (start .pre .0 .sound (omega (arith, at-count .count-at .ensures, at-opened .if1 .left)), start .pre .1)
 
 returns-2 : tie.Need-returns-2
 returns-2 c =
-    let a = c .before .before .before .before .before .before .before .before .before .before .before .before .before .before .before .args in
-    let t = tablesOf (a .counts .now) (a .clients .now) (a .links .now) (a .keys .now) (a .values .now) (a .log .now) (a .writes .now) (a .reads .now) in
-    opened-printed t (a .out .now) (a .at) _ _ _ (λ e. c .before .before .before .before .if1 .left (c .before .before .before .before .before .count-at .ensures ∙ e)) (c .before .before .print-register .ensures)
+    let at-print = c .before .before in
+    let at-opened = at-print .before .before in
+    let at-count = at-opened .before in
+    let start = at-count .before .before .before .before .before .before .before .before .before .before in
+    let a = start .args in
+    let t = tablesOf (a .counts .now) (a .clients .now) (a .links .now) (a .keys .now) (a .values .now) (a .log .now) (a .writes .now)
+    (a .reads .now) in
+    opened-printed t (a .out .now) (a .at) _ _ _ (λ e. at-opened .if1 .left (at-count .count-at .ensures ∙ e))
+    (at-print .print-register .ensures)
 
 pub print-end-spec : {M : Type 1} → statement M
 print-end-spec =
