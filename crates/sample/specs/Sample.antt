@@ -1,10 +1,9 @@
 -- Document 01's sample: the text of "The yard program" computes to what document 01 prints for it, every answer and then the register,
 -- on the definition that the contract of `texts::play_text` cites. Texts are bytes, each line below its letters.
-use Prim.Native.Nat.{ℕ, _*_, _≤_}
+use Prim.Native.Nat.{ℕ, _*_}
 use mathlib.Core.Path.{_≡_, refl}
 use mathlib.Core.List.{List, [], _∷_, _++_, flatMap}
-use lib.ListN.{length, drop, replicate}
-use borrow.Author.Tests.{le-leb}
+use lib.ListN.{replicate}
 use Rattle.ranges.specs.All.{allBelow, anyBelow}
 use Rattle.ranges.specs.Sum.{sumBelow}
 use Rattle.ranges.specs.First.{firstFrom}
@@ -31,8 +30,7 @@ use Rattle.schedule.specs.Decimal.{digits, spacedAll}
 use Rattle.schedule.specs.Steps.{stepOf}
 use Rattle.playing.specs.Played.{playedLine, played, answersFrom}
 use Rattle.register_text.specs.Text.{registerPrinted}
-use Rattle.texts.specs.declared.TextPlayed.the-variants.{Printed}
-use Rattle.texts.specs.Text.{leftByLines, printOf, playable, roomFor, textLeft, playText}
+use Rattle.texts.specs.Text.{leftByLines, printOf}
 
 -- the input
 unfoldable pub text : List ℕ
@@ -120,17 +118,11 @@ zeros =
 
 -- what the text prints
 pub sample-printed : printOf text zeros ≡ answers ++ lines
-unfolding text answers lines zeros leftByLines printOf linesOf digitOf digitHead readOn numberOf spacedOf numbersBehind digits spacedAll stepOf
-    played answersFrom registerPrinted flatMap placesBelow passing inserted insertedAll listedTo store.open′ store.beginWrite
+unfolding text answers lines zeros leftByLines printOf linesOf digitOf digitHead readOn numberOf spacedOf numbersBehind digits spacedAll
+    stepOf played answersFrom registerPrinted flatMap placesBelow passing inserted insertedAll listedTo store.open′ store.beginWrite
     store.beginRead store.deliverRequest store.deliverReply openRefusal writeRefusal readRefusal deliveryRefusal longEnough pressFits turns
     sound scalarsSound keyInRange serverSound entrySound logSound stateAllowed uses requestSound replySound contentSound linkSound
     receivedSound clientSound writeSound readSound openSound recordsSound allBelow anyBelow sumBelow linkAt putLink firstFrom lastBelow
     appended log.entered begunWrite begunRead onSet onEnter onWhichKeys onGet onGetAll onRequestIn requestDelivered onSetDone onEntered
     onKeys onGot onAll onReplyIn replyDelivered
 sample-printed = refl
-
--- so playing it into any space that is long enough for 15 lines prints these 140 bytes at its front, and leaves what stands behind them
-pub sample-played : (out : List ℕ) → roomFor 15 ≤ length out →
-    playText text out zeros ≡ textLeft (Printed 140) ((answers ++ lines) ++ drop 140 out) (leftByLines (linesOf text) zeros)
-unfolding playText playable zeros text linesOf answers lines
-sample-played out h = rw (sample-printed, le-leb (roomFor 15) (length out) h)
