@@ -1,3 +1,4 @@
+-- `workload::accepts` meets its contract: by its number a step is one of four kinds, and each has its own test.
 use Rattle.workload.specs.Cases.{at-write, at-read, at-request, at-reply}
 use Rattle.workload.specs.Accepts.{seen}
 use borrow.Author.Needs.{needs}

@@ -1,3 +1,4 @@
+-- `workload::accepts_read` meets its contract: the fault of a READ of all servers, 0 where there is none.
 use mathlib.Core.List.{[]}
 use Rattle.workload.specs.Accepts.{seen}
 use Rattle.workload.specs.Cases.{by-read}

@@ -1,3 +1,4 @@
+-- `workload::accepts_reply` meets its contract: by the content of the link and the fault of a delivery.
 use mathlib.Core.List.{[]}
 use Rattle.workload.specs.Accepts.{seen}
 use Rattle.workload.specs.Cases.{reply-none, reply-asked, reply-there}

@@ -1,3 +1,4 @@
+-- `workload::accepts_request` meets its contract: by the content of the link, the fault of a delivery, the state of its client.
 use Rattle.workload.specs.Cases.{request-none, request-replied, request-refused, request-answered}
 use Rattle.workload.specs.Accepts.{seen}
 use Rattle.tables.specs.declared.links.Link.{Link}

@@ -1,3 +1,4 @@
+-- `workload::accepts_write` meets its contract: the fault of a WRITE to all servers, 0 where there is none.
 use Rattle.tables.specs.Tables.{tablesOf}
 use mathlib.Core.List.{[]}
 use Rattle.workload.specs.Accepts.{seen}

@@ -1,3 +1,4 @@
+-- `workload::answers` meets its contract: each state that asks is a case law of `answersIn`.
 use native.Mathlib.Omega.{arith}
 use Rattle.workload.specs.Cases.{in-writing, in-entering, in-keys, in-setpoints, in-all}
 use borrow.Author.Needs.{needs}

@@ -1,3 +1,4 @@
+-- `workload::holds` meets its contract: the first version that bears the key is among those held.
 use mathlib.Core.Path.{_≡_}
 use borrow.Author.Needs.{needs}
 use Rattle.workload.proofs.holds.Statement.{statement}

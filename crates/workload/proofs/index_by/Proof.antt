@@ -1,3 +1,4 @@
+-- `workload::index_by` meets its contract: the product fits 32 bits, and what is scaled down to a count stays below it.
 use Rattle.workload.specs.ReadyLaws.{index-fits, index-below}
 use native.Mathlib.Omega.{arith}
 use borrow.Author.Needs.{needs}

@@ -1,3 +1,4 @@
+-- `workload::list_accepted` meets its contract: the numbers passed that were accepted stand at the front of the row.
 use borrow.Author.Needs.{needs}
 use Rattle.workload.specs.PassingLaws.{Found, found-none, found-more}
 use Rattle.workload.specs.Accepts.{seen, accepts}

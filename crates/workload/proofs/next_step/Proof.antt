@@ -1,3 +1,4 @@
+-- `workload::next_step` meets its contract: number 2, or the step picked on tables that were found sound.
 use Rattle.workload.specs.ReadyLaws.{unsound-next}
 use Rattle.soundness.specs.Facts.{sound-facts}
 use Rattle.tables.specs.Tables.{tablesOf}

@@ -1,3 +1,4 @@
+-- `workload::next_step_sound` meets its contract: sound tables can be scanned, and a pick among what is found is the load's.
 use Rattle.workload.specs.ReadyLaws.{scanned, picked-next}
 use Rattle.tables.specs.Tables.{tablesOf}
 use Rattle.workload.proofs.next_step_sound.Statement.{statement}

@@ -1,3 +1,4 @@
+-- `workload::note` meets its contract: a number that passes goes behind those noted, and any other changes nothing.
 use Rattle.workload.specs.PassingLaws.{note-here, note-none}
 use borrow.Author.Needs.{needs}
 use Rattle.workload.proofs.note.Statement.{statement}

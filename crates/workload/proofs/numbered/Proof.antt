@@ -1,3 +1,4 @@
+-- `workload::numbered` meets its contract: by its number a step is one of four kinds.
 use Rattle.workload.specs.Cases.{step-write, step-read, step-request, step-reply}
 use Rattle.workload.specs.Accepts.{seen}
 use native.Mathlib.Omega.{arith}

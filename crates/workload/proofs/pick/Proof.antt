@@ -1,3 +1,4 @@
+-- `workload::pick` meets its contract: what the scan found is picked from; the index is below their count.
 use Rattle.workload.specs.Cases.{pick-none, pick-some}
 use Rattle.workload.specs.Accepts.{seen, accepts}
 use native.Mathlib.Omega.{arith}

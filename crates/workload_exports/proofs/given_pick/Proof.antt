@@ -1,3 +1,4 @@
+-- `workload_exports::given_pick` meets its contract: each kind of step is its row of words.
 use Rattle.workload_exports.specs.Numbers.{given-by}
 use borrow.Author.Needs.{needs}
 use Rattle.workload_exports.proofs.given_pick.Statement.{statement}

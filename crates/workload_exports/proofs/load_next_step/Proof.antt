@@ -1,3 +1,4 @@
+-- `workload_exports::load_next_step` meets its contract: the numbers are the pick's.
 use mathlib.Core.Path.{_∙_}
 use borrow.Author.Needs.{needs}
 use Rattle.workload_exports.proofs.load_next_step.Statement.{statement}

@@ -1,3 +1,4 @@
+-- `workload_exports::load_numbers` meets its contract: each answer has its numbers.
 use Rattle.workload_exports.specs.Numbers.{load-by}
 use mathlib.Core.Path.{refl}
 use borrow.Author.Needs.{needs}

@@ -1,3 +1,4 @@
+-- `workload_exports::next_numbers` meets its contract: each case of a pick has its numbers.
 use Rattle.workload_exports.specs.Numbers.{next-by}
 use borrow.Author.Needs.{needs}
 use Rattle.workload_exports.proofs.next_numbers.Statement.{statement}

@@ -1,3 +1,4 @@
+-- `workload_run::list_next` meets its contract: a step that was given counts and is listed; else all stays.
 use Rattle.workload_run.specs.Cases.{listed-by}
 use mathlib.Core.Path.{refl}
 use borrow.Author.Needs.{needs}

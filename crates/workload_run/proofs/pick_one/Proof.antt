@@ -1,3 +1,4 @@
+-- `workload_run::pick_one` meets its contract: the pick that was played, and then listed.
 use Rattle.workload_run.specs.Cases.{picked-one}
 use Rattle.tables.specs.Tables.{tablesOf}
 use borrow.Author.Needs.{needs}

@@ -1,3 +1,4 @@
+-- `workload_run::picks_left` meets its contract: none is left where no step was given.
 use borrow.Author.Tests.{eq-eqb, ne-eqb}
 use borrow.Author.Needs.{needs}
 use Rattle.workload_run.proofs.picks_left.Statement.{statement}

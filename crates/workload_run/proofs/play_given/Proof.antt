@@ -1,3 +1,4 @@
+-- `workload_run::play_given` meets its contract: the setpoint stands for each server, and the step is played as a line.
 use lib.Seq.{length-take-le}
 use lib.ListN.{replicate}
 use mathlib.Core.Path.{sym}

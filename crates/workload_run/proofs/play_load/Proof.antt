@@ -1,3 +1,4 @@
+-- `workload_run::play_load` meets its contract: numbers 2 and 12, or the picks on tables that were found sound.
 use Rattle.workload_run.specs.RunLaws.{load-unsound, load-short, load-played}
 use Rattle.soundness.specs.Facts.{sound-facts}
 use Rattle.tables.specs.Tables.{tablesOf}

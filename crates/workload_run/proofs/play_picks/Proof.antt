@@ -1,3 +1,4 @@
+-- `workload_run::play_picks` meets its contract: the load is on its way from where it began (`Going`), and lengths stay.
 use borrow.Author.Needs.{needs}
 use Rattle.workload_run.specs.RunLaws.{SameLengths, Going, going-begun, going-on, left-less}
 use Rattle.workload_run.specs.Run.{Running, running, begun, ended}

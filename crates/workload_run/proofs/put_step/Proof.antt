@@ -1,3 +1,4 @@
+-- `workload_run::put_step` meets its contract: each kind of step is its row of words.
 use Rattle.workload_run.specs.Cases.{row-listed}
 use mathlib.Core.Path.{refl}
 use borrow.Author.Needs.{needs}

@@ -1,3 +1,4 @@
+-- `workload_run::put_words` meets its contract: four stores are the row put.
 use lib.ListN.{length-set}
 use native.Mathlib.Omega.{arith}
 use native.Mathlib.Numerals.{towards-suc}

@@ -1,3 +1,4 @@
+-- `workload_run::take_step` meets its contract: each case of a pick leaves the tables that `afterPick` says.
 use Rattle.workload_run.specs.Cases.{taken-by}
 use Rattle.tables.specs.Tables.{tablesOf}
 use mathlib.Core.Path.{refl}
