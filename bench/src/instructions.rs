@@ -2,13 +2,12 @@
 //! `count` runs under callgrind and has it write a file for each figure; `report` makes tables of the files. `bench/run instructions` does both.
 
 use crate::check;
-use crate::frame_speed::{Lent, FRAMES, MOST_BYTES};
+use crate::frame_speed::{Codec, Fast, Lent, Rust, FRAMES, MOST_BYTES};
 use crate::plans::{in_turn, Plan};
 use crate::sides::{self, Meter};
 use crate::steps::{kinds, PRESSES};
 use crate::table::{print, ratio, time};
 use ffi::{FrameLibrary, StoreLibrary};
-use frames::lent::{read_lent, write_lent};
 use model::{Step, Store};
 use std::arch::asm;
 use std::ffi::CString;
@@ -64,7 +63,8 @@ pub fn count(store: StoreLibrary, frame: FrameLibrary) {
         count_steps(&table, store, &[1, 2, 3].map(|method| in_turn(method, servers, clients, times)), place == 0);
     }
     count_checks("Instructions of the check of sound tables", store);
-    count_frames("Instructions of frames", frame);
+    count_frames("Instructions of frames", frame, Rust);
+    count_frames("Instructions of frames, beside a codec written for speed", frame, Fast);
 }
 
 /// Counts the steps of one kind, over a plan.
@@ -122,21 +122,27 @@ fn count_checks(table: &str, library: StoreLibrary) {
     }
 }
 
-fn count_frames(table: &str, library: FrameLibrary) {
-    let (mut keys_read, mut numbers_read) = (vec![0; 256], vec![0; 256]);
-    let mut bytes = vec![0; MOST_BYTES];
+fn count_frames<C: Codec>(table: &str, library: FrameLibrary, other: C) {
     for (kind, entries) in FRAMES {
         let row = format!("kind {kind}, {entries} entries");
-        let Lent { fixed, keys, numbers, frame } = Lent::of(library, kind, entries);
-        counted(|| library.write(&fixed, &keys, &numbers, &mut bytes)).expect("a good message");
-        written(table, &row, "proved, written", 1);
-        counted(|| write_lent(&fixed, &keys, &numbers, &mut bytes)).expect("a good message");
-        written(table, &row, "Rust, written", 1);
-        assert_eq!(counted(|| library.read(&frame, &mut keys_read, &mut numbers_read)), Ok(fixed));
-        written(table, &row, "proved, read", 1);
-        assert_eq!(counted(|| read_lent(&frame, &mut keys_read, &mut numbers_read)), Ok(fixed));
-        written(table, &row, "Rust, read", 1);
+        let lent = Lent::of(library, kind, entries);
+        count_written(table, &row, library, &lent);
+        count_written(table, &row, other, &lent);
+        count_read(table, &row, library, &lent);
+        count_read(table, &row, other, &lent);
     }
+}
+
+fn count_written<C: Codec>(table: &str, row: &str, side: C, Lent { fixed, keys, numbers, .. }: &Lent) {
+    let mut bytes = vec![0; MOST_BYTES];
+    counted(|| side.write(fixed, keys, numbers, &mut bytes)).expect("a good message");
+    written(table, row, &format!("{}, written", C::NAME), 1);
+}
+
+fn count_read<C: Codec>(table: &str, row: &str, side: C, Lent { fixed, frame, .. }: &Lent) {
+    let (mut keys, mut numbers) = (vec![0; 256], vec![0; 256]);
+    assert_eq!(counted(|| side.read(frame, &mut keys, &mut numbers)), Ok(*fixed));
+    written(table, row, &format!("{}, read", C::NAME), 1);
 }
 
 /// A file of callgrind's: where it belongs, and the instructions of one call.

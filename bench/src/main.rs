@@ -2,6 +2,7 @@
 
 mod check;
 mod clock;
+mod fast;
 mod frame_speed;
 mod growth;
 mod instructions;

@@ -69,14 +69,23 @@ pub record Reaches (numbered : Bool) (keys numbers : List ℕ) (i : ℕ) : Type 
   pub key : fixedFields ≤ i → (i - fixedFields) / entryFields < length keys
   pub number : fixedFields ≤ i → numbered ≡ true → (i - fixedFields) / entryFields < length numbers
 
--- a column far below where the number of a bit would wrap, and two that make a key
+-- a column far below where the number of a bit would wrap
 pub record Near (column : Column) : Type 0 where
   pub start : column .first ≤ mostBits
   pub stride : column .stride ≤ 255
   pub narrow : column .width ≤ 32
 
-pub record Narrow-key (counts owners : Column) : Type 0 where
-  pub counts-near : Near counts
-  pub owners-near : Near owners
+-- its field of entry i lies within the bytes
+abbrev pub Covered : List ℕ → Column → ℕ → Type 0
+Covered bytes column i = column .first + i * column .stride + column .width ≤ 8 * length bytes
+
+-- a column of so many entries, and two that make a key
+pub record Column-of (bytes : List ℕ) (column : Column) (entries : ℕ) : Type 0 where
+  pub near : Near column
+  pub covered : (i : ℕ) → i < entries → Covered bytes column i
+
+pub record Key-columns (bytes : List ℕ) (counts owners : Column) (entries : ℕ) : Type 0 where
+  pub of-counts : Column-of bytes counts entries
+  pub of-owners : Column-of bytes owners entries
   pub count : counts .width ≤ 8
   pub owner : owners .width ≤ 8

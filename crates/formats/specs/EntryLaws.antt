@@ -22,7 +22,7 @@ use Rattle.formats.specs.Table.{none, entryPlace, numberPlace, fixedFiel
 use Rattle.formats.specs.Table.{valuesFor, shapeOf, rowOf, sortAt, bitsOf, hasNumbers}
 use Rattle.formats.specs.TableLaws.{row-at, sort-small, columns-small}
 use Rattle.formats.specs.Entries.{entryValue, valuesBy}
-use Rattle.formats.specs.Columns.{mostBits, valueBy, firstColumn, nextColumn, columnOf, columnAt, Packable, Reaches, Near, Narrow-key}
+use Rattle.formats.specs.Columns.{mostBits, valueBy, firstColumn, nextColumn, columnOf, columnAt, Packable, Reaches, Near, Covered, Column-of, Key-columns}
 
 -- ---- the parts of an entry
 
@@ -151,14 +151,19 @@ module _ (kind : ℕ) (h : kind < kinds) where
       let e₂ = both-right (leb (c .stride) 255) _ e₁ in
       leb-true _ _ (rw (le-ltb 1 d (omega arith)) at (both-right (leb (c .width) 32) _ e₂))
 
-  pub key-columns : Narrow-key (columnOf kind 0) (columnOf kind 1)
-  key-columns =
-      record {
-        counts-near = columns-near 0 (omega arith);
-        owners-near = columns-near 1 (omega arith);
-        count = narrow-at 0 (omega arith);
-        owner = narrow-at 1 (omega arith);
-      }
+  -- of so many entries that stand within the bytes
+  module _ {bytes : List ℕ} {entries : ℕ} (within : (d : ℕ) → d < entryFields → (i : ℕ) → i < entries → Covered bytes (columnOf kind d) i) where
+    pub column-of : (d : ℕ) → d < entryFields → Column-of bytes (columnOf kind d) entries
+    column-of d l = record { near = columns-near d l; covered = within d l }
+
+    pub key-columns : Key-columns bytes (columnOf kind 0) (columnOf kind 1) entries
+    key-columns =
+        record {
+          of-counts = column-of 0 (omega arith);
+          of-owners = column-of 1 (omega arith);
+          count = narrow-at 0 (omega arith);
+          owner = narrow-at 1 (omega arith);
+        }
 
 -- the columns, one behind the other, as the code makes them
 module _ (kind : ℕ) {row : List ℕ} (er : row ≡ rowOf kind) where

@@ -10,13 +10,13 @@ use Rattle.ranges.specs.Sum.{sumBelow}
 use Rattle.ranges.specs.SumLaws.{sum-more}
 use Rattle.fields.specs.Bits.{fieldAt}
 use Rattle.formats.specs.Grammar.{Grammar, got, read, good}
-use Rattle.formats.specs.RoundTrip.{field-got, read-good}
+use Rattle.formats.specs.RoundTrip.{field-got, read-good, read-size}
 use Rattle.formats.specs.Table.{entryPlace, entryFields, shapeOf, sortAt, bitsOf, entriesSaid, valuesFor}
 use Rattle.formats.specs.Format.{widthOf, nextOf, format}
 use Rattle.formats.specs.FormatLaws.{rest, rest-start, rest-one}
 use Rattle.formats.specs.Entries.{keyIn, numberIn}
-use Rattle.formats.specs.Columns.{columnOf, columnAt, keyAt}
-use Rattle.formats.specs.Walk.{stateAt, firstBit, place-late, walk, some-left, values-length, value-width, entry-first}
+use Rattle.formats.specs.Columns.{columnOf, columnAt, keyAt, Covered}
+use Rattle.formats.specs.Walk.{stateAt, firstBit, place-late, walk, some-left, sized, values-length, value-width, entry-first}
 
 module _ (bytes vs : List ℕ) (r : read format bytes 0 ≡ got vs) where
   right : good format vs ≡ true
@@ -85,6 +85,22 @@ module _ (bytes vs : List ℕ) (r : read format bytes 0 ≡ got vs) where
         let b = column-bit d h in
         sym (value-stands (valuesFor m + d) (omega (arith, values-length vs right))
         ∙ ap₂ (fieldAt bytes) (b .0) (width-of d h ∙ sym (b .2)))
+
+  -- the columns lie within the bytes
+  pub column-covered : (d : ℕ) → d < entryFields → (m : ℕ) → m < entriesSaid vs → Covered bytes (columnOf (getD vs 0 0) d) m
+  column-covered d h m l =
+      let i = valuesFor m + d in
+      let b = column-bit m d h in
+      let f : ℕ → ℕ = λ j. widthOf (stateAt vs j) in
+      omega (
+        arith,
+        b .0,
+        b .2,
+        width-of m d h,
+        sum-more f i,
+        sized vs right (i + 1) (omega (arith, values-length vs right)),
+        read-size format bytes 0 vs r (omega arith),
+      )
 
   -- the entries, as the columns give them
   pub key-found : (m : ℕ) → m < entriesSaid vs → keyAt bytes (columnOf (getD vs 0 0) 0) (columnOf (getD vs 0 0) 1) m ≡ keyIn vs m

@@ -17,7 +17,7 @@ use Rattle.formats.specs.declared.reading.Scan.{Scan}
 use Rattle.formats.specs.Grammar.{Grammar, end, field, Outcome, got, fault, ahead, judged, ended, read, zeros}
 use Rattle.formats.specs.Table.{entryPlace, fixedFields, sortAt, bitsOf}
 use Rattle.formats.specs.TableLaws.{kindBits}
-use Rattle.formats.specs.Format.{widthOf, fieldOf, within, allowed, nextOf, one, start, format}
+use Rattle.formats.specs.Format.{widthOf, fieldOf, within, allowed, nextOf, one, fixed, start, format}
 use Rattle.formats.specs.FormatLaws.{Goes, goes-start, goes-next, later, next-place, place-inner, Rowed, rowed-next, rest}
 use Rattle.formats.specs.FormatLaws.{rest-start, rest-one, rest-end}
 
@@ -27,8 +27,10 @@ unfoldable pub faultAt : List ℕ → ℕ → Field → ℕ
 faultAt bytes at f =
     cond (leb (at + f .width) (8 * length bytes)) (cond (within f (fieldAt bytes at (f .width))) 0 11) 10
 
+-- a field as it is taken: a value is told of one that is not cut short
 abbrev pub tookAt : List ℕ → ℕ → Field → Took
-tookAt bytes at f = record { fault = faultAt bytes at f; value = fieldAt bytes at (f .width) }
+tookAt bytes at f =
+    record { fault = faultAt bytes at f; value = cond (leb (at + f .width) (8 * length bytes)) (fieldAt bytes at (f .width)) 0 }
 
 unfoldable pub endFault : List ℕ → ℕ → ℕ
 endFault bytes at = cond (leb (8 * length bytes) (at + 7) && eqb (fieldAt bytes at (8 * length bytes - at)) 0) 0 11
@@ -41,13 +43,17 @@ scanOf (fault n) = record { fault = n; fields = 0; fixed = zeros fixedFields }
 -- ---- the cases, as the code meets them
 
 module _ (bytes : List ℕ) (at : ℕ) (f : Field) where
-  pub fault-cut : length bytes < (at + f .width + 7) / 8 → 10 ≡ faultAt bytes at f
+  pub took-cut : length bytes < (at + f .width + 7) / 8 → record { fault = 10; value = 0 } ≡ tookAt bytes at f
   unfolding faultAt
-  fault-cut h = rw (lt-leb (at + f .width) (8 * length bytes) (omega arith))
+  took-cut h = rw (lt-leb (at + f .width) (8 * length bytes) (omega arith))
 
   module _ (h : (at + f .width + 7) / 8 ≤ length bytes) where
     whole : leb (at + f .width) (8 * length bytes) ≡ true
     whole = le-leb (at + f .width) (8 * length bytes) (omega arith)
+
+    pub took-is : {n v : ℕ} → v ≡ fieldAt bytes at (f .width) → n ≡ faultAt bytes at f → record { fault = n; value = v } ≡ tookAt bytes at f
+    took-is d e = let t : tookAt bytes at f ≡ record { fault = faultAt bytes at f; value = fieldAt bytes at (f .width) } = rw whole in
+        (λ i. record { fault = e i; value = d i }) ∙ sym t
 
     pub fault-low : fieldAt bytes at (f .width) < f .least → 11 ≡ faultAt bytes at f
     unfolding faultAt within
@@ -151,6 +157,11 @@ pub record Come (bytes row : List ℕ) (i at : ℕ) (st : State) : Type 0 where
   pub late : entryPlace ≤ st .place → fixedFields ≤ i
   pub eight : length row ≡ fixedFields
   pub kept : (j : ℕ) → j < fixedFields → j < i → getD row j 0 ≡ getD values j 0
+
+-- no bytes at all
+pub come-none : (bytes : List ℕ) → length bytes ≡ 0 → fault 10 ≡ read format bytes 0
+unfolding format fixed bitsOf sortAt read judged
+come-none bytes z = rw (lt-leb 4 (8 * length bytes) (omega arith))
 
 pub come-start : (bytes : List ℕ) {row : List ℕ} → length row ≡ fixedFields → Come bytes row 0 0 start
 come-start bytes l =
@@ -259,10 +270,6 @@ module _ {bytes row : List ℕ} {i at : ℕ} {st : State} (c : Come bytes row i 
               ∙ c .kept j h (omega arith)
               ∙ sym (List·getD-append (c .values) (v ∷ []) 0 j (omega (arith, c .many))))
 
--- a field as the code takes it
-pub took-is : (bytes : List ℕ) (at : ℕ) (f : Field) {n v : ℕ} → v ≡ fieldAt bytes at (f .width) → n ≡ faultAt bytes at f → record { fault = n; value = v } ≡ tookAt bytes at f
-took-is bytes at f d e i = record { fault = e i; value = d i }
-
 -- A turn of the reader: the field f of the state is taken as t.
 module _ {bytes row : List ℕ} {i at : ℕ} {st : State} (c : Come bytes row i at st) (some : 0 < st .left) {f : Field} {t : Took}
     (ef : f ≡ fieldOf st) (et : t ≡ tookAt bytes at f) where
@@ -273,13 +280,16 @@ module _ {bytes row : List ℕ} {i at : ℕ} {st : State} (c : Come bytes row i 
   unfolding fieldOf
   is-width = ap (λ (g : Field). g .width) ef
 
-  is-value : t .value ≡ fieldAt bytes at (widthOf st)
-  is-value = ap (λ (u : Took). u .value) et ∙ ap (fieldAt bytes at) is-width
-
   pub turn-fault : (t .fault ≡ 0 → ⊥) → fault (t .fault) ≡ read format bytes 0
   turn-fault d = come-fault c some is-fault d
 
   module _ (none : t .fault ≡ 0) where
+    is-value : t .value ≡ fieldAt bytes at (widthOf st)
+    is-value =
+        ap (λ (u : Took). u .value) et
+        ∙ ap (λ (w : ℕ). cond (leb (at + w) (8 * length bytes)) (fieldAt bytes at w) 0) is-width
+        ∙ rw (come-field c some is-fault none .0)
+
     pub turn-allowed : allowed st (t .value) ≡ true
     turn-allowed = ap (allowed st) is-value ∙ come-allowed c some is-fault none
 

@@ -10,7 +10,7 @@ ghost use lib.ListN.{length};
 ghost use Rattle.ranges.specs.Laid.{laid};
 ghost use Rattle.formats.specs.Table.{entryFields, mostEntries};
 ghost use Rattle.formats.specs.Entries.{entryValue};
-ghost use Rattle.formats.specs.Columns.{valueBy, columnAt, keyAt, Reaches, Near, Narrow-key};
+ghost use Rattle.formats.specs.Columns.{valueBy, columnAt, keyAt, Reaches, Near, Covered, Column-of, Key-columns};
 
 // A value of the entries; `numbered` is whether they have numbers.
 fn entry_value(numbered: bool, keys: &[u32], numbers: &[u32], i: usize) -> u32
@@ -50,7 +50,7 @@ pub fn value_at(
 
 // What a column of the entries has at entry i.
 fn column_value(bytes: &[u8], column: Column, i: usize) -> u32
-    requires { ⌜ Near column × (i ≤ mostEntries) ⌝ }
+    requires { ⌜ Near column × (i ≤ mostEntries) × Covered (now bytes) column i ⌝ }
     ensures { λ r. ⌜ r ≡ columnAt (now (bytes .entry)) column i ⌝ }
 {
     let at = column.first + i * column.stride;
@@ -60,7 +60,7 @@ fn column_value(bytes: &[u8], column: Column, i: usize) -> u32
 
 // The keys of a frame's entries, as numbers.
 pub fn store_keys(bytes: &[u8], counts: Column, owners: Column, keys: &mut [u32], entries: usize)
-    requires { ⌜ Narrow-key counts owners × (entries ≤ mostEntries) × (entries ≤ length (now keys)) ⌝ }
+    requires { ⌜ Key-columns (now bytes) counts owners entries × (entries ≤ mostEntries) × (entries ≤ length (now keys)) ⌝ }
     ensures { λ _. ⌜ now (keys .exit) ≡ laid (keyAt (now (bytes .entry)) counts owners) entries (now (keys .entry)) ⌝ }
 {
     let mut i: usize = 0;
@@ -74,7 +74,7 @@ pub fn store_keys(bytes: &[u8], counts: Column, owners: Column, keys: &mut [u32]
 
 // Their tags, setpoints or masks: what stands in a column.
 pub fn store_column(bytes: &[u8], column: Column, numbers: &mut [u32], entries: usize)
-    requires { ⌜ Near column × (entries ≤ mostEntries) × (entries ≤ length (now numbers)) ⌝ }
+    requires { ⌜ Column-of (now bytes) column entries × (entries ≤ mostEntries) × (entries ≤ length (now numbers)) ⌝ }
     ensures { λ _. ⌜ now (numbers .exit) ≡ laid (columnAt (now (bytes .entry)) column) entries (now (numbers .entry)) ⌝ }
 {
     let mut i: usize = 0;

@@ -20,19 +20,19 @@ pub struct Took {
     pub value: u32,
 }
 
-// 10 where the field is cut short, 11 where its value is not one that it may have, else 0.
+// 10 where the field is cut short, 11 where its value is not one that it may have, else 0. A field that is cut short has the value 0.
 fn take(bytes: &[u8], at: usize, field: Field) -> Took
     requires { ⌜ (at ≤ mostBits) × (field .width ≤ 32) ⌝ }
     ensures { λ r. ⌜ r ≡ tookAt (now (bytes .entry)) at field ⌝ }
 {
     let width = field.width;
-    let value = fields::read_field(bytes, at, width);
     if bytes.len() < (at + width + 7) / 8 {
         return Took {
             fault: 10,
-            value: value,
+            value: 0,
         };
     }
+    let value = fields::read_field(bytes, at, width);
     if value < field.least {
         return Took {
             fault: 11,
@@ -98,6 +98,9 @@ fn keep(fixed: &mut [u32; FIXED_FIELDS], i: usize, value: u32)
 pub fn scan_frame(bytes: &[u8]) -> Scan
     ensures { λ r. ⌜ r ≡ scanOf (read format (now (bytes .entry)) 0) ⌝ }
 {
+    if bytes.len() == 0 {
+        return refused(10);
+    }
     let kind = fields::read_field(bytes, 0, table::KIND_BITS);
     let shape = table::shape_of(kind);
     let row = table::row_of(kind, shape.target);

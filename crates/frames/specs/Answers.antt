@@ -15,14 +15,14 @@ use Rattle.formats.specs.declared.reading.Scan.{Scan}
 use Rattle.formats.specs.declared.writing.Wrote.{Wrote}
 use Rattle.formats.specs.Grammar.{Outcome, got, fault, good, frame}
 use Rattle.formats.specs.RoundTrip.{read-good}
-use Rattle.formats.specs.Table.{kinds, mostEntries, fixedFields, entriesSaid, hasNumbers}
+use Rattle.formats.specs.Table.{kinds, mostEntries, fixedFields, entryFields, entriesSaid, hasNumbers}
 use Rattle.formats.specs.Format.{format}
 use Rattle.formats.specs.Entries.{keyIn, numberIn, valuesBy}
-use Rattle.formats.specs.Columns.{columnOf, columnAt, keyAt, Places, Packable}
+use Rattle.formats.specs.Columns.{columnOf, columnAt, keyAt, Covered, Places, Packable}
 use Rattle.formats.specs.Reading.{scanOf, Got, scan-got, fault-some}
 use Rattle.formats.specs.Writing.{wroteOf, bytesAfter}
 use Rattle.formats.specs.Walk.{kind-below, entries-few}
-use Rattle.formats.specs.Found.{key-found, number-found}
+use Rattle.formats.specs.Found.{key-found, number-found, column-covered}
 use Rattle.frames.specs.declared.Message.{Message}
 use Rattle.frames.specs.declared.Reading.{Reading}
 use Rattle.frames.specs.declared.Reading.the-variants as reading
@@ -41,10 +41,11 @@ use Rattle.frames.specs.RoundTrip.{fixed-length, said, are-enough}
 abbrev pub writtenBy : Wrote → Written
 writtenBy w = cond (eqb (w .fault) 0) (Length (w .length)) (Refused (w .fault))
 
--- What storing asks: a kind, no more entries than a frame can have, and places for them.
-pub record Storable (kind entries keys numbers : ℕ) : Type 0 where
+-- What storing asks: a kind, no more entries than a frame can have, which the bytes hold, and places for them.
+pub record Storable (kind : ℕ) (bytes : List ℕ) (entries keys numbers : ℕ) : Type 0 where
   pub known : kind < kinds
   pub few : entries ≤ mostEntries
+  pub held : (d : ℕ) → d < entryFields → (i : ℕ) → i < entries → Covered bytes (columnOf kind d) i
   pub places : Places kind entries keys numbers
 
 -- ---- the cases, as the code meets them
@@ -138,11 +139,12 @@ module _ (bytes : List ℕ) {fixed : List ℕ} {fields : ℕ} (s : Got (found by
     -- the entries can be stored
     pub are-storable :
         enough (getD fixed 0 0) n (length keys) (length numbers) ≡ true
-        → Storable (getD fixed 0 0) n (length keys) (length numbers)
+        → Storable (getD fixed 0 0) bytes n (length keys) (length numbers)
     are-storable e =
         record {
           known = omega (arith, its-kind, kind-below (s .values) good-values);
           few = omega (arith, said-entries, entries-few (s .values) good-values);
+          held = λ d h i l. rw its-kind (column-covered bytes (s .values) (s .is-got) d h i (omega (arith, said-entries)));
           places = are-enough (getD fixed 0 0) n (length keys) (length numbers) e;
         }
 

@@ -27,7 +27,7 @@ pub fn enough_places(kind: u32, entries: usize, keys: usize, numbers: usize) -> 
 
 // The entries of a frame that was found good, from its bytes: keys, and numbers where the kind's entries have them.
 pub fn store(kind: u32, bytes: &[u8], keys: &mut [u32], numbers: &mut [u32], entries: usize)
-    requires { ⌜ Storable kind entries (length (now keys)) (length (now numbers)) ⌝ }
+    requires { ⌜ Storable kind (now bytes) entries (length (now keys)) (length (now numbers)) ⌝ }
     ensures { λ _. ⌜ (now (keys .exit) ≡ laid (keyAt (now (bytes .entry)) (columnOf kind 0) (columnOf kind 1)) entries (now (keys .entry)))
         × (now (numbers .exit)
         ≡ cond (hasNumbers kind) (laid (columnAt (now (bytes .entry)) (columnOf kind 2)) entries (now (numbers .entry)))

@@ -1,42 +1,42 @@
--- Before turn i the value is the field's first i bits, so that twice the value and a bit fit.
-use mathlib.Core.Path.{_≡_, _∙_, sym, ap, ap₂}
-use Prim.Native.Nat.{ℕ, _+_, _*_, _-_, _≤_}
+-- Each way out is a case of the definition; across bytes the number is the field bit by bit, so that it fits.
 use native.Mathlib.Omega.{arith}
 use borrow.Author.Needs.{needs}
-use Rattle.fields.specs.Bits.{fieldAt}
-use Rattle.fields.specs.BitLaws.{bit-at-below}
-use Rattle.fields.specs.FieldLaws.{field-small, field-more, field-none}
+use Rattle.fields.specs.Cases.{field-within, field-across, by-bytes-below}
 use Rattle.fields.proofs.read_field.Statement.{statement}
 use Rattle.fields.proofs.read_field.Tie as tie
 
-abbrev Inv-loop : tie.InvT-loop
-Inv-loop bytes at width value₀ i₀ value i = (i ≤ width) × (value ≡ fieldAt bytes at i)
+returns : tie.Need-returns
+returns c =
+    let a = c .before .before .before .args in
+    field-within (a .bytes .now) (a .at) (a .width) (c .before .if1 .taken) (c .part-at .ensures)
 
-abbrev μ-loop : tie.MeasureT-loop
-μ-loop bytes at width value₀ i₀ value i = width - i
-
-loop-holds : tie.Need-loop-holds Inv-loop μ-loop
-loop-holds c = (search needs, sym (field-none (c .before .args .bytes .now) (c .before .args .at)))
-
-mul-value : tie.Need-mul-value Inv-loop μ-loop
-mul-value c = let a = c .before .before .before .args in omega (arith, field-small (a .bytes .now) (a .at) (c .before .loop .i) 31 (omega arith))
-
-add-value : tie.Need-add-value Inv-loop μ-loop
-add-value c =
+returns-2 : tie.Need-returns-2
+returns-2 c =
     let a = c .before .before .before .before .args in
-    let i = c .before .before .loop .i in
-    omega (arith, field-small (a .bytes .now) (a .at) i 31 (omega arith), bit-at-below (a .bytes .now) (a .at + i), c .get-bit .ensures)
+    let wider = c .before .before .if1 .left in
+    field-across (a .bytes .now) (a .at) (a .width) wider (search needs) (c .before .up-to .ensures) (c .part-at2 .ensures)
 
-loop-again : tie.Need-loop-again Inv-loop μ-loop
-loop-again c =
+add-result : tie.Need-add-result
+add-result c =
     let a = c .before .before .before .before .args in
-    let l = c .before .before .loop in
-    (omega arith, ap₂ (λ (x y : ℕ). x * 2 + y) (l .inv .1) (c .get-bit .ensures) ∙ sym (field-more (a .bytes .now) (a .at) (l .i)))
-
-returns : tie.Need-returns Inv-loop μ-loop
-returns c = c .before .loop .inv .1 ∙ ap (fieldAt _ _) (omega arith)
+    omega (arith, returns-2 c, by-bytes-below (a .bytes .now) (a .at) (a .width) (search needs))
 
 pub read-field-spec : {M : Type 1} → statement M
 read-field-spec =
     tie.close
-    (tie.spec Inv-loop μ-loop loop-holds mul-value (λ c. search needs) (λ c κs. search needs) add-value (λ c. search needs) (λ c. search needs) loop-again returns)
+    (tie.spec
+    (λ c. search needs)
+    (λ c κs. search needs)
+    returns
+    (λ c. search needs)
+    (λ c. search needs)
+    (λ c. search needs)
+    (λ c κs. search needs)
+    (λ c. search needs)
+    (λ c. search needs)
+    (λ c. search needs)
+    (λ c. search needs)
+    (λ c. search needs)
+    (λ c κs. search needs)
+    add-result
+    returns-2)

@@ -39,17 +39,40 @@ impl FrameLibrary {
     }
 }
 
+/// A message as it crosses; where it is refused, both are the refusal.
+#[repr(C)]
+pub struct Parts {
+    pub head: u64,
+    pub tail: u64,
+}
+
+/// A refusal is 2^64 - 1 less its number; any other number is the answer.
+pub fn answer(number: u64) -> Result<u64, Refusal> {
+    let refusal = u32::try_from(u64::MAX - number).ok().and_then(Refusal::from_number);
+    refusal.map_or(Ok(number), Err)
+}
+
+/// The message of what crossed.
+pub fn taken_apart(Parts { head, tail }: Parts) -> Result<Fixed, Refusal> {
+    assert_eq!(answer(tail).err(), answer(head).err(), "where it is refused, both are the refusal");
+    let head = answer(head)?;
+    let digit = |place: u32| (head >> (8 * place)) as u8;
+    Ok(Fixed {
+        kind: (head >> 40) as u32,
+        client: digit(4),
+        server: digit(3),
+        tag: digit(2),
+        key: (digit(1), digit(0)),
+        number: tail as u32,
+        entries: (tail >> 32) as u32,
+    })
+}
+
 #[cfg(frame_exports)]
 mod linked {
+    use super::{answer, taken_apart, Parts};
     use frames::lent::Fixed;
     use model::Refusal;
-
-    /// A message as it crosses; where it is refused, both are the refusal.
-    #[repr(C)]
-    struct Parts {
-        head: u64,
-        tail: u64,
-    }
 
     // Nothing checks these declarations against crates/frame_exports/src/lib.rt.
     #[rustfmt::skip]
@@ -65,28 +88,10 @@ mod linked {
         ) -> u64;
     }
 
-    /// A refusal is 2^64 - 1 less its number; any other number is the answer.
-    fn answer(number: u64) -> Result<u64, Refusal> {
-        let refusal = u32::try_from(u64::MAX - number).ok().and_then(Refusal::from_number);
-        refusal.map_or(Ok(number), Err)
-    }
-
     pub fn read(bytes: &[u8], keys: &mut [u32], numbers: &mut [u32]) -> Result<Fixed, Refusal> {
         // The library was proved to stay within the slices that it is lent.
-        let Parts { head, tail } = unsafe {
+        taken_apart(unsafe {
             frame_read(bytes.as_ptr(), bytes.len(), keys.as_mut_ptr(), keys.len(), numbers.as_mut_ptr(), numbers.len())
-        };
-        assert_eq!(answer(tail).err(), answer(head).err(), "where it is refused, both are the refusal");
-        let head = answer(head)?;
-        let digit = |place: u32| (head >> (8 * place)) as u8;
-        Ok(Fixed {
-            kind: (head >> 40) as u32,
-            client: digit(4),
-            server: digit(3),
-            tag: digit(2),
-            key: (digit(1), digit(0)),
-            number: tail as u32,
-            entries: (tail >> 32) as u32,
         })
     }
 

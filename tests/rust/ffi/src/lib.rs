@@ -2,7 +2,7 @@
 //! A slice crosses as a pointer and a length in elements, an answer as a number.
 //! Where a library was not built, its handle is not to be had.
 
-mod frame;
+pub mod frame;
 mod store;
 mod wire;
 

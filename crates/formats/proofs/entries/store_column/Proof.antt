@@ -19,7 +19,8 @@ loop-holds c = laying-none _ _ _ (c .before .before .pre .2)
 column-value-requires : tie.Need-column-value-requires Inv-loop μ-loop
 column-value-requires c κs =
     let start = c .before .before .before .before in
-    (start .pre .0, omega (arith, start .pre .1, c .loop-test .taken))
+    let inside = c .loop-test .taken in
+    (start .pre .0 .near, omega (arith, start .pre .1), start .pre .0 .covered (c .before .loop .i) inside)
 
 loop-again : tie.Need-loop-again Inv-loop μ-loop
 loop-again c = let at-test = c .before in laying-more (at-test .before .loop .inv) (at-test .loop-test .taken) (c .column-value .ensures)

@@ -21,13 +21,17 @@ loop-holds c = laying-none _ _ _ (c .before .before .pre .2)
 column-value-requires : tie.Need-column-value-requires Inv-loop μ-loop
 column-value-requires c κs =
     let start = c .before .before .before .before in
-    (start .pre .0 .counts-near, omega (arith, start .pre .1, c .loop-test .taken))
+    let counts = start .pre .0 .of-counts in
+    let inside = c .loop-test .taken in
+    (counts .near, omega (arith, start .pre .1), counts .covered (c .before .loop .i) inside)
 
 column-value-requires-2 : tie.Need-column-value-requires-2 Inv-loop μ-loop
 column-value-requires-2 c κs =
     let at-test = c .before in
     let start = at-test .before .before .before .before in
-    (start .pre .0 .owners-near, omega (arith, start .pre .1, at-test .loop-test .taken))
+    let owners = start .pre .0 .of-owners in
+    let inside = at-test .loop-test .taken in
+    (owners .near, omega (arith, start .pre .1), owners .covered (at-test .before .loop .i) inside)
 
 mul-keys : tie.Need-mul-keys Inv-loop μ-loop
 mul-keys c =

@@ -4,6 +4,7 @@ use mathlib.Core.Path.{_≡_, sym, ap, _∙_}
 use Prim.Native.Nat.{_+_, _-_, _≤_, _<_}
 use native.Mathlib.Omega.{arith}
 use lib.ListN.{length, getD}
+use Rattle.fields.specs.ByBytes.{put-by-bytes}
 use Rattle.formats.specs.Table.{rowOf, valuesFor}
 use Rattle.formats.specs.Grammar.{size}
 use Rattle.formats.specs.Format.{widthOf, format}
@@ -91,7 +92,6 @@ write-field-requires c κs =
     let w = wide at-limits in
     record {
       narrow = w .1;
-      near = omega (arith, fits at-limits, size-small _ (p .right));
       inside = omega (arith, fits at-limits, w, p .fits, at-loop .loop .inv .same);
     }
 
@@ -117,7 +117,7 @@ loop-again c =
     let told =
     value-is (s .pre .packable) (turn .loop-test .taken) (numbered-by (getD (s .args .fixed .now) 0 0) (s .pre .its-row))
     (at-value .value-at .ensures) in
-    laid-on _ (s .pre .right) (turn .before .loop .inv) (inside turn) (wide at-limits .0) told (at-write .write-field .ensures)
+    laid-on _ (s .pre .right) (turn .before .loop .inv) (inside turn) (wide at-limits .0) told (at-write .write-field .ensures ∙ put-by-bytes _ _ _ _)
     (c .place-after .ensures)
 
 same-length : tie.Need-same-length Inv-loop μ-loop

@@ -6,7 +6,7 @@ use Rattle.formats.specs.declared.table.Shape.{Shape}
 use Rattle.formats.specs.declared.table.Column.{Column}
 use Rattle.formats.specs.Table.{entryPlace, ownerPlace, numberPlace}
 use Rattle.formats.specs.Columns.{firstColumn, columnOf, columnAt, keyAt, Near}
-use Rattle.formats.specs.EntryLaws.{numbers-none, numbers-some, sort-known, first-near, columns-near, key-columns, column-zero, column-suc}
+use Rattle.formats.specs.EntryLaws.{numbers-none, numbers-some, sort-known, first-near, columns-near, column-of, key-columns, column-zero, column-suc}
 use Rattle.frames.proofs.entries.store.Statement.{statement}
 use Rattle.frames.proofs.entries.store.Tie as tie
 
@@ -49,7 +49,7 @@ store-keys-requires : tie.Need-store-keys-requires
 store-keys-requires c κs =
     let at-owners = c .before in
     let s = at-owners .before .before .before .before .before .before .before .before in
-    let narrow = key-columns (s .args .kind) (s .pre .known) in
+    let narrow = key-columns (s .args .kind) (s .pre .known) (s .pre .held) in
     (rw (counts-are (at-owners .before), owners-are at-owners) narrow, s .pre .few, s .pre .places .for-keys)
 
 -- so that the keys are stored
@@ -98,7 +98,7 @@ store-column-requires c κs =
     let at-if1 = at-numbers .before in
     let at-row = at-if1 .before .before .before .before .before .before .before .before in
     let s = at-row .before .before .before .before .before in
-    let n = columns-near (s .args .kind) (s .pre .known) 2 (search needs) in
+    let n = column-of (s .args .kind) (s .pre .known) (s .pre .held) 2 (search needs) in
     let some = numbers-some (s .args .kind) (at-row .row-of .ensures) (at-if1 .if1 .left) in
     (rw (numbers-are at-numbers) n, s .pre .few, s .pre .places .for-numbers some)
 
