@@ -105,7 +105,9 @@ fn table<C: Codec>(
     goal: impl Fn(u32) -> f64,
 ) {
     let of = |name: &str, what: &str| format!("{name}, {what}");
-    let heads: Vec<String> = ["kind", "entries", "bytes"].map(String::from).into_iter()
+    let heads: Vec<String> = ["kind", "entries", "bytes"]
+        .map(String::from)
+        .into_iter()
         .chain([written, read].iter().flat_map(|what| [of(FrameLibrary::NAME, what), of(C::NAME, what), "times as long".into()]))
         .collect();
     let heads: Vec<&str> = heads.iter().map(String::as_str).collect();

@@ -53,16 +53,25 @@ fn written(table: &str, row: &str, side: &str, calls: usize) {
 /// The table that has what a call of nothing takes, which is taken off every figure.
 const NOTHING: &str = "nothing";
 
-pub fn count(store: StoreLibrary, frame: FrameLibrary) {
+/// What a call of nothing takes.
+pub fn count_of_nothing() {
     assert!(ask(RUNNING_ON_VALGRIND, 0) > 0, "the instructions are counted under valgrind: bench/run instructions");
     counted(|| ());
     written(NOTHING, "", "", 1);
+}
+
+/// Steps and checks.
+pub fn count_of_steps(store: StoreLibrary) {
     for (place, &(servers, clients, times, _)) in PRESSES.iter().enumerate() {
         let table = format!("Instructions of steps, {servers} servers and {clients} clients, {times} WRITEs and {times} READs of all servers in turn");
         // A step that checks all tables of the larger press takes so long under valgrind that the first press must do.
         count_steps(&table, store, &[1, 2, 3].map(|method| in_turn(method, servers, clients, times)), place == 0);
     }
     count_checks("Instructions of the check of sound tables", store);
+}
+
+/// Frames.
+pub fn count_of_frames(frame: FrameLibrary) {
     count_frames("Instructions of frames", frame, Rust);
     count_frames("Instructions of frames, beside a codec written for speed", frame, Fast);
 }

@@ -21,10 +21,17 @@ fn main() {
     let [proved, model, parts @ ..] = &given[..] else {
         panic!("bench PROVED-PROGRAM MODEL-PROGRAM [PART...]");
     };
-    let store = StoreLibrary::linked().expect("libstore_exports.a is linked: run bench/run");
-    let frame = FrameLibrary::linked().expect("libframe_exports.a is linked: run bench/run");
+    // Frames need their own library alone.
+    let store = || StoreLibrary::linked().expect("libstore_exports.a is linked: run bench/run");
+    let frame = || FrameLibrary::linked().expect("libframe_exports.a is linked: run bench/run");
     match parts {
-        [part] if part == "count" => return instructions::count(store, frame),
+        [part, rest @ ..] if part == "count" => {
+            instructions::count_of_nothing();
+            if rest.is_empty() {
+                instructions::count_of_steps(store());
+            }
+            return instructions::count_of_frames(frame());
+        }
         [part, folder] if part == "instructions" => return instructions::report(Path::new(folder)),
         _ => {}
     }
@@ -33,16 +40,16 @@ fn main() {
     assert!(parts.iter().all(|part| PARTS.contains(&part.as_str())), "the parts are {PARTS:?}");
     let wanted = |part: &str| parts.is_empty() || parts.iter().any(|word| word == part);
     if wanted("steps") {
-        steps::report(&clock, store);
+        steps::report(&clock, store());
     }
     if wanted("growth") {
-        growth::report(&clock, store);
+        growth::report(&clock, store());
     }
     if wanted("check") {
-        check::report(store);
+        check::report(store());
     }
     if wanted("frames") {
-        frame_speed::report(frame);
+        frame_speed::report(frame());
     }
     if wanted("program") {
         program::report(proved, model);
