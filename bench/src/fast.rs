@@ -1,20 +1,9 @@
 //! A codec of frames written for speed alone, as what the machine can do: a frame without entries is one 64-bit number, entries are
 //! moved by whole 64-bit words. `frame_speed` holds the proved codec against it; it answers as the exported functions do.
 
-use ffi::frame::{answer, taken_apart, Parts};
+use ffi::frame::Parts;
 use frames::lent::Fixed;
-use model::Refusal;
 use std::mem::MaybeUninit;
-
-/// Reads a frame; its entries go to the front of the slices.
-pub fn read(bytes: &[u8], keys: &mut [u32], numbers: &mut [u32]) -> Result<Fixed, Refusal> {
-    taken_apart(frame_read(bytes, keys, numbers))
-}
-
-/// Writes a message to the front of the bytes: its length.
-pub fn write(fixed: &Fixed, keys: &[u32], numbers: &[u32], bytes: &mut [u8]) -> Result<usize, Refusal> {
-    answer(frame_write(fixed, keys, numbers, bytes)).map(|length| length as usize)
-}
 
 const fn refused(number: u64) -> u64 {
     u64::MAX - number
@@ -59,8 +48,9 @@ fn field(word: u64, at: u32, width: u32) -> u64 {
     word << at >> (64 - width)
 }
 
+/// Reads a frame; its entries go to the front of the slices.
 #[inline(never)]
-fn frame_read(bytes: &[u8], keys: &mut [u32], numbers: &mut [u32]) -> Parts {
+pub fn read(bytes: &[u8], keys: &mut [u32], numbers: &mut [u32]) -> Parts {
     let word = front(bytes);
     let kind = field(word, 0, 4) as u32;
     let (client, target) = (field(word, 4, 4), field(word, 8, 5));
@@ -242,8 +232,9 @@ fn fault(bytes: &[u8]) -> Parts {
     refusal(run().err().unwrap_or(11))
 }
 
+/// Writes a message to the front of the bytes: its length.
 #[inline(never)]
-fn frame_write(fixed: &Fixed, keys: &[u32], numbers: &[u32], bytes: &mut [u8]) -> u64 {
+pub fn write(fixed: &Fixed, keys: &[u32], numbers: &[u32], bytes: &mut [u8]) -> u64 {
     let Fixed { kind, client, server, key: (count, owner), number, tag, entries } = *fixed;
     let to_server = TO_SERVER >> (kind & 31) & 1 == 1;
     if kind.wrapping_sub(1) >= 12 || client > 15 || (to_server && server > 15) {
@@ -357,6 +348,7 @@ fn write_entries<const WIDTH: u32, const MOST: usize>(
 mod tests {
     use super::{read, write};
     use crate::frame_speed::{entries_beside, message, FRAMES, MOST_BYTES};
+    use ffi::frame::{answer, taken_apart};
     use frames::lent::{read_lent, write_lent};
 
     /// Writes and reads as the independent codec does: each frame that is measured, each of its prefixes, each of its bits turned.
@@ -366,7 +358,7 @@ mod tests {
             let (fixed, (keys, numbers)) = (message(kind, entries), entries_beside(kind, entries));
             let (mut bytes, mut other) = (vec![0xA5; MOST_BYTES], vec![0xA5; MOST_BYTES]);
             let length = write_lent(&fixed, &keys, &numbers, &mut other).expect("a good message");
-            assert_eq!(write(&fixed, &keys, &numbers, &mut bytes), Ok(length));
+            assert_eq!(answer(write(&fixed, &keys, &numbers, &mut bytes)), Ok(length as u64));
             assert_eq!(bytes, other);
             let frame = &bytes[..length];
             (0..length).for_each(|cut| alike(&frame[..cut]));
@@ -381,8 +373,8 @@ mod tests {
 
     fn alike(bytes: &[u8]) {
         let [mut keys, mut numbers, mut other_keys, mut other_numbers] = [7, 8, 7, 8].map(|word| vec![word; 256]);
-        let answer = read(bytes, &mut keys, &mut numbers);
-        assert_eq!(answer, read_lent(bytes, &mut other_keys, &mut other_numbers));
+        let message = taken_apart(read(bytes, &mut keys, &mut numbers));
+        assert_eq!(message, read_lent(bytes, &mut other_keys, &mut other_numbers));
         assert_eq!((keys, numbers), (other_keys, other_numbers));
     }
 }

@@ -4,6 +4,7 @@
 use crate::clock::{beside, least_of_passes};
 use crate::fast;
 use crate::table::{print, ratio, thousands, time};
+use ffi::frame::{answer, taken_apart, Parts};
 use ffi::FrameLibrary;
 use frames::lent::{read_lent, write_lent, Fixed};
 use frames::message::to_server;
@@ -32,53 +33,88 @@ pub const FRAMES: [(u32, u32); 17] = [
     (12, 256),
 ];
 
-/// A side that writes and reads as the exported functions do.
+/// A side that is measured. What it answers is taken apart outside of the measurement.
 pub trait Codec: Copy {
     const NAME: &'static str;
-    fn write(self, fixed: &Fixed, keys: &[u32], numbers: &[u32], bytes: &mut [u8]) -> Result<usize, Refusal>;
-    fn read(self, bytes: &[u8], keys: &mut [u32], numbers: &mut [u32]) -> Result<Fixed, Refusal>;
+    type Written;
+    type Read;
+    fn write(self, fixed: &Fixed, keys: &[u32], numbers: &[u32], bytes: &mut [u8]) -> Self::Written;
+    fn read(self, bytes: &[u8], keys: &mut [u32], numbers: &mut [u32]) -> Self::Read;
+    fn length(written: Self::Written) -> Option<usize>;
+    fn message(read: Self::Read) -> Option<Fixed>;
 }
 
 /// The independent implementation.
 #[derive(Clone, Copy)]
 pub struct Rust;
+
+impl Codec for Rust {
+    const NAME: &'static str = "Rust";
+    type Written = Result<usize, Refusal>;
+    type Read = Result<Fixed, Refusal>;
+
+    fn write(self, fixed: &Fixed, keys: &[u32], numbers: &[u32], bytes: &mut [u8]) -> Self::Written {
+        write_lent(fixed, keys, numbers, bytes)
+    }
+
+    fn read(self, bytes: &[u8], keys: &mut [u32], numbers: &mut [u32]) -> Self::Read {
+        read_lent(bytes, keys, numbers)
+    }
+
+    fn length(written: Self::Written) -> Option<usize> {
+        written.ok()
+    }
+
+    fn message(read: Self::Read) -> Option<Fixed> {
+        read.ok()
+    }
+}
+
 /// The codec that was written for speed.
 #[derive(Clone, Copy)]
 pub struct Fast;
 
-impl Codec for FrameLibrary {
-    const NAME: &'static str = "proved";
-
-    fn write(self, fixed: &Fixed, keys: &[u32], numbers: &[u32], bytes: &mut [u8]) -> Result<usize, Refusal> {
-        FrameLibrary::write(self, fixed, keys, numbers, bytes)
-    }
-
-    fn read(self, bytes: &[u8], keys: &mut [u32], numbers: &mut [u32]) -> Result<Fixed, Refusal> {
-        FrameLibrary::read(self, bytes, keys, numbers)
-    }
-}
-
-impl Codec for Rust {
-    const NAME: &'static str = "Rust";
-
-    fn write(self, fixed: &Fixed, keys: &[u32], numbers: &[u32], bytes: &mut [u8]) -> Result<usize, Refusal> {
-        write_lent(fixed, keys, numbers, bytes)
-    }
-
-    fn read(self, bytes: &[u8], keys: &mut [u32], numbers: &mut [u32]) -> Result<Fixed, Refusal> {
-        read_lent(bytes, keys, numbers)
-    }
-}
-
 impl Codec for Fast {
     const NAME: &'static str = "fast";
+    type Written = u64;
+    type Read = Parts;
 
-    fn write(self, fixed: &Fixed, keys: &[u32], numbers: &[u32], bytes: &mut [u8]) -> Result<usize, Refusal> {
+    fn write(self, fixed: &Fixed, keys: &[u32], numbers: &[u32], bytes: &mut [u8]) -> u64 {
         fast::write(fixed, keys, numbers, bytes)
     }
 
-    fn read(self, bytes: &[u8], keys: &mut [u32], numbers: &mut [u32]) -> Result<Fixed, Refusal> {
+    fn read(self, bytes: &[u8], keys: &mut [u32], numbers: &mut [u32]) -> Parts {
         fast::read(bytes, keys, numbers)
+    }
+
+    fn length(written: u64) -> Option<usize> {
+        answer(written).ok().map(|length| length as usize)
+    }
+
+    fn message(read: Parts) -> Option<Fixed> {
+        taken_apart(read).ok()
+    }
+}
+
+impl Codec for FrameLibrary {
+    const NAME: &'static str = "proved";
+    type Written = u64;
+    type Read = Parts;
+
+    fn write(self, fixed: &Fixed, keys: &[u32], numbers: &[u32], bytes: &mut [u8]) -> u64 {
+        self.number(fixed, keys, numbers, bytes)
+    }
+
+    fn read(self, bytes: &[u8], keys: &mut [u32], numbers: &mut [u32]) -> Parts {
+        self.parts(bytes, keys, numbers)
+    }
+
+    fn length(written: u64) -> Option<usize> {
+        answer(written).ok().map(|length| length as usize)
+    }
+
+    fn message(read: Parts) -> Option<Fixed> {
+        taken_apart(read).ok()
     }
 }
 
@@ -150,20 +186,20 @@ impl Lent {
 }
 
 /// Nanoseconds: written by the proved crate and by the other side, and read by both.
-fn one_kind(library: FrameLibrary, other: impl Codec, kind: u32, entries: u32) -> [f64; 4] {
+fn one_kind<C: Codec>(library: FrameLibrary, other: C, kind: u32, entries: u32) -> [f64; 4] {
     let Lent { fixed, keys, numbers, frame } = Lent::of(library, kind, entries);
     let (mut keys_read, mut numbers_read) = (vec![0; 256], vec![0; 256]);
-    assert_eq!(other.read(&frame, &mut keys_read, &mut numbers_read), Ok(fixed));
+    assert_eq!(C::message(other.read(&frame, &mut keys_read, &mut numbers_read)), Some(fixed));
     assert_eq!(library.read(&frame, &mut keys_read, &mut numbers_read), Ok(fixed));
     let (mut bytes, mut other_bytes) = (vec![0; MOST_BYTES], vec![0; MOST_BYTES]);
-    assert_eq!(other.write(&fixed, &keys, &numbers, &mut other_bytes), Ok(frame.len()));
+    assert_eq!(C::length(other.write(&fixed, &keys, &numbers, &mut other_bytes)), Some(frame.len()));
     assert_eq!(other_bytes[..frame.len()], frame);
 
     let other_write = || other.write(&fixed, &keys, &numbers, &mut other_bytes);
-    let (written, other_written) = beside(|| library.write(&fixed, &keys, &numbers, &mut bytes), other_write);
+    let (written, other_written) = beside(|| library.number(&fixed, &keys, &numbers, &mut bytes), other_write);
     let (mut other_keys, mut other_numbers) = (vec![0; 256], vec![0; 256]);
     let other_reading = || other.read(&frame, &mut other_keys, &mut other_numbers);
-    let (read, other_read) = beside(|| library.read(&frame, &mut keys_read, &mut numbers_read), other_reading);
+    let (read, other_read) = beside(|| library.parts(&frame, &mut keys_read, &mut numbers_read), other_reading);
     [written, other_written, read, other_read]
 }
 

@@ -144,13 +144,13 @@ fn count_frames<C: Codec>(table: &str, library: FrameLibrary, other: C) {
 
 fn count_written<C: Codec>(table: &str, row: &str, side: C, Lent { fixed, keys, numbers, .. }: &Lent) {
     let mut bytes = vec![0; MOST_BYTES];
-    counted(|| side.write(fixed, keys, numbers, &mut bytes)).expect("a good message");
+    C::length(counted(|| side.write(fixed, keys, numbers, &mut bytes))).expect("a good message");
     written(table, row, &format!("{}, written", C::NAME), 1);
 }
 
 fn count_read<C: Codec>(table: &str, row: &str, side: C, Lent { fixed, frame, .. }: &Lent) {
     let (mut keys, mut numbers) = (vec![0; 256], vec![0; 256]);
-    assert_eq!(counted(|| side.read(frame, &mut keys, &mut numbers)), Ok(*fixed));
+    assert_eq!(C::message(counted(|| side.read(frame, &mut keys, &mut numbers))), Some(*fixed));
     written(table, row, &format!("{}, read", C::NAME), 1);
 }
 

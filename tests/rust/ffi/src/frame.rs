@@ -20,6 +20,14 @@ impl FrameLibrary {
     pub fn write(self, _fixed: &Fixed, _keys: &[u32], _numbers: &[u32], _bytes: &mut [u8]) -> Result<usize, Refusal> {
         unreachable!("no handle without the library")
     }
+
+    pub fn parts(self, _bytes: &[u8], _keys: &mut [u32], _numbers: &mut [u32]) -> Parts {
+        unreachable!("no handle without the library")
+    }
+
+    pub fn number(self, _fixed: &Fixed, _keys: &[u32], _numbers: &[u32], _bytes: &mut [u8]) -> u64 {
+        unreachable!("no handle without the library")
+    }
 }
 
 #[cfg(frame_exports)]
@@ -30,11 +38,21 @@ impl FrameLibrary {
 
     /// Reads a frame; its entries go to the front of the slices.
     pub fn read(self, bytes: &[u8], keys: &mut [u32], numbers: &mut [u32]) -> Result<Fixed, Refusal> {
-        linked::read(bytes, keys, numbers)
+        taken_apart(linked::read(bytes, keys, numbers))
     }
 
     /// Writes a message to the front of the bytes: its length.
     pub fn write(self, fixed: &Fixed, keys: &[u32], numbers: &[u32], bytes: &mut [u8]) -> Result<usize, Refusal> {
+        answer(linked::write(fixed, keys, numbers, bytes)).map(|length| length as usize)
+    }
+
+    /// Reads a frame: the numbers as they cross, for measurements.
+    pub fn parts(self, bytes: &[u8], keys: &mut [u32], numbers: &mut [u32]) -> Parts {
+        linked::read(bytes, keys, numbers)
+    }
+
+    /// Writes a message: the number as it crosses, for measurements.
+    pub fn number(self, fixed: &Fixed, keys: &[u32], numbers: &[u32], bytes: &mut [u8]) -> u64 {
         linked::write(fixed, keys, numbers, bytes)
     }
 }
@@ -70,9 +88,8 @@ pub fn taken_apart(Parts { head, tail }: Parts) -> Result<Fixed, Refusal> {
 
 #[cfg(frame_exports)]
 mod linked {
-    use super::{answer, taken_apart, Parts};
+    use super::Parts;
     use frames::lent::Fixed;
-    use model::Refusal;
 
     // Nothing checks these declarations against crates/frame_exports/src/lib.rt.
     #[rustfmt::skip]
@@ -88,17 +105,15 @@ mod linked {
         ) -> u64;
     }
 
-    pub fn read(bytes: &[u8], keys: &mut [u32], numbers: &mut [u32]) -> Result<Fixed, Refusal> {
+    pub fn read(bytes: &[u8], keys: &mut [u32], numbers: &mut [u32]) -> Parts {
         // The library was proved to stay within the slices that it is lent.
-        taken_apart(unsafe {
-            frame_read(bytes.as_ptr(), bytes.len(), keys.as_mut_ptr(), keys.len(), numbers.as_mut_ptr(), numbers.len())
-        })
+        unsafe { frame_read(bytes.as_ptr(), bytes.len(), keys.as_mut_ptr(), keys.len(), numbers.as_mut_ptr(), numbers.len()) }
     }
 
-    pub fn write(fixed: &Fixed, keys: &[u32], numbers: &[u32], bytes: &mut [u8]) -> Result<usize, Refusal> {
+    pub fn write(fixed: &Fixed, keys: &[u32], numbers: &[u32], bytes: &mut [u8]) -> u64 {
         let Fixed { kind, client, server, key: (count, owner), number, tag, entries } = *fixed;
         // The library was proved to stay within the slices that it is lent.
-        let written = unsafe {
+        unsafe {
             frame_write(
                 kind,
                 client,
@@ -115,7 +130,6 @@ mod linked {
                 bytes.as_mut_ptr(),
                 bytes.len(),
             )
-        };
-        answer(written).map(|length| length as usize)
+        }
     }
 }
