@@ -188,7 +188,7 @@ module _ (st : State) where
   unfolding rest
   rest-early h = rw (lt-ltb (st .place) entryPlace h)
 
-  rest-late : entryPlace ≤ st .place → rest st ≡ entries (st .left) st
+  pub rest-late : entryPlace ≤ st .place → rest st ≡ entries (st .left) st
   unfolding rest
   rest-late h = rw (le-ltb (st .place) entryPlace h)
 

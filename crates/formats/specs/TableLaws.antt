@@ -140,6 +140,10 @@ columns-small kind h =
     let e = all-at (λ k. leb (shapeOf k .body) mostColumn && leb (shapeOf k .entry) mostColumn) kinds refl kind h in
     (leb-true _ _ (both-left _ _ e), leb-true _ _ (both-right (leb (shapeOf kind .body) mostColumn) _ e))
 
+-- beyond the table there are no entries
+pub many-none : (kind : ℕ) → kinds ≤ kind → sortAt kind manyPlace ≡ none
+many-none kind h = sym (row-at kind manyPlace) ∙ ap (λ (r : List ℕ). getD r manyPlace none) (sym (row-none kind h))
+
 -- a value that says how many entries there are is below the most
 pub few-entries : (kind client before : ℕ) → mostOf (sortAt kind manyPlace) client before < mostEntries
 unfolding mostOf
@@ -148,10 +152,7 @@ few-entries kind client before =
     (λ e.
     let r = row-right kind (ltb-true _ _ e) in
     rw (r .plain) (either (λ n. n < mostEntries) (eqb (sortAt kind manyPlace) of && eqb before 0) (omega arith) (r .few)))
-    (λ e.
-    let z : sortAt kind manyPlace ≡ none =
-    sym (row-at kind manyPlace) ∙ ap (λ (r : List ℕ). getD r manyPlace none) (sym (row-none kind (ltb-false _ _ e))) in
-    rw z (omega arith))
+    (λ e. rw (many-none kind (ltb-false _ _ e)) (omega arith))
 
 -- the cases of the limits, as the code meets them: `plain` is the one that stands for the sort
 module _ (sort client before : ℕ) where

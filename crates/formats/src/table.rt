@@ -61,8 +61,12 @@ const KINDS: usize = 13;
 
 const HEADER_BITS: usize = 13;
 
-// The bits of the first field, which is the kind.
+// The bits of the first field, which is the kind, of a key and of a mask.
 pub const KIND_BITS: usize = 4;
+
+pub const KEY_BITS: usize = 12;
+
+pub const MASK_BITS: usize = 16;
 
 // The table by kind, from 0: station or head target, fixed body bits, bits per entry.
 // A constant array is built on the stack where it is used, so it is small and looked at once for a frame.
@@ -166,7 +170,7 @@ pub fn limits_of(sort: u8) -> Field
         OF => limits(4, 0, 15),
         OWN => limits(4, 0, 15),
         VALUE => limits(32, 0, 4294967295),
-        MASK => limits(16, 1, 65535),
+        MASK => limits(MASK_BITS, 1, 65535),
         KEYS => limits(5, 1, 16),
         _ => limits(8, 0, 255),
     }
