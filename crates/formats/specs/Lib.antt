@@ -14,4 +14,5 @@ pub mod Judging
 pub mod Writing
 pub mod Walk
 pub mod Laying
+pub mod Packing
 pub mod Found

@@ -74,7 +74,7 @@ module _ (vs : List ℕ) where
   walk-kind (suc (suc i)) h =
       next-kind (stateAt vs (suc i)) _ (λ e. place-some (suc i) (omega arith) (sym (walk-place (suc i)) ∙ e)) ∙ walk-kind (suc i) (omega arith)
 
-  left-first : (i : ℕ) → i < entryPlace → (stateAt vs i) .left ≡ entryPlace - i
+  pub left-first : (i : ℕ) → i < entryPlace → (stateAt vs i) .left ≡ entryPlace - i
   unfolding stateAt
   left-first zero h = refl
   left-first (suc i) h =
@@ -211,7 +211,7 @@ module _ (vs : List ℕ) (g : good format vs ≡ true) where
         w manyPlace (omega arith) (omega arith),
       )
 
-  entry-bits : (m : ℕ) → firstBit vs (valuesFor m) ≡ firstBit vs entryPlace + m * bitsFrom (getD vs 0 0) entryPlace entryFields
+  pub entry-bits : (m : ℕ) → firstBit vs (valuesFor m) ≡ firstBit vs entryPlace + m * bitsFrom (getD vs 0 0) entryPlace entryFields
   unfolding bitsFrom
   entry-bits zero = omega arith
   entry-bits (suc m) =

@@ -61,10 +61,14 @@ const KINDS: usize = 13;
 
 const HEADER_BITS: usize = 13;
 
-// The bits of the first field, which is the kind, of a key and of a mask.
+// The bits of the first field, which is the kind, of a key's count and client, of both, and of a mask.
 pub const KIND_BITS: usize = 4;
 
-pub const KEY_BITS: usize = 12;
+pub const COUNT_BITS: usize = 8;
+
+pub const OWNER_BITS: usize = 4;
+
+pub const KEY_BITS: usize = COUNT_BITS + OWNER_BITS;
 
 pub const MASK_BITS: usize = 16;
 
