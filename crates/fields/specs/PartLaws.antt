@@ -119,6 +119,21 @@ with-part-below x w k v n h l =
     let l′ : x < 2 ^ (n - (w + k) + (w + k)) = rw s at l in
     rw (with-is-high x w k v, s, pow-add 2 (n - (w + k)) (w + k)) (digits-lt (pow.shr-lt (n - (w + k)) (w + k) l′) (low-below x w k v))
 
+-- ---- as they are followed in the listing: the first part, a whole byte, the last part
+
+pub first-with : (x free v : ℕ) → x / 2 ^ free * 2 ^ free + v % 2 ^ free ≡ withPart x free 0 v
+first-with x free v =
+    let z : free + 0 ≡ free = omega arith in
+    sym (rw (with-is-high x free 0 v, z, pow-zero 2, mod-one x) (omega arith))
+
+pub byte-with : (x v : ℕ) → x < 256 → v % 256 ≡ withPart x 8 0 v
+byte-with x v h = omega (arith, first-with x 8 v)
+
+pub last-with : (x left v : ℕ) → left ≤ 8 → x < 256 → v % 2 ^ left * 2 ^ (8 - left) + x % 2 ^ (8 - left) ≡ withPart x left (8 - left) v
+last-with x left v l h =
+    let s : left + (8 - left) ≡ 8 = omega arith in
+    sym (rw (with-is-high x left (8 - left) v, s) (omega arith))
+
 -- ---- writing, in a row of bytes
 
 -- two parts of one byte are put one by one, or both at once; behind the end nothing is put

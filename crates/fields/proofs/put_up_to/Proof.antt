@@ -24,7 +24,7 @@ loop-again : tie.Need-loop-again Inv-loop μ-loop
 loop-again c =
     let l = c .before .before .before .before .before .loop in
     let a = c .before .before .before .before .before .before .before .args in
-    let e = c .before .before .put-part .ensures in (
+    let e = c .before .before .put-byte .ensures in (
       omega arith,
       ap length e ∙ length-putPart _ _ _ _ _ ∙ l .inv .1,
       put-up-to-more (l .bytes) (a .place) (a .free) (l .rest) (l .i) (omega arith) e ∙ l .inv .2,
@@ -34,7 +34,7 @@ returns : tie.Need-returns Inv-loop μ-loop
 returns c =
     let l = c .before .before .before .before .before .loop in
     let a = c .before .before .before .before .before .before .before .args in
-    put-up-to-none (l .bytes) (a .place) (a .free) (l .rest) (omega arith) (c .before .before .put-part2 .ensures) ∙ l .inv .2
+    put-up-to-none (l .bytes) (a .place) (a .free) (l .rest) (omega arith) (c .before .before .put-first .ensures) ∙ l .inv .2
 
 pub put-up-to-spec : {M : Type 1} → statement M
 put-up-to-spec =

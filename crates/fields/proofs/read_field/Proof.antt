@@ -1,42 +1,37 @@
--- Each way out is a case of the definition; across bytes the number is the field bit by bit, so that it fits.
-use native.Mathlib.Omega.{arith}
+-- Each number of the match is the width.
 use borrow.Author.Needs.{needs}
-use Rattle.fields.specs.Cases.{field-within, field-across, by-bytes-below}
+use mathlib.Core.Path.{sym, ap, _∙_}
+use Rattle.fields.specs.Parts.{fieldByBytes}
 use Rattle.fields.proofs.read_field.Statement.{statement}
 use Rattle.fields.proofs.read_field.Tie as tie
-
-returns : tie.Need-returns
-returns c =
-    let a = c .before .before .before .args in
-    field-within (a .bytes .now) (a .at) (a .width) (c .before .if1 .taken) (c .part-at .ensures)
-
-returns-2 : tie.Need-returns-2
-returns-2 c =
-    let a = c .before .before .before .before .args in
-    let wider = c .before .before .if1 .left in
-    field-across (a .bytes .now) (a .at) (a .width) wider (search needs) (c .before .up-to .ensures) (c .part-at2 .ensures)
-
-add-result : tie.Need-add-result
-add-result c =
-    let a = c .before .before .before .before .args in
-    omega (arith, returns-2 c, by-bytes-below (a .bytes .now) (a .at) (a .width) (search needs))
 
 pub read-field-spec : {M : Type 1} → statement M
 read-field-spec =
     tie.close
     (tie.spec
-    (λ c. search needs)
     (λ c κs. search needs)
-    returns
-    (λ c. search needs)
-    (λ c. search needs)
-    (λ c. search needs)
     (λ c κs. search needs)
-    (λ c. search needs)
-    (λ c. search needs)
-    (λ c. search needs)
-    (λ c. search needs)
-    (λ c. search needs)
     (λ c κs. search needs)
-    add-result
-    returns-2)
+    (λ c κs. search needs)
+    (λ c κs. search needs)
+    (λ c κs. search needs)
+    (λ c κs. search needs)
+    (λ c.
+    let a = c .before .before .before .args in
+    c .by-bytes .ensures ∙ ap (fieldByBytes (a .bytes .now) (a .at)) (sym (c .before .match .keys1)))
+    (λ c.
+    let a = c .before .before .before .args in
+    c .by-bytes2 .ensures ∙ ap (fieldByBytes (a .bytes .now) (a .at)) (sym (c .before .match .keys2)))
+    (λ c.
+    let a = c .before .before .before .args in
+    c .by-bytes3 .ensures ∙ ap (fieldByBytes (a .bytes .now) (a .at)) (sym (c .before .match .keys3)))
+    (λ c.
+    let a = c .before .before .before .args in
+    c .by-bytes4 .ensures ∙ ap (fieldByBytes (a .bytes .now) (a .at)) (sym (c .before .match .keys4)))
+    (λ c.
+    let a = c .before .before .before .args in
+    c .by-bytes5 .ensures ∙ ap (fieldByBytes (a .bytes .now) (a .at)) (sym (c .before .match .keys5)))
+    (λ c.
+    let a = c .before .before .before .args in
+    c .by-bytes6 .ensures ∙ ap (fieldByBytes (a .bytes .now) (a .at)) (sym (c .before .match .keys6)))
+    (λ c. c .by-bytes7 .ensures))

@@ -18,7 +18,7 @@ abbrev μ-loop : tie.MeasureT-loop
 loop-holds : tie.Need-loop-holds Inv-loop μ-loop
 loop-holds c =
     let a = c .before .before .args in
-    (search needs, up-to-none (a .bytes .now) (a .place) (a .free) (c .part-at .ensures))
+    (search needs, up-to-none (a .bytes .now) (a .place) (a .free) (c .first-part .ensures))
 
 mul-value : tie.Need-mul-value Inv-loop μ-loop
 mul-value c =
@@ -31,13 +31,13 @@ add-value c =
     let a = c .before .before .before .before .before .args in
     let l = c .before .before .loop in
     let below = up-to-below (a .bytes .now) (a .place) (a .free) (l .i) 24 (omega arith) (omega arith) in
-    omega (arith, l .inv .1, below, c .part-at2 .ensures, part-below (a .bytes .now) (a .place + (l .i + 1)) 8 0)
+    omega (arith, l .inv .1, below, c .byte-at .ensures, part-below (a .bytes .now) (a .place + (l .i + 1)) 8 0)
 
 loop-again : tie.Need-loop-again Inv-loop μ-loop
 loop-again c =
     let a = c .before .before .before .before .before .args in
     let l = c .before .before .loop in
-    (omega arith, up-to-more (a .bytes .now) (a .place) (a .free) (l .i) (l .inv .1) (c .part-at2 .ensures))
+    (omega arith, up-to-more (a .bytes .now) (a .place) (a .free) (l .i) (l .inv .1) (c .byte-at .ensures))
 
 returns : tie.Need-returns Inv-loop μ-loop
 returns c = c .before .loop .inv .1 ∙ ap (upTo _ _ _) (omega arith)

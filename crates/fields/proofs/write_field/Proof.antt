@@ -1,38 +1,50 @@
--- Each way out is a case of the definition.
+-- Each number of the match is the width.
 use borrow.Author.Needs.{needs}
-use Rattle.fields.specs.Cases.{put-within, put-across}
+use mathlib.Core.Path.{sym, ap, _∙_}
+use Prim.Native.Nat.{ℕ}
+use Rattle.fields.specs.Parts.{putByBytes}
 use Rattle.fields.proofs.write_field.Statement.{statement}
 use Rattle.fields.proofs.write_field.Tie as tie
-
-returns : tie.Need-returns
-returns c =
-    let a = c .before .before .before .before .before .before .args in
-    put-within (a .bytes .now) (a .at) (a .width) (search needs) (a .value) (c .before .before .put-part .ensures)
-
-returns-2 : tie.Need-returns-2
-returns-2 c =
-    let first = c .before .before in
-    let last = first .before .before .before .before in
-    let a = last .before .before .before .before .args in
-    put-across (a .bytes .now) (a .at) (a .width) (search needs) (a .value) (last .put-part2 .ensures) (first .put-up-to .ensures)
 
 pub write-field-spec : {M : Type 1} → statement M
 write-field-spec =
     tie.close
     (tie.spec
-    (λ c. search needs)
+    (λ c κs. search needs)
+    (λ c κs. search needs)
+    (λ c κs. search needs)
+    (λ c κs. search needs)
+    (λ c κs. search needs)
     (λ c κs. search needs)
     (λ c. search needs)
-    returns
+    (λ c.
+    let put = c .before .before in
+    let a = put .before .before .before .before .args in
+    put .put-by-bytes .ensures
+    ∙ ap (λ (w : ℕ). putByBytes (a .bytes .now) (a .at) w (a .value)) (sym (put .before .before .match .keys1)))
     (λ c. search needs)
+    (λ c.
+    let put = c .before .before in
+    let a = put .before .before .before .before .args in
+    put .put-by-bytes2 .ensures
+    ∙ ap (λ (w : ℕ). putByBytes (a .bytes .now) (a .at) w (a .value)) (sym (put .before .before .match .keys2)))
     (λ c. search needs)
+    (λ c.
+    let put = c .before .before in
+    let a = put .before .before .before .before .args in
+    put .put-by-bytes3 .ensures
+    ∙ ap (λ (w : ℕ). putByBytes (a .bytes .now) (a .at) w (a .value)) (sym (put .before .before .match .keys3)))
     (λ c. search needs)
+    (λ c.
+    let put = c .before .before in
+    let a = put .before .before .before .before .args in
+    put .put-by-bytes4 .ensures
+    ∙ ap (λ (w : ℕ). putByBytes (a .bytes .now) (a .at) w (a .value)) (sym (put .before .before .match .keys4)))
     (λ c. search needs)
+    (λ c.
+    let put = c .before .before in
+    let a = put .before .before .before .before .args in
+    put .put-by-bytes5 .ensures
+    ∙ ap (λ (w : ℕ). putByBytes (a .bytes .now) (a .at) w (a .value)) (sym (put .before .before .match .keys5)))
     (λ c. search needs)
-    (λ c. search needs)
-    (λ c κs. search needs)
-    (λ c. search needs)
-    (λ c. search needs)
-    (λ c κs. search needs)
-    (λ c. search needs)
-    returns-2)
+    (λ c. c .before .before .put-by-bytes6 .ensures))
