@@ -4,8 +4,8 @@ ghost use mathlib.Core.Path.{_≡_};
 ghost use Prim.Native.Nat.{_+_, _<_, _≤_};
 ghost use mathlib.Core.Bool.{cond};
 ghost use lib.Dec.{eqb};
-ghost use Rattle.formats.specs.Table.{sorts, less, limitsOf, mostEntries, shapeOf, rowOf, leastOf, mostOf, hasNumbers};
-ghost use Rattle.formats.specs.Columns.{lengthBy, mostBits, firstColumn, nextColumn};
+ghost use Rattle.formats.specs.Table.{sorts, less, headerBits, limitsOf, mostEntries, shapeOf, rowOf, leastOf, mostOf, hasNumbers};
+ghost use Rattle.formats.specs.Columns.{lengthBy};
 
 // What a field holds. NO: the kind has no such field; it then has no bits and the value 0.
 pub const NO: u8 = 0;
@@ -238,33 +238,9 @@ pub fn frame_length(shape: Shape, entries: usize) -> usize
     (HEADER_BITS + shape.body as usize + entries * shape.entry as usize + 7) / 8
 }
 
-// Where a field of the entries stands: its bit in the first entry, the bits from entry to entry, and its own.
-pub struct Column {
-    pub first: usize,
-    pub stride: usize,
-    pub width: usize,
-}
-
-// Ahead of the first field of the entries; no field yet.
-pub fn first_column(shape: Shape) -> Column
-    ensures { λ r. ⌜ r ≡ firstColumn shape ⌝ }
+// The bit where the entries of a kind of this shape begin.
+pub fn entries_at(shape: Shape) -> usize
+    ensures { λ r. ⌜ r ≡ headerBits + shape .body ⌝ }
 {
-    Column {
-        first: HEADER_BITS + shape.body as usize,
-        stride: shape.entry as usize,
-        width: 0,
-    }
-}
-
-// The field behind a field of the entries; `sort` is what it holds.
-pub fn next_column(before: Column, sort: u8) -> Column
-    requires { ⌜ (sort < sorts) × (before .first ≤ mostBits) × (before .width ≤ 32) ⌝ }
-    ensures { λ r. ⌜ r ≡ nextColumn before sort ⌝ }
-{
-    let limits = limits_of(sort);
-    Column {
-        first: before.first + before.width,
-        stride: before.stride,
-        width: limits.width,
-    }
+    HEADER_BITS + shape.body as usize
 }
