@@ -8,6 +8,7 @@ use mathlib.Core.Bool.{true, false}
 use lib.ListN.{length, getD, drop}
 use lib.Seq.{drop-cons, drop-length}
 use borrow.Author.Tests.{le-leb, lt-leb}
+use Rattle.ranges.specs.Tests.{by-test}
 use Rattle.ranges.specs.SumLaws.{sum-none, sum-more}
 use Rattle.fields.specs.Bits.{putField}
 use Rattle.fields.specs.FieldLaws.{length-putField}
@@ -42,6 +43,11 @@ module _ (vs : List ℕ) (g : good format vs ≡ true) where
       omega (arith, frame-bits vs g, columns-small k (kind-below vs g), entries-fit k (entriesSaid vs) (kind-below vs g) (entries-few vs g))
 
 -- ---- the cases of the answer
+
+-- a frame's kind has a row
+pub kind-unknown : (vs : List ℕ) → 12 < getD vs 0 0 → good format vs ≡ false
+kind-unknown vs h =
+    by-test (good format vs) (λ g. let z : ⊥ = omega (arith, kind-below vs g) in absurd z) (λ g. g)
 
 module _ (vs bytes : List ℕ) where
   pub write-bad : good format vs ≡ false → (record { fault = 11; length = 0 } ≡ wroteOf vs bytes) × (bytes ≡ bytesAfter vs bytes)

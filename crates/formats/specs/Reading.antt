@@ -185,6 +185,14 @@ pub come-none : (bytes : List ℕ) → length bytes ≡ 0 → fault 10 ≡ read 
 unfolding format fixed bitsOf sortAt read judged
 come-none bytes z = rw (lt-leb 4 (8 * length bytes) (omega arith))
 
+-- no kind
+pub come-unknown : (bytes : List ℕ) {kind : ℕ} → (length bytes ≡ 0 → ⊥) → kind ≡ fieldAt bytes 0 kindBits → 12 < kind → fault 11 ≡ read format bytes 0
+unfolding format fixed bitsOf sortAt read judged within fieldOf leastOf mostOf
+come-unknown bytes {kind} some e h =
+    let v = fieldAt bytes 0 kindBits in
+    let l : 12 < v = omega arith in
+    rw (le-leb 4 (8 * length bytes) (omega arith), le-leb 1 v (omega arith), lt-leb v 12 l)
+
 pub come-start : (bytes : List ℕ) {row : List ℕ} → length row ≡ fixedFields → Come bytes row 0 start
 come-start bytes l =
     record {

@@ -7,6 +7,7 @@ use crate::table;
 use crate::table::ENTRY_FIELDS;
 use crate::table::FIXED_FIELDS;
 use crate::table::KEY_BITS;
+use crate::table::LAST_KIND;
 use crate::table::MANY;
 use crate::table::MASK_BITS;
 use crate::table::NUMBER;
@@ -198,8 +199,11 @@ pub fn scan_frame(bytes: &[u8]) -> Scan
         return refused(10);
     }
     let kind = fields::read_field(bytes, 0, table::KIND_BITS);
+    if LAST_KIND < kind {
+        return refused(11);
+    }
     let shape = table::shape_of(kind);
-    let row = table::row_of(kind, shape.target);
+    let row = table::row_of(kind, table::target_of(shape));
     let mut fixed = [0u32; FIXED_FIELDS];
     let mut state = state::first();
     let mut at: usize = 0;

@@ -4,7 +4,7 @@ ghost use mathlib.Core.Path.{_≡_};
 ghost use Prim.Native.Nat.{_+_, _<_, _≤_};
 ghost use mathlib.Core.Bool.{cond};
 ghost use lib.Dec.{eqb};
-ghost use Rattle.formats.specs.Table.{sorts, less, headerBits, limitsOf, mostEntries, shapeOf, rowOf, leastOf, mostOf, hasNumbers};
+ghost use Rattle.formats.specs.Table.{server, coord, sorts, less, headerBits, limitsOf, mostEntries, shapeOf, rowOf, leastOf, mostOf, hasNumbers};
 ghost use Rattle.formats.specs.Columns.{lengthBy};
 
 // What a field holds. NO: the kind has no such field; it then has no bits and the value 0.
@@ -56,8 +56,10 @@ pub const FIXED_FIELDS: usize = ENTRY;
 
 pub const ENTRY_FIELDS: usize = 3;
 
-// How many kinds there are, with 0, and the bits of the header.
+// How many kinds there are, with 0, the last of them, and the bits of the header.
 const KINDS: usize = 13;
+
+pub const LAST_KIND: u32 = 12;
 
 const HEADER_BITS: usize = 13;
 
@@ -117,6 +119,17 @@ pub fn shape_of(kind: u32) -> Shape
     }
     let cells = BY_KIND[row];
     columns(cells[0], cells[1], cells[2])
+}
+
+// The target of a kind as one of the two sorts that it can be, so that the compiled code of each knows how wide it is.
+pub fn target_of(shape: Shape) -> u8
+    requires { ⌜ ((shape .target ≡ coord → ⊥) → shape .target ≡ server) ⌝ }
+    ensures { λ r. ⌜ r ≡ shape .target ⌝ }
+{
+    if shape.target == COORD {
+        return COORD;
+    }
+    SERVER
 }
 
 // What the fields of a frame of this kind hold, place by place: kind, client, and target, which is the table's. Then, beside the table,

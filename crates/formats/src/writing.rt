@@ -6,6 +6,7 @@ use crate::table;
 use crate::table::COUNT_BITS;
 use crate::table::FIXED_FIELDS;
 use crate::table::KEY_BITS;
+use crate::table::LAST_KIND;
 use crate::table::MANY;
 use crate::table::NUMBER;
 use crate::table::OWNER_BITS;
@@ -263,8 +264,14 @@ pub fn write_values(
         ≡ bytesAfter (valuesBy (now (fixed .entry)) (now (keys .entry)) (now (numbers .entry)) entries) (now (bytes .entry))) ⌝ }
 {
     let kind = fixed[0];
+    if LAST_KIND < kind {
+        return Wrote {
+            fault: 11,
+            length: 0,
+        };
+    }
     let shape = table::shape_of(kind);
-    let row = table::row_of(kind, shape.target);
+    let row = table::row_of(kind, table::target_of(shape));
     if !writable(&row, fixed, keys, numbers, entries) {
         return Wrote {
             fault: 11,
