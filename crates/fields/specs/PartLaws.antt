@@ -1,14 +1,14 @@
 -- Laws of a part of a byte: two parts side by side are one, and a part is its bits.
 use mathlib.Core.Path.{_≡_, sym, ap, ap₂, _∙_}
 use Prim.Native.Nat.{ℕ, _+_, _-_, _*_, _/_, _%_, _^_, _≤_, _<_}
-use native.Mathlib.Nat.{pow-zero, mod-lt, mod-eq-of-lt, mod-one, div-one, zero-div, zero-mod}
+use native.Mathlib.Nat.{pow-zero, mod-lt, mod-eq-of-lt, mod-one, div-one}
 use native.Mathlib.Omega.{arith}
 use mathlib.Core.List.{List}
 use lib.Arith.{digits-lt}
 use lib.Pow as pow
 use lib.Pow.{pow-add, pow-pos, shr-shr, mod-pow-add}
 use lib.Dec.{leb}
-use lib.ListN.{length, getD, set, length-set, List·getD-eq-default}
+use lib.ListN.{length, getD, set, length-set}
 use lib.Seq.{getD-set-same, set-set, set-getD, set-out}
 use borrow.Author.Tests.{leb-true, leb-false}
 use Rattle.ranges.specs.Tests.{by-test}
@@ -43,14 +43,6 @@ module _ (bytes : List ℕ) (p : ℕ) where
 
   pub part-below : (w k : ℕ) → partAt bytes p w k < 2 ^ w
   part-below w k = rw (part-is w k) (mod-lt (getD bytes p 0 / 2 ^ k) (pow-pos w))
-
-  -- behind the end there are no bits
-  pub part-behind : (w k : ℕ) → length bytes ≤ p → partAt bytes p w k ≡ 0
-  part-behind w k h =
-      part-is w k
-      ∙ ap (λ (x : ℕ). x / 2 ^ k % 2 ^ w) (List·getD-eq-default bytes 0 h)
-      ∙ ap (λ (x : ℕ). x % 2 ^ w) (zero-div (2 ^ k))
-      ∙ zero-mod (2 ^ w)
 
   -- ---- as they are followed in the listing: the first part, a whole byte, the last part
 

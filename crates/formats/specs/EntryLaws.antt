@@ -1,24 +1,15 @@
 -- Laws of the entries: the cases as the code meets them, and the values one by one.
-use Prim.Native.Nat.{ℕ, suc, _+_, _-_, _*_, _/_, _%_, _≤_, _<_}
-use mathlib.Core.Path.{_≡_, refl, sym, ap, ap₂, _∙_}
-use mathlib.Core.Bool.{Bool, true, false, not, _&&_, _||_}
+use Prim.Native.Nat.{ℕ, _+_, _*_, _/_, _%_, _<_}
+use mathlib.Core.Path.{_≡_, ap, ap₂, _∙_}
+use mathlib.Core.Bool.{Bool, true, not}
 use mathlib.Core.List.{List}
 use native.Mathlib.Omega.{arith}
-use native.Mathlib.Nat.{mul-le-mul, lt-of-lt-of-le}
-use lib.Dec.{eqb, leb, ltb}
-use lib.Pow.{pow-mono}
+use lib.Dec.{eqb}
 use lib.ListN.{length, getD, length-append, List·getD-append}
-use lib.Seq.{getD-append-add}
-use borrow.Author.Tests.{leb-true, lt-ltb, le-ltb, ltb-true, ltb-false, eq-eqb, ne-eqb}
-use Rattle.ranges.specs.Tests.{by-test, both-left, both-right}
-use Rattle.ranges.specs.All.{allBelow}
-use Rattle.ranges.specs.AllLaws.{all-at}
-use Rattle.ranges.specs.Laid.{built}
-use Rattle.ranges.specs.LaidLaws.{built-length, built-at}
-use Rattle.fields.specs.FieldLaws.{field-below}
-use Rattle.formats.specs.Table.{none, entryPlace, numberPlace, fixedFields, entryFields, kinds, sorts, mostEntries}
-use Rattle.formats.specs.Table.{valuesFor, shapeOf, rowOf, sortAt, bitsOf, hasNumbers}
-use Rattle.formats.specs.TableLaws.{row-at, sort-small, columns-small}
+use borrow.Author.Tests.{ne-eqb}
+use Rattle.ranges.specs.LaidLaws.{built-length}
+use Rattle.formats.specs.Table.{none, numberPlace, entryFields, sorts, valuesFor, rowOf, sortAt, hasNumbers}
+use Rattle.formats.specs.TableLaws.{row-at, sort-small}
 use Rattle.formats.specs.Entries.{entryValue, valuesBy}
 use Rattle.formats.specs.Columns.{Packable}
 
@@ -37,10 +28,6 @@ module _ (numbered : Bool) (keys numbers : List ℕ) (j : ℕ) where
     pub part-number : numbered ≡ true → getD numbers (j / entryFields) 0 ≡ entryValue numbered keys numbers j
     unfolding entryValue
     part-number e = rw (ne-eqb (j % entryFields) 0 c, ne-eqb (j % entryFields) 1 p, e)
-
-    pub part-none : numbered ≡ false → 0 ≡ entryValue numbered keys numbers j
-    unfolding entryValue
-    part-none e = rw (ne-eqb (j % entryFields) 0 c, ne-eqb (j % entryFields) 1 p, e)
 
 -- whether the entries have numbers, by the row of their kind
 pub numbered-by : (kind : ℕ) {row : List ℕ} → row ≡ rowOf kind → not (eqb (getD row numberPlace 0) none) ≡ hasNumbers kind

@@ -1,5 +1,5 @@
 -- What was read stands in the bytes: each value where its field begins, so that an entry's key and number stand where the table says.
-use mathlib.Core.Path.{_≡_, refl, sym, ap, ap₂, _∙_}
+use mathlib.Core.Path.{_≡_, sym, ap, ap₂, _∙_}
 use Prim.Native.Nat.{ℕ, zero, suc, _+_, _*_, _/_, _%_, _≤_, _<_}
 use native.Mathlib.Omega.{arith}
 use mathlib.Core.List.{List, _∷_}
@@ -20,7 +20,7 @@ use Rattle.formats.specs.Entries.{keyIn, numberIn}
 use Rattle.formats.specs.Columns.{mostBits}
 use Rattle.formats.specs.Entry.{countBits, ownerBits, keyBits, numberBits, Keyed, keyed-some}
 use Rattle.formats.specs.Judging.{key-parts}
-use Rattle.formats.specs.Walk.{stateAt, firstBit, place-early, place-late, walk, walk-place, walk-kind, some-left, sized, values-length}
+use Rattle.formats.specs.Walk.{stateAt, firstBit, place-early, place-late, walk, walk-place, walk-kind, some-left, values-length}
 use Rattle.formats.specs.Walk.{value-width, value-allowed, entry-first, entries-few, kind-below, frame-bits}
 
 -- ---- definitions

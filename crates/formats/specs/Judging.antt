@@ -3,12 +3,12 @@ use mathlib.Core.Path.{_≡_, refl, sym, ap, ap₂, _∙_}
 use Prim.Native.Nat.{ℕ, zero, suc, _+_, _-_, _*_, _/_, _≤_, _<_}
 use native.Mathlib.Nat.{suc-mul, mul-le-mul}
 use native.Mathlib.Omega.{arith}
-use mathlib.Core.List.{List, [], _∷_, _++_, append-assoc}
-use mathlib.Core.Bool.{Bool, true, false, cond}
+use mathlib.Core.List.{List, [], _∷_, _++_}
+use mathlib.Core.Bool.{true, cond}
 use lib.Dec.{leb, eqb}
 use lib.ListN.{length, getD, take, length-append}
 use lib.Seq.{ext-getD, getD-take, length-take-le, take-append-le}
-use borrow.Author.Tests.{le-leb, lt-leb, leb-true, leb-false, eqb-true, eqb-false, eq-eqb, ne-eqb}
+use borrow.Author.Tests.{le-leb, lt-leb, leb-true, leb-false, eq-eqb, ne-eqb}
 use Rattle.ranges.specs.Tests.{by-test, by-equal}
 use Rattle.fields.specs.Bits.{fieldAt}
 use Rattle.fields.specs.FieldLaws.{field-below, field-join}
@@ -223,13 +223,6 @@ module _ (bytes : List ℕ) (at : ℕ) where
       (by-test (leb (at + countBits) L) (λ s. rw s) (λ s. rw s))))
 
 -- ---- one entry
-
-whole-key : (bytes : List ℕ) (at : ℕ) → keyFault bytes at ≡ 0 → at + keyBits ≤ 8 * length bytes
-unfolding keyFault
-whole-key bytes at e =
-    by-test (leb (at + keyBits) (8 * length bytes))
-    (λ t. leb-true _ _ t)
-    (λ t. let z : _≡_ {A = ℕ} 10 0 = rw t at e in let f : ⊥ = omega arith in absurd f)
 
 whole-number : (bytes : List ℕ) (at width least : ℕ) → numberFault bytes at width least ≡ 0 → at + width ≤ 8 * length bytes
 unfolding numberFault

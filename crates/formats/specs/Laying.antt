@@ -1,31 +1,23 @@
 -- How the writer lays the fields of a frame's values, one behind the other.
-use mathlib.Core.Path.{_≡_, refl, sym, ap, ap₂, _∙_}
+use mathlib.Core.Path.{_≡_, sym, ap, ap₂, _∙_}
 use Prim.Native.Nat.{ℕ, _+_, _*_, _≤_, _<_}
 use native.Mathlib.Omega.{arith}
-use native.Mathlib.Numerals.{add-one}
-use mathlib.Core.List.{List, [], _++_}
+use mathlib.Core.List.{List, _++_}
 use mathlib.Core.Bool.{true, false}
 use lib.ListN.{length, getD, drop}
-use lib.Seq.{drop-cons, drop-length}
 use borrow.Author.Tests.{le-leb, lt-leb}
 use Rattle.ranges.specs.Tests.{by-test}
-use Rattle.ranges.specs.SumLaws.{sum-none, sum-more}
-use Rattle.fields.specs.Bits.{putField}
-use Rattle.fields.specs.FieldLaws.{length-putField}
-use Rattle.formats.specs.declared.state.Field.{Field}
-use Rattle.formats.specs.declared.state.State.{State}
 use Rattle.formats.specs.declared.table.Shape.{Shape}
-use Rattle.formats.specs.Grammar.{Grammar, end, field, good, size, lay, zeros, frame}
+use Rattle.formats.specs.Grammar.{good, size, lay, zeros, frame}
 use Rattle.formats.specs.RoundTrip.{length-frame}
-use Rattle.formats.specs.Table.{numberPlace, sorts, headerBits, mostEntries, shapeOf, rowOf, limitsOf, bitsOf, entriesSaid}
-use Rattle.formats.specs.TableLaws.{limits-width, bits-most, mostColumn, columns-small, entries-fit}
-use Rattle.formats.specs.Format.{sortOf, widthOf, placeAfter, nextOf, format}
+use Rattle.formats.specs.Table.{headerBits, mostEntries, shapeOf, rowOf, entriesSaid}
+use Rattle.formats.specs.TableLaws.{mostColumn, columns-small, entries-fit}
+use Rattle.formats.specs.Format.{format}
 use Rattle.formats.specs.Entries.{valuesBy}
 use Rattle.formats.specs.Columns.{lengthBy, Packable}
 use Rattle.formats.specs.EntryLaws.{values-many, values-kind}
-use Rattle.formats.specs.FormatLaws.{Goes, next-place, rowed-tells, rest, rest-start, rest-one}
 use Rattle.formats.specs.Writing.{wroteOf, bytesAfter}
-use Rattle.formats.specs.Walk.{stateAt, firstBit, walk, walk-rowed, some-left, values-length, sized, frame-bits, frame-length}
+use Rattle.formats.specs.Walk.{values-length, frame-bits, frame-length}
 use Rattle.formats.specs.Walk.{kind-below, entries-few}
 
 -- What laying asks: the row of the kind, values of a frame, and room for it.

@@ -4,17 +4,17 @@ use mathlib.Core.Path.{_≡_, refl, sym, ap, ap₂, _∙_, subst}
 use Prim.Native.Nat.{ℕ, zero, suc, _+_, _-_, _*_, _/_, _%_, _^_, _≤_, _<_}
 use native.Mathlib.Omega.{arith}
 use native.Mathlib.Numerals.{add-one}
-use mathlib.Core.List.{List, [], _∷_, _++_}
+use mathlib.Core.List.{List, [], _∷_}
 use mathlib.Core.Bool.{Bool, true, false, cond, not, _&&_, true≢false}
 use lib.Dec.{leb, ltb, eqb}
 use lib.ListN.{length, getD, drop, length-append, length-drop, List·getD-append}
 use lib.Seq.{drop-cons, drop-length, getD-append-add}
-use borrow.Author.Tests.{le-leb, lt-leb, leb-true, leb-false, lt-ltb, le-ltb, ltb-true, ltb-false, eq-eqb, ne-eqb, eqb-true, eqb-false}
-use Rattle.ranges.specs.Tests.{by-test, by-equal, both-left, both-right, fails, holds}
+use borrow.Author.Tests.{le-leb, lt-leb, leb-true, leb-false, lt-ltb, le-ltb, ltb-true, eq-eqb, ne-eqb}
+use Rattle.ranges.specs.Tests.{by-test, by-equal, both-right, fails, holds}
 use Rattle.ranges.specs.All.{allBelow}
 use Rattle.ranges.specs.AllLaws.{all-at, all-same, all-next}
 use Rattle.ranges.specs.Sum.{sumBelow}
-use Rattle.ranges.specs.SumLaws.{sum-none, sum-more}
+use Rattle.ranges.specs.SumLaws.{sum-more}
 use Rattle.ranges.specs.Laid.{built}
 use Rattle.ranges.specs.LaidLaws.{built-length, built-at}
 use Rattle.fields.specs.Bits.{putField}
@@ -24,7 +24,7 @@ use Rattle.fields.specs.ByBytes.{put-by-bytes}
 use Rattle.formats.specs.declared.state.Field.{Field}
 use Rattle.formats.specs.declared.state.State.{State}
 use Rattle.formats.specs.Grammar.{Grammar, end, field, good, size, lay}
-use Rattle.formats.specs.Table.{none, count, of, manyPlace, entryPlace, ownerPlace, numberPlace, fixedFields, entryFields, sortAt, bitsOf, leastOf}
+use Rattle.formats.specs.Table.{none, count, of, manyPlace, entryPlace, numberPlace, fixedFields, entryFields, sortAt, bitsOf, leastOf}
 use Rattle.formats.specs.Table.{sorts, mostOf, limitsOf, limitRow, rowOf, hasNumbers, entriesIn, entriesSaid, valuesFor}
 use Rattle.formats.specs.TableLaws.{sort-small, bitsFrom}
 use Rattle.formats.specs.Columns.{mostBits}

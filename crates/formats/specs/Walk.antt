@@ -20,7 +20,7 @@ use Rattle.formats.specs.Table.{manyPlace, entryPlace, ownerPlace, numbe
 use Rattle.formats.specs.Table.{sortAt, bitsOf, mostOf, shapeOf, entriesIn, entriesSaid, valuesFor}
 use Rattle.formats.specs.TableLaws.{row-right, bitsFrom, few-entries, entries-most}
 use Rattle.formats.specs.Format.{sortOf, widthOf, allowed, nextOf, start, format}
-use Rattle.formats.specs.FormatLaws.{Rowed, rowed-start, rest, rest-start, rest-one, rest-end, next-place, next-left, next-kind, place-last, place-inner, left-entries, left-one-less, at-most}
+use Rattle.formats.specs.FormatLaws.{rest, rest-start, rest-one, rest-end, next-place, next-left, next-kind, place-last, place-inner, left-entries, left-one-less, at-most}
 use Rattle.formats.specs.Writing.{Tested, tested-start, tested-end, tested-short, tested-bad, tested-on}
 use Rattle.formats.specs.RoundTrip.{length-frame}
 
@@ -174,16 +174,6 @@ module _ (vs : List ℕ) (g : good format vs ≡ true) where
   pub kind-below : getD vs 0 0 < kinds
   unfolding stateAt mostOf sortAt
   kind-below = omega (arith, at-most (stateAt vs 0) (getD vs 0 0) (value-allowed 0 (omega (arith, values-length))))
-
-  -- the row of the kind serves the whole walk
-  pub walk-rowed : (i : ℕ) → Rowed (getD vs 0 0) i (stateAt vs i)
-  unfolding stateAt
-  walk-rowed zero = rowed-start (getD vs 0 0)
-  walk-rowed (suc i) =
-      record {
-        first = λ e. absurd (place-some vs (suc i) (omega arith) (sym (walk-place vs (suc i)) ∙ e));
-        later = λ d. walk-kind vs (suc i) (omega arith);
-      }
 
   -- the width of each value, by the table
   pub value-width : (i : ℕ) → 0 < i → widthOf (stateAt vs i) ≡ bitsOf (sortAt (getD vs 0 0) (placeAt i))

@@ -15,14 +15,14 @@ use Rattle.formats.specs.declared.reading.Scan.{Scan}
 use Rattle.formats.specs.declared.writing.Wrote.{Wrote}
 use Rattle.formats.specs.Grammar.{Outcome, got, fault, good, frame}
 use Rattle.formats.specs.RoundTrip.{read-good}
-use Rattle.formats.specs.Table.{kinds, mostEntries, fixedFields, entryFields, entriesSaid, hasNumbers}
+use Rattle.formats.specs.Table.{mostEntries, fixedFields, entriesSaid, hasNumbers}
 use Rattle.formats.specs.Format.{format}
 use Rattle.formats.specs.Entries.{keyIn, numberIn, valuesBy}
 use Rattle.formats.specs.Columns.{Places, Packable}
 use Rattle.formats.specs.Entry.{Keyed, numberBits}
 use Rattle.formats.specs.Reading.{scanOf, Got, scan-got, fault-some}
 use Rattle.formats.specs.Writing.{wroteOf, bytesAfter}
-use Rattle.formats.specs.Walk.{kind-below, entries-few}
+use Rattle.formats.specs.Walk.{entries-few}
 use Rattle.formats.specs.Found.{entriesBit, keyAt, numberAt, Unpackable, key-found, number-found, found-keyed, found-unpackable}
 use Rattle.frames.specs.declared.Message.{Message}
 use Rattle.frames.specs.declared.Reading.{Reading}

@@ -1,5 +1,4 @@
 -- Nothing of the byte stays.
-use native.Mathlib.Omega.{arith}
 use borrow.Author.Needs.{needs}
 use Rattle.fields.specs.PartLaws.{byte-with}
 use Rattle.fields.proofs.with_all.Statement.{statement}

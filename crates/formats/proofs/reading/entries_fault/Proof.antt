@@ -1,7 +1,7 @@
 -- The first fault of the entries that are left is that of all, and they end where all end.
 use borrow.Author.Needs.{needs}
-use mathlib.Core.Path.{_≡_, refl, ap, _∙_}
-use Prim.Native.Nat.{ℕ, _+_, _-_, _*_, _≤_}
+use mathlib.Core.Path.{_≡_, refl, _∙_}
+use Prim.Native.Nat.{_+_, _-_, _*_, _≤_}
 use native.Mathlib.Omega.{arith}
 use Rattle.formats.specs.Entry.{keyBits}
 use Rattle.formats.specs.Judging.{entriesFault, entries-stop, entries-on, entries-end, entry-more}

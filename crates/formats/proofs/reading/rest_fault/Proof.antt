@@ -1,7 +1,6 @@
 -- The entries' fault, or else that of what stands behind them; entries without a fault lie within the bytes.
 use borrow.Author.Needs.{needs}
 use mathlib.Core.Path.{sym, _∙_}
-use native.Mathlib.Omega.{arith}
 use Rattle.formats.specs.Judging.{rest-first, rest-second, entries-inside}
 use Rattle.formats.proofs.reading.rest_fault.Statement.{statement}
 use Rattle.formats.proofs.reading.rest_fault.Tie as tie

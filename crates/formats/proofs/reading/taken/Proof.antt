@@ -1,6 +1,6 @@
 -- A field that the kind lacks has no bits, and so no fault; any other is taken by its limits.
 use borrow.Author.Needs.{needs}
-use mathlib.Core.Path.{_≡_, sym, ap, _∙_}
+use mathlib.Core.Path.{sym, ap, _∙_}
 use native.Mathlib.Omega.{arith}
 use Rattle.formats.specs.declared.reading.Took.{Took}
 use Rattle.formats.specs.Reading.{tookAt, took-nothing}

@@ -1,7 +1,7 @@
 -- What is left of the entries decides as all of them do.
 use borrow.Author.Needs.{needs}
-use mathlib.Core.Path.{_≡_, refl, ap, _∙_}
-use Prim.Native.Nat.{ℕ, _+_, _-_, _≤_}
+use mathlib.Core.Path.{_≡_, ap, _∙_}
+use Prim.Native.Nat.{_+_, _-_, _≤_}
 use native.Mathlib.Omega.{arith}
 use Rattle.formats.specs.Packing.{entriesRight, right-key, right-number, right-on, right-end}
 use Rattle.formats.proofs.writing.entries_right.Statement.{statement}

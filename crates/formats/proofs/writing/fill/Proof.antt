@@ -1,13 +1,12 @@
 -- The fixed fields are laid into bytes that were cleared first, and the entries behind them.
 use borrow.Author.Needs.{needs}
-use mathlib.Core.Path.{_≡_, sym, ap, _∙_}
+use mathlib.Core.Path.{sym, ap, _∙_}
 use Prim.Native.Nat.{ℕ}
 use native.Mathlib.Omega.{arith}
 use mathlib.Core.List.{List}
 use lib.ListN.{length, getD, length-replicate}
 use Rattle.formats.specs.Grammar.{zeros}
 use Rattle.formats.specs.Table.{entryPlace, numberPlace}
-use Rattle.formats.specs.Walk.{firstBit}
 use Rattle.formats.specs.EntryLaws.{sort-known}
 use Rattle.formats.specs.Judging.{number-limits}
 use Rattle.formats.specs.Laying.{Layable}

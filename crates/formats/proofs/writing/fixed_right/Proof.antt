@@ -1,6 +1,6 @@
 -- Before each turn all values so far are right, and the state is the one behind them.
 use borrow.Author.Needs.{needs}
-use mathlib.Core.Path.{_≡_, sym, ap, _∙_}
+use mathlib.Core.Path.{_≡_}
 use Prim.Native.Nat.{_+_, _-_}
 use native.Mathlib.Omega.{arith}
 use Rattle.ranges.specs.AllLaws.{all-stop, all-end}

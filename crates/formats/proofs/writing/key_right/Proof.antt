@@ -1,6 +1,4 @@
 -- One law a branch.
-use borrow.Author.Needs.{needs}
-use native.Mathlib.Omega.{arith}
 use Rattle.formats.specs.Packing.{key-wide, key-foreign, key-some, key-zero}
 use Rattle.formats.proofs.writing.key_right.Statement.{statement}
 use Rattle.formats.proofs.writing.key_right.Tie as tie
