@@ -35,7 +35,7 @@ fn filled(library: StoreLibrary, [servers, clients, entries]: [u32; 3]) -> Table
     for _ in 1..entries {
         plan.write(1, plan.all());
     }
-    let mut tables = opened_tables(library, &plan);
+    let mut tables = opened_tables(library, &plan.opening);
     for step in &plan.steps {
         library.number(&mut tables, step);
     }

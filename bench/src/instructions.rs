@@ -1,13 +1,15 @@
-//! How many instructions each kind of step, the check of tables and each kind of frame take, on both sides. They repeat exactly, where times do not.
+//! How many instructions each kind of step, the check of tables, each kind of frame and a load's steps take, on both sides. They repeat
+//! exactly, where times do not.
 //! `count` runs under callgrind and has it write a file for each figure; `report` makes tables of the files. `bench/run instructions` does both.
 
 use crate::check;
 use crate::frame_speed::{Codec, Fast, Lent, Rust, FRAMES, MOST_BYTES};
+use crate::load_speed::{self, PRESSES as PRESSES_OF_LOADS};
 use crate::plans::{in_turn, Plan};
 use crate::sides::{self, Meter};
 use crate::steps::{kinds, PRESSES};
 use crate::table::{print, ratio, time};
-use ffi::{FrameLibrary, StoreLibrary};
+use ffi::{FrameLibrary, LoadLibrary, StoreLibrary};
 use model::{Step, Store};
 use std::arch::asm;
 use std::ffi::CString;
@@ -46,7 +48,12 @@ fn counted<R>(call: impl FnOnce() -> R) -> R {
 
 /// Has what was counted since the last time written to a file, under the names of a table, a row and a side, with the number of calls.
 fn written(table: &str, row: &str, side: &str, calls: usize) {
-    let label = CString::new(format!("{table}|{row}|{side}|{calls}")).expect("no byte 0");
+    written_of(table, row, side, calls, calls);
+}
+
+/// The same where a call does several of the things that the figure is of.
+fn written_of(table: &str, row: &str, side: &str, calls: usize, things: usize) {
+    let label = CString::new(format!("{table}|{row}|{side}|{calls}|{things}")).expect("no byte 0");
     ask(DUMP_STATS_AT, label.as_ptr() as u64);
 }
 
@@ -74,6 +81,11 @@ pub fn count_of_steps(store: StoreLibrary) {
 pub fn count_of_frames(frame: FrameLibrary) {
     count_frames("Instructions of frames", frame, Rust);
     count_frames("Instructions of frames, beside a codec written for speed", frame, Fast);
+}
+
+/// Loads.
+pub fn count_of_loads(store: StoreLibrary, load: LoadLibrary) {
+    count_loads("Instructions of a load's step, of 20,000 from openings", store, load);
 }
 
 /// Counts the steps of one kind, over a plan.
@@ -114,7 +126,7 @@ fn count_openings(table: &str, library: StoreLibrary, plan: &Plan) {
     let Step::Open { method, servers, clients, setpoints } = &plan.opening else {
         unreachable!("openings open");
     };
-    let mut tables = sides::opened_tables(library, plan);
+    let mut tables = sides::opened_tables(library, &plan.opening);
     counted(|| library.number(&mut tables, &plan.opening));
     written(table, "open", "inner", 1);
     drop(counted(|| Store::open(*method, *servers, *clients, setpoints)));
@@ -154,12 +166,25 @@ fn count_read<C: Codec>(table: &str, row: &str, side: C, Lent { fixed, frame, ..
     written(table, row, &format!("{}, read", C::NAME), 1);
 }
 
-/// A file of callgrind's: where it belongs, and the instructions of one call.
+fn count_loads(table: &str, store: StoreLibrary, library: LoadLibrary) {
+    const STEPS: u32 = 20_000;
+    for press in PRESSES_OF_LOADS {
+        let row = load_speed::name(&press);
+        let openings = load_speed::by_proved(store, library, &press, STEPS, &mut |call| counted(call));
+        written_of(table, &row, "proved", openings, STEPS as usize);
+        let openings = load_speed::by_rust(&press, STEPS, &mut |call| counted(call));
+        written_of(table, &row, "Rust", openings, STEPS as usize);
+    }
+}
+
+/// A file of callgrind's: where it belongs, and the instructions of so many calls that do so many things.
 struct Figure {
     table: String,
     row: String,
     side: String,
     instructions: f64,
+    calls: f64,
+    things: f64,
 }
 
 /// The figures in the order in which they were written; `folder` has callgrind's files out.1, out.2 and so on.
@@ -171,12 +196,13 @@ fn figures(folder: &Path) -> Vec<Figure> {
 fn figure(text: &str) -> Option<Figure> {
     let behind = |words: &str| text.lines().find_map(|line| line.strip_prefix(words));
     let label: Vec<&str> = behind("desc: Trigger: Client Request: ")?.split('|').collect();
-    let [table, row, side, calls] = label[..] else {
+    let [table, row, side, calls, things] = label[..] else {
         panic!("a file of another program");
     };
-    let total: f64 = behind("totals: ").or(behind("summary: "))?.trim().parse().expect("a number");
-    let calls: f64 = calls.parse().expect("a number");
-    Some(Figure { table: table.into(), row: row.into(), side: side.into(), instructions: total / calls })
+    let number = |text: &str| text.trim().parse::<f64>().expect("a number");
+    let instructions = number(behind("totals: ").or(behind("summary: "))?);
+    let (calls, things) = (number(calls), number(things));
+    Some(Figure { table: table.into(), row: row.into(), side: side.into(), instructions, calls, things })
 }
 
 pub fn report(folder: &Path) {
@@ -184,7 +210,7 @@ pub fn report(folder: &Path) {
     let nothing = figures.iter().find(|figure| figure.table == NOTHING).expect("counted").instructions;
     let found = |table: &str, row: &str, side: &str| {
         let here = |figure: &&Figure| figure.table == table && figure.row == row && figure.side == side;
-        figures.iter().find(here).map(|figure| figure.instructions - nothing)
+        figures.iter().find(here).map(|figure| (figure.instructions - nothing * figure.calls) / figure.things)
     };
     for table in distinct(figures.iter().filter(|figure| figure.table != NOTHING).map(|figure| &figure.table)) {
         let within = || figures.iter().filter(|figure| figure.table == table);

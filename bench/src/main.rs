@@ -6,6 +6,7 @@ mod fast;
 mod frame_speed;
 mod growth;
 mod instructions;
+mod load_speed;
 mod plans;
 mod program;
 mod sides;
@@ -13,7 +14,7 @@ mod steps;
 mod table;
 
 use clock::Clock;
-use ffi::{FrameLibrary, StoreLibrary};
+use ffi::{FrameLibrary, LoadLibrary, StoreLibrary};
 use std::path::Path;
 
 fn main() {
@@ -24,19 +25,24 @@ fn main() {
     // Frames need their own library alone.
     let store = || StoreLibrary::linked().expect("libstore_exports.a is linked: run bench/run");
     let frame = || FrameLibrary::linked().expect("libframe_exports.a is linked: run bench/run");
+    let load = || LoadLibrary::linked().expect("libworkload_exports.a is linked: run bench/run");
     match parts {
         [part, rest @ ..] if part == "count" => {
             instructions::count_of_nothing();
             if rest.is_empty() {
                 instructions::count_of_steps(store());
             }
-            return instructions::count_of_frames(frame());
+            instructions::count_of_frames(frame());
+            if rest.is_empty() {
+                instructions::count_of_loads(store(), load());
+            }
+            return;
         }
         [part, folder] if part == "instructions" => return instructions::report(Path::new(folder)),
         _ => {}
     }
     let clock = Clock::calibrated();
-    const PARTS: [&str; 5] = ["steps", "growth", "check", "frames", "program"];
+    const PARTS: [&str; 6] = ["steps", "growth", "check", "frames", "load", "program"];
     assert!(parts.iter().all(|part| PARTS.contains(&part.as_str())), "the parts are {PARTS:?}");
     let wanted = |part: &str| parts.is_empty() || parts.iter().any(|word| word == part);
     if wanted("steps") {
@@ -50,6 +56,9 @@ fn main() {
     }
     if wanted("frames") {
         frame_speed::report(frame());
+    }
+    if wanted("load") {
+        load_speed::report(store(), load());
     }
     if wanted("program") {
         program::report(proved, model);

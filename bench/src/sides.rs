@@ -64,23 +64,23 @@ pub fn last_steps(clock: &Clock, library: StoreLibrary, plan: &Plan, steps: usiz
 pub fn inner<M: Meter>(meter: &M, library: StoreLibrary, plan: &Plan) -> M::Told {
     // The plan's steps start at an opening, and steps keep tables sound.
     let take = |tables: &mut Tables, step: &Step| unsafe { library.number_sound(tables, step) };
-    meter.play(plan, || opened_tables(library, plan), take, |_, _| ())
+    meter.play(plan, || opened_tables(library, &plan.opening), take, |_, _| ())
 }
 
 /// The model's step on its own structs, which checks no tables.
 pub fn rust<M: Meter>(meter: &M, plan: &Plan) -> M::Told {
-    meter.play(plan, || opened_store(plan), |store, step| store.take(step), |_, _| ())
+    meter.play(plan, || opened_store(&plan.opening), |store, step| store.take(step), |_, _| ())
 }
 
 /// The proved public step.
 pub fn checked<M: Meter>(meter: &M, library: StoreLibrary, plan: &Plan) -> M::Told {
     let take = |tables: &mut Tables, step: &Step| library.number(tables, step);
-    meter.play(plan, || opened_tables(library, plan), take, |_, _| ())
+    meter.play(plan, || opened_tables(library, &plan.opening), take, |_, _| ())
 }
 
 /// The Rust check of the same tables, then the model's step on its structs. What keeps the tables in step is not measured.
 pub fn rust_checked<M: Meter>(meter: &M, library: StoreLibrary, plan: &Plan) -> M::Told {
-    let fresh = || (opened_tables(library, plan), opened_store(plan));
+    let fresh = || (opened_tables(library, &plan.opening), opened_store(&plan.opening));
     let take = |(tables, store): &mut (Tables, Store), step: &Step| {
         assert!(words::sound(tables));
         store.take(step)
@@ -121,17 +121,17 @@ impl Meter for Least<'_> {
     }
 }
 
-pub fn opened_tables(library: StoreLibrary, plan: &Plan) -> Tables {
-    let Step::Open { servers, clients, .. } = plan.opening else {
+pub fn opened_tables(library: StoreLibrary, opening: &Step) -> Tables {
+    let Step::Open { servers, clients, .. } = opening else {
         unreachable!("openings open");
     };
-    let mut tables = Tables::filled(servers as usize, clients as usize, 0);
-    assert_eq!(library.number(&mut tables, &plan.opening), 0);
+    let mut tables = Tables::filled(*servers as usize, *clients as usize, 0);
+    assert_eq!(library.number(&mut tables, opening), 0);
     tables
 }
 
-fn opened_store(plan: &Plan) -> Store {
-    let Step::Open { method, servers, clients, setpoints } = &plan.opening else {
+pub fn opened_store(opening: &Step) -> Store {
+    let Step::Open { method, servers, clients, setpoints } = opening else {
         unreachable!("openings open");
     };
     Store::open(*method, *servers, *clients, setpoints).expect("a good opening")

@@ -58,7 +58,7 @@ fn opening_row(library: StoreLibrary, plan: &Plan) -> Vec<String> {
     let Step::Open { method, servers, clients, setpoints } = &plan.opening else {
         unreachable!("openings open");
     };
-    let mut tables = opened_tables(library, plan);
+    let mut tables = opened_tables(library, &plan.opening);
     let open = || Store::open(*method, *servers, *clients, setpoints);
     let (proved, rust) = beside(|| library.number(&mut tables, &plan.opening), open);
     let none = || "".to_string();

@@ -96,11 +96,11 @@ def made():
 
 
 def register(writes, reads, last):
-    """By tag, its WRITE first, then its READs by end step."""
+    """By tag, its WRITE first, then its READs by begin step."""
     spans = writes + [last]
     rows = [(tag, 0, f"W {tag} {WRITER} {tag} {began} {ended}") for tag, (began, ended) in enumerate(writes, 1)]
     rows.append((ROUNDS + 1, 0, f"W {ROUNDS + 1} 0 1 {last[0]} {last[1]}"))
     for tag, ended, panel, began in reads:
         assert overlap(began, ended, spans) == 1
-        rows.append((tag, ended, f"R {tag} {panel} {began} {ended} 1"))
+        rows.append((tag, began, f"R {tag} {panel} {began} {ended} 1"))
     return [row for _, _, row in sorted(rows)]

@@ -1,4 +1,5 @@
 pub mod Log
+pub mod LogLaws
 pub mod Latest
 pub mod LatestLaws
 pub mod Cards

@@ -1,6 +1,6 @@
 -- What each state of a client asks: the links it uses, the states its method allows, the n it has received.
 use Prim.Native.Nat.{ℕ, _%_, _^_, _≤_, _<_}
-use mathlib.Core.Path.{_≡_, refl, sym}
+use mathlib.Core.Path.{_≡_, refl, sym, _∙_}
 use mathlib.Core.Bool.{Bool, true, false, cond, not, _&&_, _||_, and-false, or-true, true≢false}
 use native.Mathlib.Omega.{arith}
 use lib.Dec.{eqb, leb, ltb}
@@ -8,9 +8,11 @@ use borrow.Author.Tests.{eq-eqb, ne-eqb, eqb-true, leb-true, ltb-true, ltb-false
 use Rattle.ranges.specs.Tests.{by-test, by-equal, both, both-left, both-right, not-both}
 use Rattle.keys.specs.Masks.{hasServer, maskWithin, no-server}
 use Rattle.tables.specs.Tables.{Tables, serversOf, clientsOf, entriesOf, heldOf, stateOf, maskOf, receivedOf, contentAt}
-use Rattle.tables.specs.Links.{isEmpty}
+use Rattle.tables.specs.Links.{targets, isEmpty}
+use Rattle.tables.specs.declared.links.Contents.{Contents}
+use Rattle.tables.specs.declared.links.Content.the-variants.{Request}
 use Rattle.rules.specs.Common.{idle, writing, entering, askingKeys, askingSetpoints, askingAll, coordinator}
-use Rattle.soundness.specs.Sound.{uses, stateAllowed, receivedSound, requestSound, replySound, between, holding, ownKey, keyInRange}
+use Rattle.soundness.specs.Sound.{uses, stateAllowed, receivedSound, requestSound, replySound, keyOn, contentSound, between, holding, ownKey, keyInRange}
 use Rattle.soundness.specs.Facts.{Between, between-facts, facts-between, Sound}
 
 -- the links that a state uses
@@ -67,6 +69,20 @@ masked-below mask k i h e = by-test (ltb i k) (λ b. ltb-true _ _ b) (λ b. absu
 -- so is one of the mask of a client
 pub masked-server : (t : Tables) → Sound t → (q i : ℕ) → q < clientsOf t → hasServer (maskOf t q) i ≡ true → i < serversOf t
 masked-server t s q i h e = masked-below (maskOf t q) (serversOf t) i (s .client q h .mask) e
+
+-- "1 or 4, masked stations only": a request of these states is on its way to a server
+module _ (t : Tables) (s : Sound t) (q i : ℕ) (h : q < clientsOf t) (l : i < targets) (w : Contents) (e : contentAt t q i ≡ Request w) where
+  request-used : uses (stateOf t q) (maskOf t q) i ≡ true
+  unfolding contentSound
+  request-used =
+      both-left (uses (stateOf t q) (maskOf t q) i) (requestSound (stateOf t q) q (keyOn t q i) (w .number) t)
+      (rw e at (s .client q h .link i l .content))
+
+  pub set-server : stateOf t q ≡ writing → i < serversOf t
+  set-server z = masked-server t s q i h (sym (uses-writing (maskOf t q) i) ∙ (rw z at request-used))
+
+  pub get-server : stateOf t q ≡ askingSetpoints → i < serversOf t
+  get-server z = masked-server t s q i h (sym (uses-setpoints (maskOf t q) i) ∙ (rw z at request-used))
 
 -- the states that a method and part allow
 module _ (m q : ℕ) where

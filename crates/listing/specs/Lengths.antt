@@ -10,9 +10,11 @@ use borrow.Author.Tests.{le-leb, lt-leb, eq-eqb, ne-eqb, leb-true, leb-false}
 use Rattle.ranges.specs.Tests.{by-equal, by-test}
 use Rattle.ranges.specs.Sum.{one, sumBelow, countBelow}
 use Rattle.ranges.specs.SumLaws.{sum-same, sum-add, sum-nothing, count-most}
+use Rattle.ranges.specs.Inserted.{inserted}
 use Rattle.tables.specs.Layout.{recordWord, tagOfRecord, recordPlaces, countAt, writesField, readsField}
 use Rattle.tables.specs.Tables.{Tables, entriesOf, writesOf, readsOf}
-use Rattle.listing.specs.Register.{isFinished, hasTag, kept, placesBelow, passing, inserted, insertedAll, endIn, write, read, finishedReads, writesOfTag, readsOfTag, listedTo, mostLines, register}
+use Rattle.listing.specs.Register.{isFinished, hasTag, kept, placesBelow, passing, insertedAll, beginIn, write, read, finishedBelow}
+use Rattle.listing.specs.Register.{writesOfTag, readsOfTag, listedTo, mostLines, register}
 use Rattle.listing.specs.Places.{length-kept, passing-append}
 
 -- ---- places
@@ -35,19 +37,19 @@ module _ (q : ℕ → Bool) where
   number-cond false n xs ys d e = e
 
   -- inserting keeps how many pass
-  number-inserted : (end : ℕ → ℕ) (place : ℕ) (places : List ℕ) → number (inserted end place places) ≡ one (q place) + number places
+  number-inserted : (by : ℕ → ℕ) (place : ℕ) (places : List ℕ) → number (inserted by place places) ≡ one (q place) + number places
   unfolding inserted
-  number-inserted end place [] = number-more place []
-  number-inserted end place (x ∷ xs) =
-      number-cond (ltb (end place) (end x)) (one (q place) + number (x ∷ xs)) (place ∷ x ∷ xs) (x ∷ inserted end place xs)
+  number-inserted by place [] = number-more place []
+  number-inserted by place (x ∷ xs) =
+      number-cond (ltb (by place) (by x)) (one (q place) + number (x ∷ xs)) (place ∷ x ∷ xs) (x ∷ inserted by place xs)
       (number-more place (x ∷ xs))
-      (number-more x (inserted end place xs) ∙ omega (arith, number-inserted end place xs, number-more x xs))
+      (number-more x (inserted by place xs) ∙ omega (arith, number-inserted by place xs, number-more x xs))
 
-  number-inserted-all : (end : ℕ → ℕ) (places sorted : List ℕ) → number (insertedAll end places sorted) ≡ number places + number sorted
+  number-inserted-all : (by : ℕ → ℕ) (places sorted : List ℕ) → number (insertedAll by places sorted) ≡ number places + number sorted
   unfolding insertedAll passing
-  number-inserted-all end [] sorted = omega arith
-  number-inserted-all end (x ∷ xs) sorted =
-      number-inserted-all end xs (inserted end x sorted) ∙ omega (arith, number-inserted end x sorted, number-more x xs)
+  number-inserted-all by [] sorted = omega arith
+  number-inserted-all by (x ∷ xs) sorted =
+      number-inserted-all by xs (inserted by x sorted) ∙ omega (arith, number-inserted by x sorted, number-more x xs)
 
   number-kept : (b : Bool) (place : ℕ) → number (kept b place) ≡ one (b && q place)
   unfolding passing
@@ -109,7 +111,7 @@ module _ (t : Tables) where
   unfolding passing
   length-reads tag =
       length-map (readsOfTag t tag) read
-      ∙ number-inserted-all (hasTag (t .reads) tag) (endIn (t .reads)) (finishedReads t) []
+      ∙ number-inserted-all (hasTag (t .reads) tag) (beginIn (t .reads)) (finishedBelow (t .reads) (readsOf t)) []
       ∙ omega (arith, number-places (hasTag (t .reads) tag) (isFinished (t .reads)) (readsOf t))
 
   length-writes : (tag : ℕ) → length (map write (writesOfTag t tag)) ≡ countBelow (hasTag (t .writes) tag) (writesOf t)

@@ -8,5 +8,4 @@ pub mod Ready
 pub mod Lengths
 pub mod Cases
 pub mod Changes
-pub mod Records
 pub mod ListedLaws

@@ -1,10 +1,11 @@
--- The definitions at work: document 01's sample, and records in no order of ends with what ties, what is untagged and what is unfinished.
+-- The definitions at work: document 01's sample, and records in no order of begins with what ties, what is untagged and what is unfinished.
 use Prim.Native.Nat.{ℕ}
 use mathlib.Core.Path.{_≡_, refl}
 use mathlib.Core.List.{List, [], _∷_, _++_, flatMap}
 use Rattle.ranges.specs.Sum.{sumBelow}
+use Rattle.ranges.specs.Inserted.{inserted}
 use Rattle.tables.specs.Tables.{Tables, tablesOf}
-use Rattle.listing.specs.Register.{placesBelow, passing, inserted, insertedAll, write, read, listedTo, register, registerWords}
+use Rattle.listing.specs.Register.{placesBelow, passing, insertedAll, write, read, listedTo, register, registerWords}
 
 -- the counts and the records alone: entries, WRITEs and READs begun
 abbrev recorded : ℕ → ℕ → ℕ → List ℕ → List ℕ → Tables
@@ -19,20 +20,24 @@ pub sample-listed : registerWords sample ≡ (1 ∷ 0 ∷ 1 ∷ 3 ∷ 4 ∷ 14 �
 unfolding sample flatMap listedTo insertedAll inserted passing placesBelow sumBelow
 sample-listed = refl
 
--- WRITEs: 0 and 3 of tag 2, 1 untagged, 2 of tag 1 and unfinished. READs: 0 and 2 tie at tag 1 behind 4, which began last; 1 is at tag 0, 3 unfinished.
+-- WRITEs: 0 and 3 of tag 2, 1 untagged, 2 of tag 1 and unfinished. READs: 1 is at tag 0, 3 unfinished, and 4, 0 and 2 are at tag 1: 4 began
+-- first, though its record stands last; 0 and 2 tie, though 2 ended before 0.
 unfoldable pub mixed : Tables
 mixed =
     recorded 3 4 5
     ((0 ∷ 1 ∷ 2 ∷ 2 ∷ 9 ∷ []) ++ ((1 ∷ 1 ∷ 0 ∷ 3 ∷ 0 ∷ []) ++ ((2 ∷ 1 ∷ 1 ∷ 4 ∷ 0 ∷ []) ++ (0 ∷ 2 ∷ 2 ∷ 10 ∷ 20 ∷ []))))
-    ((3 ∷ 1 ∷ 1 ∷ 5 ∷ 18 ∷ []) ++ ((4 ∷ 1 ∷ 0 ∷ 6 ∷ 17 ∷ []) ++ ((5 ∷ 2 ∷ 1 ∷ 7 ∷ 18 ∷ []) ++ ((3 ∷ 3 ∷ 0 ∷ 19 ∷ 0 ∷ []) ++ (4 ∷ 2 ∷ 1 ∷ 9 ∷ 10 ∷ [])))))
+    ((3 ∷ 1 ∷ 1 ∷ 11 ∷ 18 ∷ []) ++ ((4 ∷ 1 ∷ 0 ∷ 6 ∷ 17 ∷ []) ++
+    ((5 ∷ 2 ∷ 1 ∷ 11 ∷ 14 ∷ []) ++ ((3 ∷ 3 ∷ 0 ∷ 19 ∷ 0 ∷ []) ++ (4 ∷ 2 ∷ 1 ∷ 9 ∷ 10 ∷ [])))))
 
 pub mixed-listed : register mixed ≡ read 1 ∷ write 2 ∷ read 4 ∷ read 0 ∷ read 2 ∷ write 0 ∷ write 3 ∷ []
 unfolding mixed listedTo insertedAll inserted passing placesBelow
 mixed-listed = refl
 
--- overlaps of READs 1, 4, 0 and 2: WRITE 0 ended at 9, where READ 4 began, and WRITE 3 began at 10, where READ 4 ended, so READ 4 overlaps neither; the others overlap both
+-- Overlaps: READ 1 overlaps WRITEs 0 and 3. WRITE 0 ended at 9, where READ 4 began, and WRITE 3 began at 10, where READ 4 ended, so READ 4
+-- overlaps neither; READs 0 and 2 began behind the end of WRITE 0, and overlap WRITE 3.
 pub mixed-words : registerWords mixed ≡
-    (1 ∷ 0 ∷ 4 ∷ 1 ∷ 6 ∷ 17 ∷ 2 ∷ []) ++ ((0 ∷ 1 ∷ 2 ∷ 1 ∷ 4 ∷ 0 ∷ 0 ∷ []) ++ ((1 ∷ 1 ∷ 4 ∷ 2 ∷ 9 ∷ 10 ∷ 0 ∷ []) ++ ((1 ∷ 1 ∷ 3 ∷ 1 ∷ 5 ∷ 18 ∷ 2 ∷ []) ++
-    ((1 ∷ 1 ∷ 5 ∷ 2 ∷ 7 ∷ 18 ∷ 2 ∷ []) ++ ((0 ∷ 2 ∷ 0 ∷ 1 ∷ 2 ∷ 9 ∷ 0 ∷ []) ++ (0 ∷ 2 ∷ 0 ∷ 2 ∷ 10 ∷ 20 ∷ 0 ∷ []))))))
+    (1 ∷ 0 ∷ 4 ∷ 1 ∷ 6 ∷ 17 ∷ 2 ∷ []) ++ ((0 ∷ 1 ∷ 2 ∷ 1 ∷ 4 ∷ 0 ∷ 0 ∷ []) ++
+    ((1 ∷ 1 ∷ 4 ∷ 2 ∷ 9 ∷ 10 ∷ 0 ∷ []) ++ ((1 ∷ 1 ∷ 3 ∷ 1 ∷ 11 ∷ 18 ∷ 1 ∷ []) ++ ((1 ∷ 1 ∷ 5 ∷ 2 ∷ 11 ∷ 14 ∷ 1 ∷ []) ++
+    ((0 ∷ 2 ∷ 0 ∷ 1 ∷ 2 ∷ 9 ∷ 0 ∷ []) ++ (0 ∷ 2 ∷ 0 ∷ 2 ∷ 10 ∷ 20 ∷ 0 ∷ []))))))
 unfolding mixed flatMap listedTo insertedAll inserted passing placesBelow sumBelow
 mixed-words = refl

@@ -3,3 +3,4 @@ pub mod Played
 pub mod PlayedLaws
 pub mod Playable
 pub mod PlayableLaws
+pub mod Words

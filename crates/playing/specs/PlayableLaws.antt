@@ -18,7 +18,7 @@ use Rattle.refusals.specs.Refusals.{openRefusal, writeRefusal, readRefusal, del
 use Rattle.refusals.specs.Steps.{unless, open′, beginWrite, beginRead, deliverRequest, deliverReply}
 use Rattle.keeping.specs.Accepted.{openable}
 use Rattle.keeping.specs.Opening.{opened-sound}
-use Rattle.keeping.specs.Steps.{beginWrite-sound, beginRead-sound, deliverRequest-sound, deliverReply-sound}
+use Rattle.keeping.specs.Steps.{open-keeps, beginWrite-sound, beginRead-sound, deliverRequest-sound, deliverReply-sound}
 use Rattle.ranges.specs.Tests.{by-test}
 use Rattle.schedule.specs.declared.Step.{Step}
 use Rattle.schedule.specs.declared.Step.the-variants.{Unreadable, Open, BeginWrite, BeginRead, Request, Reply}
@@ -71,6 +71,16 @@ module _ (t : Tables) (unopened : methodOf t ≡ 0) where
   pub reply-early : (q i : ℕ) (setpoints : List ℕ) → showing (noted (No 2) (maskOrZero (t .clients) q)) t ≡ played (Reply q i) setpoints t
   unfolding played
   reply-early q i setpoints = rw (reply-unopened q i)
+
+-- every step keeps sound tables sound
+pub step-sound : (step : Step) (setpoints : List ℕ) (t : Tables) → Sound t → Sound (played step setpoints t .tables)
+unfolding played
+step-sound Unreadable setpoints t s = s
+step-sound (Open method k panels) setpoints t s = open-keeps method k panels setpoints t s
+step-sound (BeginWrite q mask) setpoints t s = beginWrite-sound q mask setpoints t s
+step-sound (BeginRead q mask) setpoints t s = beginRead-sound q mask t s
+step-sound (Request q i) setpoints t s = deliverRequest-sound q i t s
+step-sound (Reply q i) setpoints t s = deliverReply-sound q i t s
 
 module _ (t : Tables) (p : Playable t) where
   -- by whether the store was opened: of a step that is refused by 2 before, and keeps sound tables sound

@@ -1,6 +1,6 @@
 -- What is printed of a line's step, and the tables that it leaves.
 use Prim.Native.Nat.{ℕ, _+_, _/_, _≤_}
-use mathlib.Core.Path.{_≡_, refl}
+use mathlib.Core.Path.{_≡_}
 use mathlib.Core.Bool.{cond}
 use mathlib.Core.List.{List, [], _∷_, _++_}
 use lib.Dec.{leb}
@@ -11,8 +11,7 @@ use Rattle.rules.specs.declared.Answer.{Answer}
 use Rattle.rules.specs.declared.Answer.the-variants as answer
 use Rattle.rules.specs.declared.Arrival.{Arrival}
 use Rattle.rules.specs.declared.Arrival.the-variants as arrival
-use Rattle.rules.specs.Answers.{Said, Left, Arrived, answerSaid, arrivalSaid}
-use Rattle.rules.specs.Answers.Word.{ok, wait, next, write, read, no′}
+use Rattle.rules.specs.Answers.{Left, Arrived}
 use Rattle.refusals.specs.Steps.{open′, beginWrite, beginRead, deliverRequest, deliverReply}
 use Rattle.schedule.specs.declared.Step.{Step}
 use Rattle.schedule.specs.declared.Step.the-variants.{Unreadable, Open, BeginWrite, BeginRead, Request, Reply}
@@ -35,26 +34,6 @@ arrivalWord arrival.Next = print.Next
 arrivalWord (arrival.Write tag) = print.Write tag
 arrivalWord (arrival.Read tag) = print.Read tag
 arrivalWord (arrival.Refused number) = print.No number
-
--- which is the word and the numbers that `rules` gives for it, by document 01
-abbrev pub wordSaid : Word → Said
-wordSaid print.Ok = record { word = ok; numbers = [] }
-wordSaid print.Wait = record { word = wait; numbers = [] }
-wordSaid print.Next = record { word = next; numbers = [] }
-wordSaid (print.Write tag) = record { word = write; numbers = tag ∷ [] }
-wordSaid (print.Read tag) = record { word = read; numbers = tag ∷ [] }
-wordSaid (print.No number) = record { word = no′; numbers = number ∷ [] }
-
-pub answer-said : (a : Answer) → wordSaid (answerWord a) ≡ answerSaid a
-answer-said answer.Ok = refl
-answer-said (answer.Refused number) = refl
-
-pub arrival-said : (a : Arrival) → wordSaid (arrivalWord a) ≡ arrivalSaid a
-arrival-said arrival.Wait = refl
-arrival-said arrival.Next = refl
-arrival-said (arrival.Write tag) = refl
-arrival-said (arrival.Read tag) = refl
-arrival-said (arrival.Refused number) = refl
 
 -- what is shown of a step, and the tables that it leaves
 pub record Played : Type 0 where

@@ -21,6 +21,10 @@ wordMost = 5 + markedMost + shownMost
 abbrev pub answerMost : ℕ
 answerMost = 20 + wordMost + 1
 
--- a line of the register: a letter, five numbers and byte 10
+-- a line of a letter and so many numbers, with byte 10
+abbrev pub rowMost : ℕ → ℕ
+rowMost n = 1 + markedMost * n + 1
+
+-- a line of the register has five
 abbrev pub recordMost : ℕ
-recordMost = 1 + 5 * markedMost + 1
+recordMost = rowMost 5

@@ -51,6 +51,10 @@ endText end = cond (eqb end 0) (32 ∷ 45 ∷ []) (spaced end)
 abbrev pub writeText : ℕ → ℕ → ℕ → ℕ → ℕ → List ℕ
 writeText tag client count begin end = (((87 ∷ []) ++ spacedAll (tag ∷ client ∷ count ∷ begin ∷ [])) ++ endText end) ++ (10 ∷ [])
 
+-- a line of a byte and some numbers
+abbrev pub rowText : ℕ → List ℕ → List ℕ
+rowText byte numbers = ((byte ∷ []) ++ spacedAll numbers) ++ (10 ∷ [])
+
 -- "`R tag panel begin end overlap`"
 abbrev pub readText : ℕ → ℕ → ℕ → ℕ → ℕ → List ℕ
-readText tag client begin end overlap = ((82 ∷ []) ++ spacedAll (tag ∷ client ∷ begin ∷ end ∷ overlap ∷ [])) ++ (10 ∷ [])
+readText tag client begin end overlap = rowText 82 (tag ∷ client ∷ begin ∷ end ∷ overlap ∷ [])

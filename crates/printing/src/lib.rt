@@ -1,11 +1,15 @@
-// What the program prints: answers and the register's lines, into lent space.
+// What the programs print: answers, the register's lines, and steps as the lines of a schedule, into lent space.
 ghost use Prim.Native.Nat.{_+_, _*_, _≤_, _<_};
 ghost use mathlib.Core.List.{[], _∷_, _++_};
 ghost use lib.ListN.{length};
 ghost use Rattle.schedule.specs.Decimal.{decimal, spacedAll};
-ghost use Rattle.printing.specs.Texts.{marked, spaced, serverText, maskedText, serversBelow, wordText, answerText, endText, writeText, readText};
+ghost use Rattle.printing.specs.Texts.{marked, spaced, serverText, maskedText, serversBelow, wordText, answerText};
+ghost use Rattle.printing.specs.Texts.{endText, writeText, readText, rowText};
 ghost use Rattle.printing.specs.Printed.{Printed};
-ghost use Rattle.printing.specs.Sizes.{markedMost, serverMost, shownMost, wordMost, answerMost, recordMost};
+ghost use Rattle.printing.specs.Sizes.{markedMost, serverMost, shownMost, wordMost, answerMost};
+ghost use Rattle.printing.specs.Sizes.{rowMost, recordMost};
+ghost use Rattle.printing.specs.StepTexts.{stepLine, refusalText, stepMost, refusalMost};
+use schedule::Step;
 
 // The longest answer in bytes, made as `Sizes` makes it: the line's number, ` read`, the tag, each station with its setpoint and tag, and byte 10.
 const MARKED: usize = 1 + 10;
@@ -230,6 +234,16 @@ fn print_lettered(byte: u8, numbers: &[u32], out: &mut [u8], at: usize) -> usize
     print_numbers(numbers, out, next)
 }
 
+// A line of a byte and some numbers.
+fn print_row(byte: u8, numbers: &[u32], out: &mut [u8], at: usize) -> usize
+    requires { ⌜ at + rowMost (length (now numbers)) ≤ length (now out) ⌝ }
+    ensures { λ r. ⌜ Printed (now (out .entry)) at (rowText byte (now (numbers .entry))) r (now (out .exit))
+        × (r ≤ at + rowMost (length (now (numbers .entry)))) ⌝ }
+{
+    let next = print_lettered(byte, numbers, out, at);
+    put_byte(b'\n', out, next)
+}
+
 // The register's line of a WRITE; an end of 0 is none.
 pub fn print_write_record(
     tag: u32,
@@ -263,6 +277,56 @@ pub fn print_read_record(
     ensures { λ r. ⌜ Printed (now (out .entry)) at (readText tag client begin end overlap) r (now (out .exit)) × (r ≤ at + recordMost) ⌝ }
 {
     let numbers = [tag, client, begin, end, overlap];
-    let next = print_lettered(b'R', &numbers, out, at);
+    print_row(b'R', &numbers, out, at)
+}
+
+// A line of a byte and some numbers, and some more behind them.
+fn print_longer_row(byte: u8, numbers: &[u32], more: &[u32], out: &mut [u8], at: usize) -> usize
+    requires { ⌜ at + rowMost (length (now numbers) + length (now more)) ≤ length (now out) ⌝ }
+    ensures { λ r. ⌜ Printed (now (out .entry)) at (rowText byte (now (numbers .entry) ++ now (more .entry))) r (now (out .exit))
+        × (r ≤ at + rowMost (length (now (numbers .entry)) + length (now (more .entry)))) ⌝ }
+{
+    let behind = print_lettered(byte, numbers, out, at);
+    let next = print_numbers(more, out, behind);
+    put_byte(b'\n', out, next)
+}
+
+// A line of a byte and two numbers.
+fn print_pair(byte: u8, first: u32, second: u32, out: &mut [u8], at: usize) -> usize
+    requires { ⌜ at + rowMost 2 ≤ length (now out) ⌝ }
+    ensures { λ r. ⌜ Printed (now (out .entry)) at (rowText byte (first ∷ second ∷ [])) r (now (out .exit)) × (r ≤ at + rowMost 2) ⌝ }
+{
+    let numbers = [first, second];
+    print_row(byte, &numbers, out, at)
+}
+
+// A step as a line of a schedule. Setpoints count for an opening and a WRITE alone. What is no step has a line that names none: a byte 0.
+pub fn print_step(step: Step, setpoints: &[u32], out: &mut [u8], at: usize) -> usize
+    requires { ⌜ at + stepMost (length (now setpoints)) ≤ length (now out) ⌝ }
+    ensures { λ r. ⌜ Printed (now (out .entry)) at (stepLine step (now (setpoints .entry))) r (now (out .exit))
+        × (r ≤ at + stepMost (length (now (setpoints .entry)))) ⌝ }
+{
+    match step {
+        Step::Unreadable => print_row(0, &setpoints[..0], out, at),
+        Step::Open(method, servers, clients) => {
+            let numbers = [method, servers, clients];
+            print_longer_row(b'O', &numbers, setpoints, out, at)
+        }
+        Step::BeginWrite(client, mask) => {
+            let numbers = [client, mask];
+            print_longer_row(b'W', &numbers, setpoints, out, at)
+        }
+        Step::BeginRead(client, mask) => print_pair(b'R', client, mask, out, at),
+        Step::Request(client, target) => print_pair(b'>', client, target, out, at),
+        Step::Reply(client, target) => print_pair(b'<', client, target, out, at),
+    }
+}
+
+// `no` and the number of a refusal, as a line of its own.
+pub fn print_refusal(number: u32, out: &mut [u8], at: usize) -> usize
+    requires { ⌜ at + refusalMost ≤ length (now out) ⌝ }
+    ensures { λ r. ⌜ Printed (now (out .entry)) at (refusalText number) r (now (out .exit)) × (r ≤ at + refusalMost) ⌝ }
+{
+    let next = print_tagged(b"no", number, out, at);
     put_byte(b'\n', out, next)
 }

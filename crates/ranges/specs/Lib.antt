@@ -1,4 +1,5 @@
--- Folds over the numbers below n, each as a definition with its laws, and lists given place by place. Everything above cites these; nothing above proves such an induction again.
+-- Folds over the numbers below n, each as a definition with its laws; lists given place by place, and lists in order of a number.
+-- Everything above cites these; nothing above proves such an induction again.
 pub mod Tests
 pub mod Every
 pub mod All
@@ -16,3 +17,5 @@ pub mod Words
 pub mod Each
 pub mod Laid
 pub mod LaidLaws
+pub mod Inserted
+pub mod InsertedLaws

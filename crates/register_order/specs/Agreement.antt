@@ -8,6 +8,7 @@ use native.Mathlib.Omega.{arith}
 use lib.ListN.{length}
 use lib.Dec.{eqb}
 use borrow.Author.Tests.{eq-eqb, ne-eqb}
+use Rattle.ranges.specs.Each.{Each}
 use Rattle.tables.specs.Layout.{recordWord, numberOfRecord, tagOfRecord, beginOfRecord}
 use Rattle.tables.specs.Tables.{Tables, clientsOf, stepOf, entriesOf, writesOf, readsOf, stateOf, recordOf}
 use Rattle.rules.specs.Common.{idle, entering, coordinator}
@@ -15,13 +16,19 @@ use Rattle.rules.specs.Common as rules
 use Rattle.soundness.specs.Sound.{isReading}
 use Rattle.soundness.specs.Facts.{Sound}
 use Rattle.keeping.specs.Links.{kindOn, numberOn}
-use Rattle.listing.specs.Register.{hasTag, endIn, byEndBelow, write, read, readsOfTag, writesOfTag, listedTo, register}
-use Rattle.listing.specs.Changes.{places-one}
+use Rattle.listing.specs.Register.{hasTag, finishedBelow, write, read, readsOfTag, writesOfTag, listedTo, register}
+use Rattle.listing.specs.Changes.{places-one, ByBegin, by-begin-sorted}
 use Rattle.serial.specs.History.{Transaction, Doing, nothing, writing, tagged, reading, History}
 use Rattle.serial.specs.Row.{rowTo, row}
 use Rattle.serial.specs.Row as row′
+use Rattle.serial.proofs.Lists.{Pairs}
 use Rattle.register_order.specs.Order.{Particulars, ofRecord, described, numberAt, told}
 use Rattle.register_order.specs.Lists.{Both, both-of-tag}
+
+-- step numbers rise, up to the tables' own
+pub record Numbered (numbers : List ℕ) (step : ℕ) : Type 0 where
+  pub rise : Pairs (λ m n. m ≤ n) numbers
+  pub most : Each (λ n. n ≤ step) numbers
 
 -- an end has its step number already
 abbrev pub EndKnown : ℕ → Option ℕ → Type 0
@@ -46,9 +53,9 @@ pub record OneWrite (writes : List ℕ) (begun : ℕ) (numbers : List ℕ) (tag 
 abbrev pub ofRead : List ℕ → ℕ → Particulars
 ofRead reads place = ofRecord false (recordWord reads place numberOfRecord) reads place
 
--- the finished READs in order of end are those told, in that order
+-- the finished READs in order of records are those told, in that order
 abbrev pub ReadsTold : List ℕ → ℕ → List ℕ → List Transaction → Type 0
-ReadsTold reads begun numbers xs = Both (λ place x. Tells numbers x (ofRead reads place)) (byEndBelow reads begun) xs
+ReadsTold reads begun numbers xs = Both (λ place x. Tells numbers x (ofRead reads place)) (finishedBelow reads begun) xs
 
 -- What a client is at, by its state and its record in progress.
 module _ (t : Tables) (numbers : List ℕ) (q : ℕ) (doing : Doing) where
@@ -86,9 +93,10 @@ module _ (t : Tables) (numbers : List ℕ) (q : ℕ) (doing : Doing) where
 pub record Agrees (t : Tables) (h : History) (numbers : List ℕ) : Type 0 where
   pub sound : Sound t
   pub clock : length numbers ≡ h .clock
+  pub numbered : Numbered numbers (stepOf t)
   pub entries : entriesOf t ≡ suc (h .tags)
-  -- no READ ended later than now
-  pub late : (place : ℕ) → place < readsOf t → endIn (t .reads) place ≤ stepOf t
+  -- "Records stand in order of begin", and so the sort leaves them
+  pub begins : ByBegin (t .reads) (readsOf t) (stepOf t)
   pub writes : (tag : ℕ) → 1 ≤ tag → tag ≤ h .tags → OneWrite (t .writes) (writesOf t) numbers tag (h .write tag)
   pub reads : ReadsTold (t .reads) (readsOf t) numbers (h .reads)
   pub clients : (q : ℕ) → q < clientsOf t → Activity t numbers q (h .doing q)
@@ -98,9 +106,10 @@ module _ (t : Tables) (h : History) (numbers : List ℕ) (a : Agrees t h numbers
   reads-listed : (tag : ℕ) → map (described t) (map read (readsOfTag t tag)) ≡ map (told numbers) (row′.readsOf tag (h .reads))
   reads-listed tag =
       map-map (described t) read (readsOfTag t tag)
-      ∙ both-of-tag (λ place x. Tells numbers x (ofRead (t .reads) place)) tag (hasTag (t .reads) tag)
+      ∙ rw (by-begin-sorted (t .reads) (readsOf t) (stepOf t) (a .begins))
+      (both-of-tag (λ place x. Tells numbers x (ofRead (t .reads) place)) tag (hasTag (t .reads) tag)
       (λ place x r. ap (λ (e : Particulars). eqb (e .tag) tag) (sym (r .is)))
-      (ofRead (t .reads)) (told numbers) (λ place x r. sym (r .is)) (byEndBelow (t .reads) (readsOf t)) (h .reads) (a .reads)
+      (ofRead (t .reads)) (told numbers) (λ place x r. sym (r .is)) (finishedBelow (t .reads) (readsOf t)) (h .reads) (a .reads))
 
   one-listed : (tag : ℕ) (o : OneWrite (t .writes) (writesOf t) numbers tag (h .write tag)) → writesOfTag t tag ≡ o .place ∷ []
   one-listed tag o =

@@ -1,14 +1,18 @@
 -- One step more has its number: what was told before is told alike. And records that a step leaves, all but one.
 use Prim.Native.Nat.{ℕ, suc, _+_, _≤_, _<_}
-use mathlib.Core.Path.{_≡_, refl, sym, _∙_}
-use mathlib.Core.Bool.{Bool, true, false}
+use mathlib.Core.Path.{_≡_, refl, sym, ap, _∙_}
+use mathlib.Core.Bool.{Bool, true, false, not}
 use mathlib.Core.Option.{Option, none, some}
-use mathlib.Core.List.{List, [], _∷_, _++_}
+use mathlib.Core.List.{List, [], _∷_, _++_, append-nil}
 use native.Mathlib.Omega.{arith}
 use lib.ListN.{length, length-append, List·getD-append}
 use lib.Seq.{getD-append-add}
-use Rattle.ranges.specs.Tests.{by-equal, not-both}
-use Rattle.tables.specs.Rows.{HasRow, word-other}
+use lib.Dec.{eqb, ltb}
+use borrow.Author.Tests.{ne-eqb, ltb-true, ltb-false, lt-ltb, le-ltb}
+use Rattle.ranges.specs.Tests.{by-equal, by-test, not-both}
+use Rattle.ranges.specs.Each.{Each, each-append, each-map}
+use Rattle.ranges.specs.Inserted.{inserted}
+use Rattle.tables.specs.Rows.{word-other}
 use Rattle.tables.specs.Layout.{recordWidth, recordWord, clientOfRecord, numberOfRecord, tagOfRecord, beginOfRecord, endOfRecord, clientWidth, clientWord, stateField, recordField, putBegun}
 use Rattle.tables.specs.Links.{linkWidth}
 use Rattle.tables.specs.Tables.{Tables, stateOf, recordOf}
@@ -17,13 +21,15 @@ use Rattle.rules.specs.Common as rules
 use Rattle.soundness.specs.Sound.{isWriting, isReading}
 use Rattle.keeping.specs.Links.{linkWord, kindOn, numberOn}
 use Rattle.keeping.specs.Records.{begun-word, tagged-other}
-use Rattle.listing.specs.Register.{endIn, byEndBelow}
-use Rattle.listing.specs.Places.{each-by-end}
-use Rattle.listing.specs.Records.{read-begun, read-ended}
+use Rattle.listing.specs.Register.{isFinished, beginIn, finishedBelow}
+use Rattle.listing.specs.Places.{each-passes, places-more}
+use Rattle.listing.specs.Changes.{places-same, places-added, ByBegin}
 use Rattle.serial.specs.History.{Transaction, Doing, nothing, reading, ended}
+use Rattle.serial.proofs.Lists.{pairs-append, pairs-at}
 use Rattle.register_order.specs.Order.{Particulars, ofRecord, numberAt, endNumber}
-use Rattle.register_order.specs.Lists.{both-append, both-map}
-use Rattle.register_order.specs.Agreement.{EndKnown, Tells, OneWrite, ofRead, ReadsTold, Untagged, Tagged, Reading, Activity}
+use Rattle.register_order.specs.Lists.{Both, both-map, both-inserted}
+use Rattle.register_order.specs.Agreement.{Numbered, EndKnown, Tells, OneWrite, ofRead, ReadsTold}
+use Rattle.register_order.specs.Agreement.{Untagged, Tagged, Reading, Activity}
 
 -- ---- the step numbers, with one more
 
@@ -48,12 +54,48 @@ module _ (numbers : List ℕ) (n : ℕ) where
   known-more none k = tt
   known-more (some clock) k = omega (arith, more-length)
 
+  pub numbered-more : (step : ℕ) → step ≤ n → Numbered numbers step → Numbered more n
+  numbered-more step l k =
+      let most = each-map (λ m. m ≤ step) (λ m. m ≤ n) (λ m h. omega arith) numbers (k .most) in
+      record {
+        rise = pairs-append (λ m o. m ≤ o) numbers (n ∷ []) (k .rise) (tt, tt)
+            (each-map (λ m. m ≤ n) (λ m. Each (λ o. m ≤ o) (n ∷ [])) (λ m h. (h, tt)) numbers most);
+        most = each-append (λ m. m ≤ n) numbers (n ∷ []) most (omega arith, tt);
+      }
+
   pub tells-more : (x : Transaction) (e : Particulars) → Tells numbers x e → Tells more x e
   tells-more x e r =
       record { is = rw (number-more (x .begin) (r .begun), end-more (x .end) (r .ended)) (r .is); begun = omega (arith, more-length, r .begun); ended = known-more (x .end) (r .ended) }
 
 pub tells-as : (numbers : List ℕ) (x : Transaction) {e e′ : Particulars} → e′ ≡ e → Tells numbers x e → Tells numbers x e′
 tells-as numbers x same r = record { is = r .is ∙ sym same; begun = r .begun; ended = r .ended }
+
+-- of two steps the one with the lower number came first
+number-before : (numbers : List ℕ) (step : ℕ) → Numbered numbers step →
+    (c d : ℕ) → c < length numbers → numberAt numbers c < numberAt numbers d → c < d
+number-before numbers step k c d known lower =
+    by-test (ltb c d)
+    (λ b. ltb-true _ _ b)
+    (λ b.
+    by-equal d c
+    (λ e. let z : numberAt numbers c < numberAt numbers c = rw e at lower in let no : ⊥ = omega arith in absurd no)
+    (λ ne.
+    let no : ⊥ = omega (arith, ltb-false c d b, pairs-at (λ m o. m ≤ o) 0 numbers (k .rise) d c (omega (arith, ltb-false c d b)) known) in
+    absurd no))
+
+-- Of two records that stand in order of begin, the steps at which they began come in the order of their places.
+pub begun-before : (records : List ℕ) (n step : ℕ) → ByBegin records n step → (numbers : List ℕ) (step′ : ℕ) → Numbered numbers step′ →
+    (i j : ℕ) → i < n → j < n → (j ≡ i → ⊥) → (c d : ℕ) → c < length numbers → d < length numbers →
+    numberAt numbers c ≡ beginIn records i → numberAt numbers d ≡ beginIn records j → ltb i j ≡ ltb c d
+begun-before records n step b numbers step′ k i j hi hj apart c d hc hd ci dj =
+    by-test (ltb i j)
+    (λ e.
+    let l = b .rise i j (ltb-true _ _ e) hj in
+    rw (e, lt-ltb c d (number-before numbers step′ k c d hc (omega arith))))
+    (λ e.
+    let l = b .rise j i (omega (arith, ltb-false i j e)) hi in
+    let later = number-before numbers step′ k d c hd (omega arith) in
+    rw (e, le-ltb c d (omega arith)))
 
 -- ---- records that a step leaves, all but one
 
@@ -96,36 +138,52 @@ one-more writes begun numbers tag x n o = record { place = o .place; within = o 
 
 -- ---- the READs
 
-module _ (reads : List ℕ) (begun : ℕ) (numbers : List ℕ) (xs : List Transaction) (r : ReadsTold reads begun numbers xs) where
-  abbrev told-by : ℕ → Transaction → Type 0
-  told-by place x = Tells numbers x (ofRead reads place)
+abbrev told-by : List ℕ → List ℕ → ℕ → Transaction → Type 0
+told-by reads numbers place x = Tells numbers x (ofRead reads place)
 
-  pub reads-more : (n : ℕ) → ReadsTold reads begun (more numbers n) xs
-  reads-more n =
-      both-map told-by (λ place x. Tells (more numbers n) x (ofRead reads place)) (λ place. Unit {0}) (λ place x u y. tells-more numbers n x (ofRead reads place) y)
-      (byEndBelow reads begun) xs (each-by-end (λ place. Unit {0}) reads begun (λ place l f. tt)) r
+pub reads-more : (reads : List ℕ) (begun : ℕ) (numbers : List ℕ) (xs : List Transaction) (n : ℕ) →
+    ReadsTold reads begun numbers xs → ReadsTold reads begun (more numbers n) xs
+reads-more reads begun numbers xs n r =
+    both-map (told-by reads numbers) (told-by reads (more numbers n)) (λ place. Unit {0})
+    (λ place x u y. tells-more numbers n x (ofRead reads place) y)
+    (finishedBelow reads begun) xs (each-passes (λ place. Unit {0}) (isFinished reads) begun (λ place l f. tt)) r
+
+module _ (reads reads′ : List ℕ) (here : ℕ) (but : But reads reads′ here) (numbers : List ℕ) (xs : List Transaction) where
+  finished-but : (i : ℕ) → (i ≡ here → ⊥) → isFinished reads′ i ≡ isFinished reads i
+  finished-but i d = ap (λ (end : ℕ). not (eqb end 0)) (but i endOfRecord (omega arith) d)
+
+  told-but : (begun : ℕ) → ((i : ℕ) → i < begun → isFinished reads i ≡ true → i ≡ here → ⊥) →
+      ReadsTold reads begun numbers xs → Both (told-by reads′ numbers) (finishedBelow reads begun) xs
+  told-but begun apart r =
+      both-map (told-by reads numbers) (told-by reads′ numbers) (λ i. i ≡ here → ⊥)
+      (λ i x d y. tells-as numbers x (read-alike reads reads′ i (λ f h. but i f h d)) y)
+      (finishedBelow reads begun) xs (each-passes (λ i. i ≡ here → ⊥) (isFinished reads) begun apart) r
 
   -- a READ begun is not listed yet
-  pub reads-begun : (q number step : ℕ) → HasRow recordWidth reads begun → ReadsTold (putBegun reads begun q number step) (begun + 1) numbers xs
-  reads-begun q number step room =
-      let reads′ = putBegun reads begun q number step in
-      rw (read-begun reads begun q number step room)
-      (both-map told-by (λ place x. Tells numbers x (ofRead reads′ place)) (λ place. place < begun)
-      (λ place x l y. tells-as numbers x (read-alike reads reads′ place (λ f h. begun-but reads begun q number step place f h (λ e. omega arith))) y)
-      (byEndBelow reads begun) xs (each-by-end (λ place. place < begun) reads begun (λ place l f. l)) r)
+  pub reads-begun : recordWord reads′ here endOfRecord ≡ 0 → ReadsTold reads here numbers xs → ReadsTold reads′ (here + 1) numbers xs
+  reads-begun open′ r =
+      let last : isFinished reads′ here ≡ false = rw open′ in
+      let same = places-same (isFinished reads) (isFinished reads′) here (λ i l. finished-but i (λ e. omega arith)) in
+      rw (places-more (isFinished reads′) here, last, append-nil (finishedBelow reads′ here), same)
+      (told-but here (λ i l f e. omega arith) r)
 
-  -- a READ that ends is listed behind all others
-  pub reads-ended : (place tag step : ℕ) → place < begun → HasRow recordWidth reads place → endIn reads place ≡ 0 → ((i : ℕ) → i < begun → endIn reads i < step) →
-      (x : Transaction) → Tells numbers x (ofRead (endedRecord place step (taggedRecord place tag reads)) place) →
-      ReadsTold (endedRecord place step (taggedRecord place tag reads)) begun numbers (xs ++ (x ∷ []))
-  reads-ended place tag step inside room open′ later x new =
-      let reads′ = endedRecord place step (taggedRecord place tag reads) in
-      rw (read-ended reads place begun inside room tag step open′ later)
-      (both-append (λ p y. Tells numbers y (ofRead reads′ p)) (byEndBelow reads begun) xs place x
-      (both-map told-by (λ p y. Tells numbers y (ofRead reads′ p)) (λ p. p ≡ place → ⊥)
-      (λ p y d u. tells-as numbers y (read-alike reads reads′ p (λ f h. ended-but (taggedRecord place tag reads) place step p f h d ∙ tagged-but reads place tag p f h d)) u)
-      (byEndBelow reads begun) xs (each-by-end (λ p. p ≡ place → ⊥) reads begun (λ p l f e. not-both f (rw (e, open′)))) r)
-      new)
+  -- a READ that ends is listed where it began
+  pub reads-ended : (begun : ℕ) → here < begun → recordWord reads here endOfRecord ≡ 0 → (recordWord reads′ here endOfRecord ≡ 0 → ⊥) →
+      (x : Transaction) → told-by reads′ numbers here x →
+      ((p : ℕ) (y : Transaction) → p < begun → (p ≡ here → ⊥) → told-by reads numbers p y → ltb here p ≡ ltb (x .begin) (y .begin)) →
+      ReadsTold reads begun numbers xs → ReadsTold reads′ begun numbers (inserted (λ y. y .begin) x xs)
+  reads-ended begun inside open′ ends x new order r =
+      let was : isFinished reads here ≡ false = rw open′ in
+      let is : isFinished reads′ here ≡ true = ap not (ne-eqb (recordWord reads′ here endOfRecord) 0 ends) in
+      let apart : (i : ℕ) → isFinished reads i ≡ true → i ≡ here → ⊥ = λ i f e. not-both f (rw (e, open′)) in
+      let compared =
+      both-map (told-by reads numbers) (λ p y. ltb here p ≡ ltb (x .begin) (y .begin)) (λ p. (p < begun) × (p ≡ here → ⊥))
+      (λ p y l. order p y (l .0) (l .1))
+      (finishedBelow reads begun) xs
+      (each-passes (λ p. (p < begun) × (p ≡ here → ⊥)) (isFinished reads) begun (λ i l f. (l, apart i f))) r in
+      rw (places-added (isFinished reads) (isFinished reads′) here was is begun inside (λ i l d. finished-but i d))
+      (both-inserted (told-by reads′ numbers) (λ i. i) (λ y. y .begin) here x new (finishedBelow reads begun) xs
+      (told-but begun (λ i l f. apart i f) r) compared)
 
 -- ---- what a client is at
 

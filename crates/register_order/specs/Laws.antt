@@ -6,7 +6,7 @@ use mathlib.Core.Option.{none}
 use mathlib.Core.List.{List, [], _∷_}
 use native.Mathlib.Omega.{arith}
 use lib.ListN.{length, getD}
-use lib.Dec.{eqb}
+use lib.Dec.{eqb, ltb}
 use borrow.Author.Tests.{eqb-true}
 use Rattle.ranges.specs.Tests.{by-equal, both-right}
 use Rattle.tables.specs.Rows.{HasRow, word-same, word-length}
@@ -21,13 +21,16 @@ use Rattle.soundness.specs.Room.{write-open, read-open, write-row, read-row, ne
 use Rattle.keeping.specs.Records.{open-client, begun-here, tagged-here, tagged-word, ended-word}
 use Rattle.keeping.specs.Frame.{Kept}
 use Rattle.keeping.specs.Links.{kindOn, numberOn}
-use Rattle.listing.specs.Register.{endIn}
+use Rattle.listing.specs.Register.{beginIn}
+use Rattle.listing.specs.Changes.{ByBegin, begins-on, begins-more}
 use Rattle.serial.specs.History.{valueWritten, valueShown, changed, Transaction, Doing, nothing, writing, tagged, reading, History}
 use Rattle.serial.specs.History.{historyOf, passed, turned, writeOf, readOf, given, wrote, showed, ended}
 use Rattle.serial.proofs.Places.{changed-other, changed-all}
 use Rattle.register_order.specs.Order.{Particulars, particulars, ofRecord, numberAt}
-use Rattle.register_order.specs.Agreement.{Tells, OneWrite, Untagged, Reading, Activity, Agrees, ofRead}
-use Rattle.register_order.specs.Grown.{more, more-length, number-more, number-last, tells-more, tells-as, But, Alike, begun-but, tagged-but, ended-but, one-but, one-more, reads-more, reads-begun, reads-ended, be-idle, be-storing, be-tagged, be-reading, activity-on}
+use Rattle.register_order.specs.Agreement.{Numbered, Tells, OneWrite, ofRead, ReadsTold, Untagged, Reading, Activity, Agrees}
+use Rattle.register_order.specs.Grown.{more, more-length, number-more, number-last, numbered-more, begun-before, tells-more, tells-as}
+use Rattle.register_order.specs.Grown.{But, Alike, begun-but, tagged-but, ended-but, one-but, one-more, reads-more, reads-begun}
+use Rattle.register_order.specs.Grown.{reads-ended, be-idle, be-storing, be-tagged, be-reading, activity-on}
 
 -- what a step of client q leaves of the others' records in progress
 pub record Leaves (q : ℕ) (t t′ : Tables) : Type 0 where
@@ -60,10 +63,11 @@ module _ (t : Tables) (h : History) (numbers : List ℕ) (a : Agrees t h numbers
   passed-agrees = record {
     sound = a .sound;
     clock = more-length numbers (stepOf t) ∙ ap suc (a .clock);
+    numbered = numbered-more numbers (stepOf t) (stepOf t) (omega arith) (a .numbered);
     entries = a .entries;
-    late = a .late;
+    begins = a .begins;
     writes = λ tag l u. one-more (t .writes) (writesOf t) numbers tag (h .write tag) (stepOf t) (a .writes tag l u);
-    reads = reads-more (t .reads) (readsOf t) numbers (h .reads) (a .reads) (stepOf t);
+    reads = reads-more (t .reads) (readsOf t) numbers (h .reads) (stepOf t) (a .reads);
     clients = λ q l. activity-on t t numbers (stepOf t) q (h .doing q) (λ f g. refl) (λ f g. refl) (λ w f g. refl) (λ w f g. refl) (a .clients q l);
   }
 
@@ -94,9 +98,20 @@ module _ (t t′ : Tables) (h : History) (numbers : List ℕ) (a : Agrees t h nu
       (λ r apart z. activity-on t t′ numbers step′ r (h .doing r) (λ f g. k .grows .row r f apart g) (λ f g. k .grows .link r coordinator f apart (omega arith) g) (leaves .writes r z apart) (leaves .reads r z apart) (a .clients r z))
       p (rw (k .grows .numbers .clients) at l)
 
-  -- no READ ended meanwhile
-  late-on : t′ .reads ≡ t .reads → readsOf t′ ≡ readsOf t → stepOf t′ ≡ step′ → (place : ℕ) → place < readsOf t′ → endIn (t′ .reads) place ≤ stepOf t′
-  late-on same begun step place l = let was : place < readsOf t = omega arith in rw same (omega (arith, a .late place was))
+  numbered-now : Numbered numbers′ step′
+  numbered-now = numbered-more numbers step′ (stepOf t) (omega arith) (a .numbered)
+
+  numbered-on : stepOf t′ ≡ step′ → Numbered numbers′ (stepOf t′)
+  numbered-on step = rw step numbered-now
+
+  -- no READ began meanwhile
+  begins-stay : ((place : ℕ) → beginIn (t′ .reads) place ≡ beginIn (t .reads) place) → readsOf t′ ≡ readsOf t → stepOf t′ ≡ step′ →
+      ByBegin (t′ .reads) (readsOf t′) (stepOf t′)
+  begins-stay same begun step =
+      rw begun (begins-on (t .reads) (t′ .reads) (readsOf t) (stepOf t) (stepOf t′) (λ i l. same i) (a .begins) (omega arith))
+
+  reads-on : ReadsTold (t .reads) (readsOf t) numbers′ (h .reads)
+  reads-on = reads-more (t .reads) (readsOf t) numbers (h .reads) step′ (a .reads)
 
   -- no record changes
   module _ (same-writes : t′ .writes ≡ t .writes) (same-reads : t′ .reads ≡ t .reads) (c : Counts t t′ (entriesOf t) (writesOf t) (readsOf t)) where
@@ -107,10 +122,11 @@ module _ (t t′ : Tables) (h : History) (numbers : List ℕ) (a : Agrees t h nu
     quiet doing clients = record {
       sound = k .sound;
       clock = clock-on;
+      numbered = numbered-on (c .step);
       entries = c .entries ∙ a .entries;
-      late = late-on same-reads (c .reads) (c .step);
+      begins = begins-stay (λ place. rw same-reads) (c .reads) (c .step);
       writes = λ tag l u. rw (same-writes, c .writes) (one-more (t .writes) (writesOf t) numbers tag (h .write tag) step′ (a .writes tag l u));
-      reads = rw (same-reads, c .reads) (reads-more (t .reads) (readsOf t) numbers (h .reads) (a .reads) step′);
+      reads = rw (same-reads, c .reads) reads-on;
       clients = clients;
     }
 
@@ -139,13 +155,14 @@ module _ (t t′ : Tables) (h : History) (numbers : List ℕ) (a : Agrees t h nu
     write-begins = record {
       sound = k .sound;
       clock = clock-on;
+      numbered = numbered-on (c .step);
       entries = c .entries ∙ a .entries;
-      late = late-on same-reads (c .reads) (c .step);
+      begins = begins-stay (λ place. rw same-reads) (c .reads) (c .step);
       writes = λ tag l u.
           let o = one-more (t .writes) (writesOf t) numbers tag (h .write tag) step′ (a .writes tag l u) in
           one-but (t .writes) (t′ .writes) (writesOf t) (writesOf t′) numbers′ tag (h .write tag) (writesOf t) o write-but
           (λ e. omega (arith, o .within)) (λ e. omega (arith, write-word tagOfRecord (omega arith))) (omega (arith, c .writes)) (λ i m d. omega (arith, c .writes));
-      reads = rw (same-reads, c .reads) (reads-more (t .reads) (readsOf t) numbers (h .reads) (a .reads) step′);
+      reads = rw (same-reads, c .reads) reads-on;
       clients = clients-on (record {
         writes = λ p l d w f g. write-but (recordOf t p) f g (λ e. omega (arith, write-open t (a .sound) p l w .within));
         reads = λ p l d w f g. rw same-reads;
@@ -175,13 +192,14 @@ module _ (t t′ : Tables) (h : History) (numbers : List ℕ) (a : Agrees t h nu
     read-begins = record {
       sound = k .sound;
       clock = clock-on;
+      numbered = numbered-on (c .step);
       entries = c .entries ∙ a .entries;
-      late = λ place l.
-          by-equal place (readsOf t)
-          (λ e. rw e (omega (arith, read-word endOfRecord (omega arith))))
-          (λ d. let was : place < readsOf t = omega (arith, c .reads) in omega (arith, read-but place endOfRecord (omega arith) d, a .late place was, c .step));
+      begins = rw (c .reads) (begins-more (t .reads) (t′ .reads) (readsOf t) (stepOf t) (stepOf t′)
+          (λ i l. read-but i beginOfRecord (omega arith) (λ e. omega arith)) (a .begins)
+          (omega (arith, read-word beginOfRecord (omega arith))) (omega (arith, read-word beginOfRecord (omega arith), c .step)));
       writes = λ tag l u. rw (same-writes, c .writes) (one-more (t .writes) (writesOf t) numbers tag (h .write tag) step′ (a .writes tag l u));
-      reads = rw (begins, c .reads) (reads-begun (t .reads) (readsOf t) numbers′ (h .reads) (reads-more (t .reads) (readsOf t) numbers (h .reads) (a .reads) step′) q mask step′ (next-read t (a .sound) few));
+      reads = rw (c .reads)
+          (reads-begun (t .reads) (t′ .reads) (readsOf t) read-but numbers′ (h .reads) (read-word endOfRecord (omega arith)) reads-on);
       clients = clients-on (record {
         writes = λ p l d w f g. rw same-writes;
         reads = λ p l d w f g. read-but (recordOf t p) f g (λ e. omega (arith, read-open t (a .sound) p l w .within));
@@ -241,15 +259,16 @@ module _ (t t′ : Tables) (h : History) (numbers : List ℕ) (a : Agrees t h nu
     write-tags = record {
       sound = k .sound;
       clock = clock-on;
+      numbered = numbered-on (c .step);
       entries = omega (arith, c .entries, a .entries);
-      late = late-on same-reads (c .reads) (c .step);
+      begins = begins-stay (λ place. rw same-reads) (c .reads) (c .step);
       writes = rw (c .writes) (changed-all (h .write) (suc (h .tags)) new (λ tag x. 1 ≤ tag → tag ≤ suc (h .tags) → OneWrite (t′ .writes) (writesOf t) numbers′ tag x)
           (λ l m. new-one)
           (λ tag d l m.
           let o = one-more (t .writes) (writesOf t) numbers tag (h .write tag) step′ (a .writes tag l (omega arith)) in
           one-but (t .writes) (t′ .writes) (writesOf t) (writesOf t) numbers′ tag (h .write tag) own-place o tag-but
           (λ e. omega (arith, ap (λ (n : ℕ). recordWord (t .writes) n tagOfRecord) e, o .bears, u .tag)) (λ e. d (sym e ∙ tag-here)) (omega arith) (λ i y z. y)));
-      reads = rw (same-reads, c .reads) (reads-more (t .reads) (readsOf t) numbers (h .reads) (a .reads) step′);
+      reads = rw (same-reads, c .reads) reads-on;
       clients = clients-on (record { writes = λ p l d v. others-alike (t .writes) (t′ .writes) (writesOf t) p q (recordOf t p) own-place (write-open t (a .sound) p l v) open-here tag-but d; reads = λ p l d v f g. rw same-reads })
           (tagged (suc (h .tags)))
           (be-tagged t′ numbers′ q (tagged (suc (h .tags))) state kind (record { is = ap tagged (sym (number ∙ a .entries)); tag = rw here (tag-here ∙ sym (number ∙ a .entries)) }));
@@ -297,8 +316,9 @@ module _ (t t′ : Tables) (h : History) (numbers : List ℕ) (a : Agrees t h nu
     write-ends = record {
       sound = k .sound;
       clock = clock-on;
+      numbered = numbered-on (c .step);
       entries = c .entries ∙ a .entries;
-      late = late-on same-reads (c .reads) (c .step);
+      begins = begins-stay (λ place. rw same-reads) (c .reads) (c .step);
       writes = rw (c .writes) (changed-all (h .write) tag (ended (h .clock) (h .write tag)) (λ n x. 1 ≤ n → n ≤ h .tags → OneWrite (t′ .writes) (writesOf t) numbers′ n x)
           (λ l m. end-one)
           (λ n d l m.
@@ -306,7 +326,7 @@ module _ (t t′ : Tables) (h : History) (numbers : List ℕ) (a : Agrees t h nu
           one-but (t .writes) (t′ .writes) (writesOf t) (writesOf t) numbers′ n (h .write n) own-place o end-but
           (λ e. d (sym (o .bears) ∙ ap (λ (i : ℕ). recordWord (t .writes) i tagOfRecord) e ∙ bears-tag))
           (λ e. d (sym e ∙ end-beside own-place tagOfRecord (omega arith) (λ z. omega arith) ∙ bears-tag)) (omega arith) (λ i y z. y)));
-      reads = rw (same-reads, c .reads) (reads-more (t .reads) (readsOf t) numbers (h .reads) (a .reads) step′);
+      reads = rw (same-reads, c .reads) reads-on;
       clients = clients-on (record { writes = λ p l d v. others-alike (t .writes) (t′ .writes) (writesOf t) p q (recordOf t p) own-place (write-open t (a .sound) p l v) (write-open t (a .sound) q client w) end-but d; reads = λ p l d v f g. rw same-reads }) nothing (be-idle t′ numbers′ q nothing state refl);
     }
 
@@ -331,37 +351,56 @@ module _ (t t′ : Tables) (h : History) (numbers : List ℕ) (a : Agrees t h nu
     over-tag : recordWord (t′ .reads) own-place tagOfRecord ≡ tag
     over-tag = rw ends (ended-word with-tag own-place step′ own-place tagOfRecord (omega arith) (λ e. omega arith) ∙ tagged-here (t .reads) own-place tag room)
 
-    over-beside : (f : ℕ) → f < recordWidth → (f ≡ endOfRecord → ⊥) → (f ≡ tagOfRecord → ⊥) → recordWord (t′ .reads) own-place f ≡ recordWord (t .reads) own-place f
-    over-beside f g d e = rw ends (ended-word with-tag own-place step′ own-place f g d ∙ tagged-word (t .reads) own-place tag own-place f g e)
+    over-beside : (place f : ℕ) → f < recordWidth → (f ≡ endOfRecord → ⊥) → (f ≡ tagOfRecord → ⊥) →
+        recordWord (t′ .reads) place f ≡ recordWord (t .reads) place f
+    over-beside place f g d e =
+        rw ends (ended-word with-tag own-place step′ place f g d ∙ tagged-word (t .reads) own-place tag place f g e)
+
+    over-begin : (place : ℕ) → beginIn (t′ .reads) place ≡ beginIn (t .reads) place
+    over-begin place = over-beside place beginOfRecord (omega arith) (λ e. omega arith) (λ e. omega arith)
+
+    -- the step at which it began
+    over-start : numberAt numbers′ (r .begin) ≡ beginIn (t .reads) own-place
+    over-start = number-more numbers step′ (r .begin) (r .known) ∙ sym (r .start)
 
     abbrev finished : Transaction
     finished = readOf q (r .mask) (valueShown shown) tag (r .begin) (h .clock) (suc (r .deliveries))
+
+    begun-known : r .begin < length numbers′
+    begun-known = omega (arith, r .known, clock-on, a .clock)
 
     over-tells : Tells numbers′ finished (ofRead (t′ .reads) own-place)
     over-tells = record {
       is = sym (rw (
         over-tag,
         over-end,
-        over-beside clientOfRecord (omega arith) (λ e. omega arith) (λ e. omega arith) ∙ open-client (t .reads) q own-place (open-read .here),
-        over-beside numberOfRecord (omega arith) (λ e. omega arith) (λ e. omega arith) ∙ r .masked,
-        over-beside beginOfRecord (omega arith) (λ e. omega arith) (λ e. omega arith) ∙ r .start ∙ sym (number-more numbers step′ (r .begin) (r .known)),
+        over-beside own-place clientOfRecord (omega arith) (λ e. omega arith) (λ e. omega arith)
+            ∙ open-client (t .reads) q own-place (open-read .here),
+        over-beside own-place numberOfRecord (omega arith) (λ e. omega arith) (λ e. omega arith) ∙ r .masked,
+        over-begin own-place ∙ sym over-start,
         number-now,
       ));
-      begun = omega (arith, r .known, clock-on, a .clock);
+      begun = begun-known;
       ended = now-known;
     }
+
+    -- it began before another READ exactly where its record stands before the other's
+    over-order : (p : ℕ) (y : Transaction) → p < readsOf t → (p ≡ own-place → ⊥) → Tells numbers′ y (ofRead (t .reads) p) →
+        ltb own-place p ≡ ltb (r .begin) (y .begin)
+    over-order p y l d told =
+        begun-before (t .reads) (readsOf t) (stepOf t) (a .begins) numbers′ step′ numbered-now own-place p (open-read .within) l d
+        (r .begin) (y .begin) begun-known (told .begun) over-start (ap (λ (e : Particulars). e .begin) (told .is))
 
     pub read-ends : Agrees t′ (showed tag shown (reading (r .mask) (r .begin) (r .deliveries)) q h) numbers′
     read-ends = record {
       sound = k .sound;
       clock = clock-on;
+      numbered = numbered-on (c .step);
       entries = c .entries ∙ a .entries;
-      late = λ place l.
-          by-equal place own-place
-          (λ e. rw e (omega (arith, over-end, c .step)))
-          (λ d. let before : place < readsOf t = omega (arith, c .reads) in omega (arith, over-but place endOfRecord (omega arith) d, a .late place before, c .step));
+      begins = begins-stay over-begin (c .reads) (c .step);
       writes = λ n l u. rw (same-writes, c .writes) (one-more (t .writes) (writesOf t) numbers n (h .write n) step′ (a .writes n l u));
-      reads = rw (c .reads, ends) (reads-ended (t .reads) (readsOf t) numbers′ (h .reads) (reads-more (t .reads) (readsOf t) numbers (h .reads) (a .reads) step′)
-          own-place tag step′ (open-read .within) room (open-end (t .reads) q own-place (open-read .here)) (λ i l. omega (arith, a .late i l)) finished (rw ends at over-tells));
+      reads = rw (c .reads)
+          (reads-ended (t .reads) (t′ .reads) own-place over-but numbers′ (h .reads) (readsOf t) (open-read .within)
+          (open-end (t .reads) q own-place (open-read .here)) (λ e. omega (arith, over-end)) finished over-tells over-order reads-on);
       clients = clients-on (record { writes = λ p l d v f g. rw same-writes; reads = λ p l d v. others-alike (t .reads) (t′ .reads) (readsOf t) p q (recordOf t p) own-place (read-open t (a .sound) p l v) open-read over-but d }) nothing (be-idle t′ numbers′ q nothing state refl);
     }

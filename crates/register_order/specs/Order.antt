@@ -27,7 +27,7 @@ pub record Particulars : Type 0 where
 abbrev pub particulars : Bool → ℕ → ℕ → ℕ → ℕ → ℕ → Particulars
 particulars isWrite tag client mask begin end = record { isWrite = isWrite; tag = tag; client = client; mask = mask; begin = begin; end = end }
 
--- ---- the register: "The register lists by tag: the WRITE of a tag, finished or not, then finished READs of that tag by end step"
+-- ---- the register: "The register lists by tag: the WRITE of a tag, finished or not, then finished READs of that tag"
 
 -- a record's words
 abbrev pub ofRecord : Bool → ℕ → List ℕ → ℕ → Particulars

@@ -16,7 +16,8 @@ use Rattle.tables.specs.Tables.{Tables, clientsOf, stepOf, entriesOf, writesOf,
 use Rattle.tables.specs.declared.links.Contents.{Contents}
 use Rattle.tables.specs.declared.links.Content.{Content}
 use Rattle.tables.specs.declared.links.Content.the-variants.{Nothing, Request, Reply}
-use Rattle.server.specs.Held.{appended, append-count, firstBearing}
+use Rattle.server.specs.Held.{appended, firstBearing}
+use Rattle.server.specs.HeldLaws.{append-count}
 use Rattle.coordinator.specs.Log.{entered, enterLeft}
 use Rattle.rules.specs.declared.Answer.the-variants.{Ok}
 use Rattle.rules.specs.Answers.{Left}

@@ -7,6 +7,7 @@ use Rattle.ranges.specs.Sum.{sumBelow}
 use Rattle.ranges.specs.First.{firstFrom}
 use Rattle.ranges.specs.Last.{lastBelow}
 use Rattle.ranges.specs.Turns.{turns}
+use Rattle.ranges.specs.Inserted.{inserted}
 use Rattle.tables.specs.Links.{linkAt, putLink}
 use Rattle.tables.specs.Tables.{Tables}
 use Rattle.server.specs.Held.{appended}
@@ -17,7 +18,7 @@ use Rattle.rules.specs.Reply.{onSetDone, onEntered, onKeys, onGot, onAll, onRep
 use Rattle.soundness.specs.Sound.{longEnough, pressFits, scalarsSound, keyInRange, serverSound, entrySound, logSound, stateAllowed, uses, requestSound, replySound, contentSound, linkSound, receivedSound, clientSound, writeSound, readSound, openSound, recordsSound, sound}
 use Rattle.refusals.specs.Refusals.{openRefusal, writeRefusal, readRefusal, deliveryRefusal}
 use Rattle.refusals.specs.Steps as store
-use Rattle.listing.specs.Register.{placesBelow, passing, inserted, insertedAll, listedTo, register}
+use Rattle.listing.specs.Register.{placesBelow, passing, insertedAll, listedTo, register}
 use Rattle.listing.specs.Sample as listing
 use Rattle.serial.specs.Steps.{Played, play, run, leftBy}
 use Rattle.serial.specs.History.{changed, openedWith, history}

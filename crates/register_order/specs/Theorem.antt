@@ -17,8 +17,8 @@ use Rattle.refusals.specs.Steps.{open′, beginWrite, beginRead, deliverRequest
 use Rattle.refusals.specs.Either.{by-refusal, by-refusal-arrived}
 use Rattle.keeping.specs.Accepted.{Openable, openable, writable, readable, deliverable}
 use Rattle.keeping.specs.Opening.{Opened, opened-words, opened-sound}
-use Rattle.listing.specs.Register.{register}
-use Rattle.listing.specs.Places.{by-end-none}
+use Rattle.listing.specs.Register.{isFinished, register}
+use Rattle.listing.specs.Places.{places-none}
 use Rattle.serial.specs.Steps.{Step, opening, beginning-write, beginning-read, request, reply, Event, begun-write, begun-read, play}
 use Rattle.serial.specs.Steps as event
 use Rattle.serial.specs.History.{History, nothing, openedWith}
@@ -45,10 +45,14 @@ module _ (method k p : ℕ) (setpoints : List ℕ) (t : Tables) (o : Openable me
     agrees = record {
       sound = opened-sound method k p setpoints t o;
       clock = refl;
+      numbered = record { rise = tt; most = tt };
       entries = words .entries;
-      late = λ place l. let z : ⊥ = omega (arith, words .reads) in absurd z;
+      begins = record {
+        rise = λ i j l h. let z : ⊥ = omega (arith, words .reads) in absurd z;
+        most = λ i l. let z : ⊥ = omega (arith, words .reads) in absurd z;
+      };
       writes = λ tag l u. let z : ⊥ = omega arith in absurd z;
-      reads = rw (words .reads, by-end-none (start .reads)) tt;
+      reads = rw (words .reads, places-none (isFinished (start .reads))) tt;
       clients = λ q l. be-idle start [] q nothing (words .word q stateField) refl;
     };
     step = words .step;

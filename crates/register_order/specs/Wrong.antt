@@ -7,6 +7,7 @@ use Rattle.ranges.specs.Sum.{sumBelow}
 use Rattle.ranges.specs.First.{firstFrom}
 use Rattle.ranges.specs.Last.{lastBelow}
 use Rattle.ranges.specs.Turns.{turns}
+use Rattle.ranges.specs.Inserted.{inserted}
 use Rattle.tables.specs.Layout.{clientOfRecord, numberOfRecord, tagOfRecord, beginOfRecord, endOfRecord}
 use Rattle.tables.specs.Links.{linkAt, putLink}
 use Rattle.server.specs.Held.{appended}
@@ -20,18 +21,18 @@ use Rattle.soundness.specs.Sound.{uses, requestSound, replySound, contentSound,
 use Rattle.soundness.specs.Sound.{readSound, openSound, recordsSound, sound}
 use Rattle.refusals.specs.Refusals.{openRefusal, writeRefusal, readRefusal, deliveryRefusal}
 use Rattle.refusals.specs.Steps.{open′, beginWrite, beginRead, deliverRequest, deliverReply}
-use Rattle.listing.specs.Register.{placesBelow, passing, inserted, insertedAll, listedTo, register}
+use Rattle.listing.specs.Register.{placesBelow, passing, insertedAll, listedTo, register}
 use Rattle.serial.specs.Steps.{opened, play}
 use Rattle.serial.specs.History.{changed}
 use Rattle.serial.specs.Row as row
-use Rattle.serial.specs.Sample.{zeros}
+use Rattle.serial.specs.Sample.{zeros, laterFirst}
 use Rattle.serial.specs.WrongStores.{first}
 use Rattle.serial.specs.Wrong.{thenReadByA, thenReadByB, thenReadByC, twoReads, replyLess, requestOnly, overtaken}
 use Rattle.register_order.specs.Parts as part
 use Rattle.register_order.specs.Parts.{lines, rowed, Differs, Computed, differs}
 use Rattle.register_order.specs.Parts.{Part}
-use Rattle.register_order.specs.WrongListings.{byEndFalling, readsAhead, finishedOnly, untaggedToo, unfinishedToo}
-use Rattle.register_order.specs.WrongListings.{kindsExchanged, byBegin, misread, miswritten}
+use Rattle.register_order.specs.WrongListings.{byEnd, byBeginFalling, readsAhead, finishedOnly, untaggedToo, unfinishedToo}
+use Rattle.register_order.specs.WrongListings.{kindsExchanged, writesByBegin, misread, miswritten}
 
 -- what differs beside the count where one is missing or too many, and beside the kind where a WRITE and a READ change places
 abbrev particulars : List Part
@@ -49,12 +50,13 @@ record Tested : Type 0 where
   not-finished-only : Computed finishedOnly play 3 twoReads (part.count ∷ particulars)
   not-untagged : Computed untaggedToo play 2 requestOnly (part.count ∷ particulars)
   not-unfinished : Computed unfinishedToo play 2 replyLess (part.count ∷ particulars)
-  not-by-end-falling : Computed byEndFalling play 3 twoReads (part.begin ∷ part.end ∷ [])
+  not-by-end : Computed byEnd play 2 laterFirst (part.client ∷ part.begin ∷ part.end ∷ [])
+  not-by-begin-falling : Computed byBeginFalling play 3 twoReads (part.begin ∷ part.end ∷ [])
   not-reads-ahead : Computed readsAhead play 2 thenReadByB (part.kind ∷ exchanged)
-  not-by-begin : Computed byBegin play 2 overtaken (part.tag ∷ part.client ∷ part.begin ∷ [])
+  not-writes-by-begin : Computed writesByBegin play 2 overtaken (part.tag ∷ part.client ∷ part.begin ∷ [])
   not-kinds-exchanged : Computed kindsExchanged play 2 thenReadByB (part.kind ∷ exchanged)
-  not-tag-of-read : Computed byBegin (misread tagOfRecord 0) 2 thenReadByB (part.tag ∷ [])
-  not-tag-of-write : Computed byBegin (miswritten tagOfRecord 2) 3 thenReadByC (part.tag ∷ [])
+  not-tag-of-read : Computed writesByBegin (misread tagOfRecord 0) 2 thenReadByB (part.tag ∷ [])
+  not-tag-of-write : Computed writesByBegin (miswritten tagOfRecord 2) 3 thenReadByC (part.tag ∷ [])
   not-client-of-read : Computed register (misread clientOfRecord 1) 1 thenReadByA (part.client ∷ [])
   not-client-of-write : Computed register (miswritten clientOfRecord 1) 2 thenReadByB (part.client ∷ [])
   not-mask-of-read : Computed register (misread numberOfRecord 1) 2 thenReadByB (part.mask ∷ [])
@@ -64,7 +66,7 @@ record Tested : Type 0 where
   not-end-of-write : Computed register (miswritten endOfRecord 0) 2 thenReadByB (part.end ∷ [])
 
 tested : Tested
-unfolding zeros lines rowed changed row.readsOf row.rowTo open′ beginWrite beginRead deliverRequest deliverReply openRefusal
+unfolding zeros laterFirst lines rowed changed row.readsOf row.rowTo open′ beginWrite beginRead deliverRequest deliverReply openRefusal
     writeRefusal readRefusal deliveryRefusal longEnough pressFits turns sound scalarsSound keyInRange serverSound entrySound
     logSound stateAllowed uses requestSound replySound contentSound linkSound receivedSound clientSound writeSound readSound
     openSound recordsSound allBelow anyBelow sumBelow linkAt putLink firstFrom lastBelow appended log.entered begunWrite
@@ -77,9 +79,10 @@ tested = record {
   not-finished-only = refl;
   not-untagged = refl;
   not-unfinished = refl;
-  not-by-end-falling = refl;
+  not-by-end = refl;
+  not-by-begin-falling = refl;
   not-reads-ahead = refl;
-  not-by-begin = refl;
+  not-writes-by-begin = refl;
   not-kinds-exchanged = refl;
   not-tag-of-read = refl;
   not-tag-of-write = refl;
@@ -116,28 +119,33 @@ not-untagged = differs untaggedToo play 2 requestOnly part.count particulars ope
 pub not-unfinished : Differs unfinishedToo play 2 replyLess (part.count ∷ particulars)
 not-unfinished = differs unfinishedToo play 2 replyLess part.count particulars opensB (tested .not-unfinished)
 
--- the order: READs of a tag by end falling
-pub not-by-end-falling : Differs byEndFalling play 3 twoReads (part.begin ∷ part.end ∷ [])
-not-by-end-falling = differs byEndFalling play 3 twoReads part.begin (part.end ∷ []) opensC (tested .not-by-end-falling)
+-- the order: READs of a tag by end, where the one that began later ended first
+pub not-by-end : Differs byEnd play 2 laterFirst (part.client ∷ part.begin ∷ part.end ∷ [])
+not-by-end = differs byEnd play 2 laterFirst part.client (part.begin ∷ part.end ∷ []) opensB (tested .not-by-end)
+
+-- READs of a tag by begin falling
+pub not-by-begin-falling : Differs byBeginFalling play 3 twoReads (part.begin ∷ part.end ∷ [])
+not-by-begin-falling = differs byBeginFalling play 3 twoReads part.begin (part.end ∷ []) opensC (tested .not-by-begin-falling)
 
 -- a READ ahead of the WRITE of its tag
 pub not-reads-ahead : Differs readsAhead play 2 thenReadByB (part.kind ∷ exchanged)
 not-reads-ahead = differs readsAhead play 2 thenReadByB part.kind exchanged opensB (tested .not-reads-ahead)
 
 -- WRITEs by begin, whatever their tags
-pub not-by-begin : Differs byBegin play 2 overtaken (part.tag ∷ part.client ∷ part.begin ∷ [])
-not-by-begin = differs byBegin play 2 overtaken part.tag (part.client ∷ part.begin ∷ []) opensB (tested .not-by-begin)
+pub not-writes-by-begin : Differs writesByBegin play 2 overtaken (part.tag ∷ part.client ∷ part.begin ∷ [])
+not-writes-by-begin =
+    differs writesByBegin play 2 overtaken part.tag (part.client ∷ part.begin ∷ []) opensB (tested .not-writes-by-begin)
 
 -- the kind
 pub not-kinds-exchanged : Differs kindsExchanged play 2 thenReadByB (part.kind ∷ exchanged)
 not-kinds-exchanged = differs kindsExchanged play 2 thenReadByB part.kind exchanged opensB (tested .not-kinds-exchanged)
 
 -- the tag, of a READ and of a WRITE, listed in the right order all the same
-pub not-tag-of-read : Differs byBegin (misread tagOfRecord 0) 2 thenReadByB (part.tag ∷ [])
-not-tag-of-read = differs byBegin (misread tagOfRecord 0) 2 thenReadByB part.tag [] opensB (tested .not-tag-of-read)
+pub not-tag-of-read : Differs writesByBegin (misread tagOfRecord 0) 2 thenReadByB (part.tag ∷ [])
+not-tag-of-read = differs writesByBegin (misread tagOfRecord 0) 2 thenReadByB part.tag [] opensB (tested .not-tag-of-read)
 
-pub not-tag-of-write : Differs byBegin (miswritten tagOfRecord 2) 3 thenReadByC (part.tag ∷ [])
-not-tag-of-write = differs byBegin (miswritten tagOfRecord 2) 3 thenReadByC part.tag [] opensC (tested .not-tag-of-write)
+pub not-tag-of-write : Differs writesByBegin (miswritten tagOfRecord 2) 3 thenReadByC (part.tag ∷ [])
+not-tag-of-write = differs writesByBegin (miswritten tagOfRecord 2) 3 thenReadByC part.tag [] opensC (tested .not-tag-of-write)
 
 -- the panel
 pub not-client-of-read : Differs register (misread clientOfRecord 1) 1 thenReadByA (part.client ∷ [])

@@ -2,12 +2,13 @@
 use Prim.Native.Nat.{ℕ, zero, suc, _-_}
 use mathlib.Core.Bool.{not}
 use mathlib.Core.List.{List, [], _∷_, _++_, map}
-use Rattle.tables.specs.Layout.{putRecordWord}
+use Rattle.tables.specs.Layout.{recordWord, endOfRecord, putRecordWord}
 use Rattle.tables.specs.Tables.{Tables, withWrites, withReads, entriesOf, writesOf, readsOf}
 use Rattle.rules.specs.declared.Arrival.{Arrival}
 use Rattle.rules.specs.declared.Arrival.the-variants.{Wait, Next, Write, Read, Refused}
 use Rattle.refusals.specs.Steps.{deliverReply}
-use Rattle.listing.specs.Register.{placesBelow, passing, isFinished, hasTag, Line, write, read, writesOfTag, readsOfTag, register}
+use Rattle.listing.specs.Register.{placesBelow, passing, insertedAll, isFinished, finishedBelow, hasTag, Line, write, read}
+use Rattle.listing.specs.Register.{writesOfTag, readsOfTag, register}
 use Rattle.serial.specs.Steps.{Step, opening, beginning-write, beginning-read, request, reply, Machine, play}
 
 -- ---- wrong listings
@@ -25,9 +26,16 @@ abbrev backwards : List ℕ → List ℕ
 backwards [] = []
 backwards (x ∷ xs) = backwards xs ++ (x ∷ [])
 
--- READs of a tag by end falling
-abbrev pub byEndFalling : Tables → List Line
-byEndFalling t = byTag (λ tag. tagged t tag ++ map read (backwards (readsOfTag t tag))) (entriesOf t - 1)
+-- READs of a tag by begin falling
+abbrev pub byBeginFalling : Tables → List Line
+byBeginFalling t = byTag (λ tag. tagged t tag ++ map read (backwards (readsOfTag t tag))) (entriesOf t - 1)
+
+-- READs of a tag by end, as they were listed before document 02
+abbrev ended : Tables → List ℕ
+ended t = insertedAll (λ place. recordWord (t .reads) place endOfRecord) (finishedBelow (t .reads) (readsOf t)) []
+
+abbrev pub byEnd : Tables → List Line
+byEnd t = byTag (λ tag. tagged t tag ++ map read (passing (hasTag (t .reads) tag) (ended t))) (entriesOf t - 1)
 
 -- READs of a tag ahead of its WRITE
 abbrev pub readsAhead : Tables → List Line
@@ -54,9 +62,9 @@ otherKind (read place) = write place
 abbrev pub kindsExchanged : Tables → List Line
 kindsExchanged t = map otherKind (register t)
 
--- the WRITEs that have a tag, then the finished READs, by begin
-abbrev pub byBegin : Tables → List Line
-byBegin t =
+-- the WRITEs that have a tag by begin, whatever their tags; then the finished READs likewise
+abbrev pub writesByBegin : Tables → List Line
+writesByBegin t =
     map write (placesBelow (λ place. not (hasTag (t .writes) 0 place)) (writesOf t)) ++
     map read (placesBelow (isFinished (t .reads)) (readsOf t))
 

@@ -8,7 +8,7 @@ use native.Mathlib.Numerals.{add-one}
 use lib.ListN.{length, take, drop, getD}
 use lib.Seq.{drop-drop}
 use borrow.Author.Tests.{le-ltb, eq-eqb, ne-eqb}
-use Rattle.tables.specs.Tables.{Tables, methodOf}
+use Rattle.tables.specs.Tables.{Tables}
 use Rattle.soundness.specs.Facts.{Sound, facts-sound}
 use Rattle.printing.specs.Texts.{writeText, readText}
 use Rattle.printing.specs.Printed.{Printed}
@@ -17,7 +17,7 @@ use Rattle.listing.specs.declared.Listed.{Listed}
 use Rattle.listing.specs.declared.Listed.the-variants.{Rows, Refused}
 use Rattle.listing.specs.Register.{Line, write, read, lineWidth, mostLines, lineWords, register, registerWords, Listing, listing, listedSound, listRegister}
 use Rattle.listing.specs.Changes.{register-few}
-use Rattle.register_text.specs.Text.{rowText, rowsText, registerText, registerPrinted}
+use Rattle.register_text.specs.Text.{rowText, rowsText, registerText}
 
 module _ (row : List ℕ) where
   pub row-write : getD row 0 0 ≡ 0 → rowText row ≡ writeText (getD row 1 0) (getD row 2 0) (getD row 3 0) (getD row 4 0) (getD row 5 0)
@@ -106,13 +106,3 @@ module _ (t : Tables) (s : Sound t) (list : List ℕ) (room : lineWidth * mostLi
 
       pub never-refused : {n : ℕ} → r ≡ Refused n → ⊥
       never-refused {n} e = not-refused n (ap (λ (x : Listed). listing x left) (sym e) ∙ told)
-
--- before an opening there is no register, and behind one it is that of the tables
-module _ (t : Tables) where
-  pub unopened-printed : (out : List ℕ) → methodOf t ≡ 0 → Printed out 0 (registerPrinted t) 0 out
-  unfolding registerPrinted
-  unopened-printed out e = rw (eq-eqb _ _ e) (printed-none out 0 (omega arith))
-
-  pub opened-printed : (out : List ℕ) (at next bound : ℕ) (left : List ℕ) → (methodOf t ≡ 0 → ⊥) → Printed out at (registerText t) next left × (next ≤ bound) → Printed out at (registerPrinted t) next left × (next ≤ bound)
-  unfolding registerPrinted
-  opened-printed out at next bound left n p = rw (ne-eqb _ _ n) p

@@ -12,6 +12,9 @@ use listing::Listed;
 // How many words listing needs at most.
 const LIST: usize = listing::WIDTH * listing::ROWS;
 
+// The bytes of the longest register: of each line a letter, five numbers of ten digits, each behind a space, and byte 10.
+pub const MOST: usize = (1 + 5 * (1 + 10) + 1) * listing::ROWS;
+
 // The line of a row: kind, tag, client, count or mask, begin, end, overlap.
 fn print_row(row: &[u32], out: &mut [u8], at: usize) -> usize
     requires { ⌜ (lineWidth ≤ length (now row)) × (at + recordMost ≤ length (now out)) ⌝ }

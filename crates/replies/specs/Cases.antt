@@ -1,26 +1,27 @@
 -- The cases of a reply's delivery, as the code meets them.
 use Prim.Native.Nat.{ℕ, _-_}
 use mathlib.Core.Path.{_≡_, sym, _∙_, ap}
-use mathlib.Core.Bool.{Bool, true, false}
+use mathlib.Core.Bool.{Bool, true, false, cond}
 use mathlib.Core.List.{List}
+use native.Mathlib.Omega.{arith}
 use borrow.Author.Tests.{eq-eqb, ne-eqb}
 use Rattle.keys.specs.Keys.{keyOf}
-use Rattle.tables.specs.Layout.{putClientWord, stateField, tagField}
+use Rattle.tables.specs.Layout.{putClientWord, stateField, tagField, setpointsField, tagsField}
 use Rattle.tables.specs.Links.{putLink, linkAt}
 use Rattle.tables.specs.Tables.{Tables, tablesOf, serversOf, stateOf, countOf, maskOf, tagOf, recordOf}
 use Rattle.tables.specs.declared.links.Contents.{Contents}
 use Rattle.tables.specs.declared.links.Content.{Content}
 use Rattle.tables.specs.declared.links.Content.the-variants.{Nothing, Request, Reply}
 use Rattle.tables.specs.declared.links.Link.{Link}
+use Rattle.rules.specs.declared.Arrival.{Arrival}
 use Rattle.rules.specs.declared.Arrival.the-variants.{Wait, Next, Write, Refused}
 use Rattle.rules.specs.declared.Delivered.{Delivered}
-use Rattle.rules.specs.declared.words.Shown.{Shown}
-use Rattle.rules.specs.Words.{shownBoth}
+use Rattle.rules.specs.WordsLaws.{shown-other}
 use Rattle.rules.specs.Answers.{Arrived, arrived, nothingShown}
-use Rattle.rules.specs.Common.{idle, writing, entering, askingKeys, askingSetpoints, coordinator, request, pending, endedRecord}
+use Rattle.rules.specs.Common.{idle, writing, entering, askingKeys, askingSetpoints, coordinator, request, pending, endedRecord, taggedRecord}
 use Rattle.rules.specs.Begin.{sentGets, keptTags}
-use Rattle.rules.specs.Reply.{emptied, onSetDone, onEntered, onKeys, gotSetpoint, onGot, gotNumber, onAll, onReplyIn, onReply, replyDelivered}
-use Rattle.replies.specs.Ready.{Settled, Finished, FinishedByC}
+use Rattle.rules.specs.Reply.{said, emptied, onSetDone, onEntered, onKeys, gotSetpoint, onGot, gotNumber, onAll, onReplyIn, onReply, replyDelivered}
+use Rattle.replies.specs.Ready.{Settled, rowShown, FinishedByC}
 
 -- s is what `settle` left, b whether a link is pending then
 module _ (q i : ℕ) (t : Tables) {step : ℕ} {counts links : List ℕ} (s : Settled (t .counts) (t .links) q i step counts links) where
@@ -29,29 +30,46 @@ module _ (q i : ℕ) (t : Tables) {step : ℕ} {counts links : List ℕ} (s : Se
     is-pending e = rw (s .emptied) at (sym p ∙ e)
 
     -- state 1
-    pub set-waits : {d : Delivered} → b ≡ true → d ≡ nothingShown Wait →
-        arrived d (tablesOf counts (t .clients) links (t .keys) (t .values) (t .log) (t .writes) (t .reads)) ≡ onSetDone q i t
+    pub set-waits : b ≡ true →
+        said Wait (tablesOf counts (t .clients) links (t .keys) (t .values) (t .log) (t .writes) (t .reads)) ≡ onSetDone q i t
     unfolding onSetDone
-    set-waits e f = rw (is-pending e, f, s .counted′, s .emptied)
+    set-waits e = rw (is-pending e, s .counted′, s .emptied)
 
-    pub set-enters : {d : Delivered} {clients links′ : List ℕ} → b ≡ false → d ≡ nothingShown Next → clients ≡ putClientWord (t .clients) q stateField entering →
+    pub set-enters : {clients links′ : List ℕ} → b ≡ false → clients ≡ putClientWord (t .clients) q stateField entering →
         links′ ≡ putLink links q coordinator (request (keyOf (countOf t q) q) (maskOf t q)) →
-        arrived d (tablesOf counts clients links′ (t .keys) (t .values) (t .log) (t .writes) (t .reads)) ≡ onSetDone q i t
+        said Next (tablesOf counts clients links′ (t .keys) (t .values) (t .log) (t .writes) (t .reads)) ≡ onSetDone q i t
     unfolding onSetDone
-    set-enters e f c l = rw (is-pending e, f, c, l, s .counted′, s .emptied)
+    set-enters e c l = rw (is-pending e, c, l, s .counted′, s .emptied)
 
     -- state 4; the setpoint is put, mask, place and tag are what was read before
     module _ (w : Contents) {clients : List ℕ} (g : clients ≡ gotSetpoint w q i t) where
-      pub got-waits : {d : Delivered} → b ≡ true → d ≡ nothingShown Wait →
-          arrived d (tablesOf counts clients links (t .keys) (t .values) (t .log) (t .writes) (t .reads)) ≡ onGot w q i t
+      pub got-waits : b ≡ true →
+          said Wait (tablesOf counts clients links (t .keys) (t .values) (t .log) (t .writes) (t .reads)) ≡ onGot w q i t
       unfolding onGot
-      got-waits e f = rw (is-pending e, f, g, s .counted′, s .emptied)
+      got-waits e = rw (is-pending e, g, s .counted′, s .emptied)
 
-      pub got-ends : {d : Delivered} {clients′ reads : List ℕ} {shown : Shown} {mask place tag : ℕ} → b ≡ false → mask ≡ maskOf t q → place ≡ recordOf t q → tag ≡ tagOf t q →
-          shown ≡ shownBoth clients q mask → Finished clients (t .reads) q place tag shown step d clients′ reads →
-          arrived d (tablesOf counts clients′ links (t .keys) (t .values) (t .log) (t .writes) reads) ≡ onGot w q i t
+      -- the state is no part of what is shown
+      pub got-ends : {clients′ reads : List ℕ} {place tag : ℕ} → b ≡ false → place ≡ recordOf t q → tag ≡ tagOf t q →
+          clients′ ≡ putClientWord clients q stateField idle → reads ≡ endedRecord place step (taggedRecord place tag (t .reads)) →
+          arrived (rowShown (tagOf t q) clients′ q (maskOf t q))
+          (tablesOf counts clients′ links (t .keys) (t .values) (t .log) (t .writes) reads)
+          ≡ onGot w q i t
       unfolding onGot
-      got-ends e m p′ a h f = rw (is-pending e, f .shown, f .idled, f .recorded, h, g, m, p′, a, s .stepped, s .counted′, s .emptied)
+      got-ends e p′ a c r =
+          let row = gotSetpoint w q i t in
+          rw (
+            is-pending e,
+            c,
+            r,
+            g,
+            p′,
+            a,
+            shown-other setpointsField row q stateField idle (maskOf t q) (omega arith) (omega arith),
+            shown-other tagsField row q stateField idle (maskOf t q) (omega arith) (omega arith),
+            s .stepped,
+            s .counted′,
+            s .emptied,
+          )
 
     -- state 5; the number is put
     module _ (w : Contents) {clients : List ℕ} (g : clients ≡ gotNumber w q i t) where
@@ -67,19 +85,19 @@ module _ (q i : ℕ) (t : Tables) {step : ℕ} {counts links : List ℕ} (s : Se
       all-ends e m p′ h f = rw (is-pending e, f .shown, f .idled, f .recorded, g, m, p′, h, s .stepped, s .counted′, s .emptied)
 
   -- state 2
-  pub write-ends : (w : Contents) {d : Delivered} {clients writes : List ℕ} {place : ℕ} → place ≡ recordOf t q → d ≡ nothingShown (Write (w .number)) →
+  pub write-ends : (w : Contents) {a : Arrival} {clients writes : List ℕ} {place : ℕ} → a ≡ Write (w .number) → place ≡ recordOf t q →
       clients ≡ putClientWord (putClientWord (t .clients) q tagField (w .number)) q stateField idle → writes ≡ endedRecord place step (t .writes) →
-      arrived d (tablesOf counts clients links (t .keys) (t .values) (t .log) writes (t .reads)) ≡ onEntered w q i t
+      said a (tablesOf counts clients links (t .keys) (t .values) (t .log) writes (t .reads)) ≡ onEntered w q i t
   unfolding onEntered
-  write-ends w p f c r = rw (f, c, r, p, s .stepped, s .counted′, s .emptied)
+  write-ends w e p c r = rw (e, c, r, p, s .stepped, s .counted′, s .emptied)
 
   -- state 3
-  pub keys-ask : (w : Contents) {d : Delivered} {clients links′ : List ℕ} {mask k : ℕ} → mask ≡ maskOf t q → k ≡ serversOf t → d ≡ nothingShown Next →
+  pub keys-ask : (w : Contents) {clients links′ : List ℕ} {mask k : ℕ} → mask ≡ maskOf t q → k ≡ serversOf t →
       clients ≡ keptTags q mask (t .log) (w .number - 1) k (putClientWord (putClientWord (t .clients) q tagField (w .number - 1)) q stateField askingSetpoints) →
       links′ ≡ sentGets q mask (t .log) (w .number - 1) k links →
-      arrived d (tablesOf counts clients links′ (t .keys) (t .values) (t .log) (t .writes) (t .reads)) ≡ onKeys w q i t
+      said Next (tablesOf counts clients links′ (t .keys) (t .values) (t .log) (t .writes) (t .reads)) ≡ onKeys w q i t
   unfolding onKeys
-  keys-ask w m k f c l = rw (f, c, l, m, k, s .counted′, s .emptied)
+  keys-ask w m k c l = rw (c, l, m, k, s .counted′, s .emptied)
 
 -- the states; s is what was read of the client's row, x what the delivery left
 module _ (w : Contents) (q i : ℕ) (t : Tables) {s : ℕ} {x : Arrived} (d : s ≡ stateOf t q) where
@@ -119,3 +137,17 @@ module _ (q i : ℕ) (t : Tables) {l : Link} (d : l ≡ linkAt (t .links) q i) w
 
   pub by-reply : {w : Contents} {x : Arrived} → l .content ≡ Reply w → x ≡ onReplyIn (stateOf t q) w q i t → x ≡ replyDelivered q i t
   by-reply e f = by-content e f
+
+-- the answer as the code puts it together; d is what it shows, t the tables that are left
+module _ {d : Delivered} {t : Tables} {x : Arrived} where
+  -- an answer that shows nothing
+  pub by-arrival : {a : Arrival} → d ≡ nothingShown a → said a t ≡ x → arrived d t ≡ x
+  by-arrival e f = rw e f
+
+  -- state 4; b is whether the client still waits
+  module _ (b : Bool) (shown : Delivered) (f : arrived (cond b (nothingShown Wait) shown) t ≡ x) where
+    pub by-waiting : b ≡ true → d ≡ nothingShown Wait → arrived d t ≡ x
+    by-waiting e g = rw g (rw e at f)
+
+    pub by-row : b ≡ false → d ≡ shown → arrived d t ≡ x
+    by-row e g = rw g (rw e at f)

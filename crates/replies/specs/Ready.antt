@@ -8,12 +8,10 @@ use Rattle.tables.specs.Layout.{countAt, stepField, serversField, clientWidth, 
 use Rattle.tables.specs.Links.{targets, HasLinks, linkAt, putLink}
 use Rattle.tables.specs.declared.links.Contents.{Contents}
 use Rattle.tables.specs.declared.links.Content.the-variants.{Nothing, Reply}
-use Rattle.rules.specs.declared.Arrival.the-variants.{Read}
 use Rattle.rules.specs.declared.Delivered.{Delivered}
-use Rattle.rules.specs.declared.words.Shown.{Shown}
 use Rattle.rules.specs.Common.{counted, idle, writing, entering, askingKeys, askingSetpoints, pending, coordinator, endedRecord, taggedRecord}
 use Rattle.rules.specs.Choice.{qualifies, chosenTag, chosenSetpoint}
-use Rattle.rules.specs.Reply.{shownSetpoints, receivedIn, putReceived, tagFrom, concludedRow, chosenTags}
+use Rattle.rules.specs.Reply.{shownTags, readShown, receivedIn, putReceived, tagFrom, concludedRow, chosenTags}
 use Rattle.choice.specs.Ready.{ChoiceReady}
 use Rattle.requests.specs.Ready.{Answerable}
 use Rattle.ranges.specs.LastLaws.{last-below, last-passes}
@@ -44,10 +42,15 @@ pub record GotReady (clients records : List ℕ) (q : ℕ) : Type 0 where
   pub row : HasRow clientWidth clients q
   pub recorded : HasRow recordWidth records (clientWord clients q recordField)
 
--- what `finish` leaves
-pub record Finished (clients reads : List ℕ) (q place tag : ℕ) (s : Shown) (step : ℕ) (d : Delivered) (clients′ reads′ : List ℕ) : Type 0 where
-  pub shown : d ≡ record { arrival = Read tag; setpoints = s .setpoints; tags = s .tags }
-  pub idled : clients′ ≡ putClientWord clients q stateField idle
+-- what a READ shows that ends by A or B: both rows stand in the client's
+abbrev pub rowShown : ℕ → List ℕ → ℕ → ℕ → Delivered
+rowShown tag clients q mask = readShown tag (shownTags clients q mask) clients q mask
+
+-- what the end of a READ leaves whose client has the row and shows the tags
+pub record Finished
+    (row reads : List ℕ) (q mask place tag : ℕ) (tags : List ℕ) (step : ℕ) (d : Delivered) (clients′ reads′ : List ℕ) : Type 0 where
+  pub shown : d ≡ readShown tag tags row q mask
+  pub idled : clients′ ≡ putClientWord row q stateField idle
   pub recorded : reads′ ≡ endedRecord place step (taggedRecord place tag reads)
 
 -- C's choice has something to choose from: the opening's tag qualifies, and no more entries were received than the log has
@@ -64,7 +67,7 @@ abbrev pub FinishedByC : List ℕ → List ℕ → List ℕ → List ℕ → Lis
 FinishedByC clients keys values log reads q mask k place step d clients′ reads′ =
     let tag = tagFrom clients keys log q mask k in
     let row = concludedRow (chosenSetpoint keys values log (receivedIn clients q) tag) tag q mask k clients in
-    Finished row reads q place tag (record { setpoints = shownSetpoints row q mask; tags = chosenTags log mask k tag }) step d clients′ reads′
+    Finished row reads q mask place tag (chosenTags log mask k tag) step d clients′ reads′
 
 -- the tag chosen is below the entries received, and it qualifies
 module _ (clients keys log : List ℕ) (q mask k : ℕ) (some : 0 < receivedIn clients q coordinator) where

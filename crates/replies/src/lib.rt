@@ -1,17 +1,18 @@
-// The delivery of a reply, on tables known to be sound: the client goes on, waits or ends.
+// The delivery of a reply, on tables known to be sound: a function for each state that waits for one. The client goes on, waits or ends.
 ghost use mathlib.Core.Path.{_≡_};
 ghost use mathlib.Core.List.{List};
 ghost use Prim.Native.Nat.{ℕ, _+_, _<_};
 ghost use Rattle.tables.specs.Tables.{tablesOf};
 ghost use Rattle.tables.specs.Rows.{HasRow};
-ghost use Rattle.tables.specs.Layout.{clientWidth};
+ghost use Rattle.tables.specs.Layout.{clientWidth, recordWidth, stateField, countField, maskField, tagField, putClientWord, clientWord};
 ghost use Rattle.tables.specs.Links.{HasLinks, putLink};
-ghost use Rattle.tables.specs.Layout.{stateField, countField, maskField, recordWidth, putClientWord, clientWord};
 ghost use Rattle.keys.specs.Keys.{keyOf};
-ghost use Rattle.rules.specs.Answers.{arrived};
-ghost use Rattle.rules.specs.Common.{entering, coordinator, request};
-ghost use Rattle.rules.specs.Reply.{onSetDone, onEntered, onKeys, onGot, onAll, onReplyIn, replyDelivered};
-ghost use Rattle.replies.specs.Ready.{Settled, CountFits, GotReady, KeysReady, Finished, Concludable, FinishedByC, AllReady, Brings, ReplyReady};
+ghost use mathlib.Core.Bool.{cond};
+ghost use Rattle.rules.specs.declared.Arrival.the-variants.{Wait};
+ghost use Rattle.rules.specs.Answers.{arrived, nothingShown};
+ghost use Rattle.rules.specs.Common.{idle, entering, coordinator, request, endedRecord, taggedRecord};
+ghost use Rattle.rules.specs.Reply.{onSetDone, onEntered, onKeys, onGot, onAll};
+ghost use Rattle.replies.specs.Ready.{Settled, CountFits, GotReady, KeysReady, rowShown, Concludable, FinishedByC, AllReady};
 ghost use Rattle.choice.specs.Ready.{ChoiceReady};
 ghost use Rattle.requests.specs.Ready.{Answerable};
 use keys::Key;
@@ -19,7 +20,6 @@ use rules::Arrival;
 use rules::Delivered;
 use rules::states;
 use rules::words;
-use rules::words::Shown;
 use tables::clients;
 use tables::counts;
 use tables::links;
@@ -65,30 +65,31 @@ fn send_entry(clients: &mut [u32], links: &mut [u32], client: usize)
 }
 
 // State 1: the last acknowledgement sends the entry; the others only arrive.
-fn set_done(
+pub fn set_done(
     counts: &mut [u32],
     clients: &mut [u32],
     links: &mut [u32],
     client: usize,
     target: usize,
-) -> Delivered
+) -> Arrival
     requires { ⌜ Answerable (now counts) (now links) client target ⌝ }
     requires { ⌜ CountFits (now clients) client ⌝ }
     requires { ⌜ HasLinks (now links) client ⌝ }
     ensures { λ r. ⌜ ((keys values log writes reads : List ℕ) →
-        arrived r (tablesOf (now (counts .exit)) (now (clients .exit)) (now (links .exit)) keys values log writes reads)
-        ≡ onSetDone client target (tablesOf (now (counts .entry)) (now (clients .entry)) (now (links .entry)) keys values log writes reads)) ⌝ }
+        arrived (nothingShown r) (tablesOf (now (counts .exit)) (now (clients .exit)) (now (links .exit)) keys values log writes reads)
+        ≡ onSetDone client target
+        (tablesOf (now (counts .entry)) (now (clients .entry)) (now (links .entry)) keys values log writes reads)) ⌝ }
 {
     settle(counts, links, client, target);
     if rules::is_pending(&*links, client) {
-        return rules::showing_nothing(Arrival::Wait);
+        return Arrival::Wait;
     }
     send_entry(clients, links, client);
-    rules::showing_nothing(Arrival::Next)
+    Arrival::Next
 }
 
 // State 2: the tag's arrival ends the WRITE.
-fn entered(
+pub fn entered(
     counts: &mut [u32],
     clients: &mut [u32],
     links: &mut [u32],
@@ -96,23 +97,25 @@ fn entered(
     client: usize,
     target: usize,
     contents: Contents,
-) -> Delivered
+) -> Arrival
     requires { ⌜ Answerable (now counts) (now links) client target ⌝ }
     requires { ⌜ GotReady (now clients) (now writes) client ⌝ }
     ensures { λ r. ⌜ ((keys values log reads : List ℕ) →
-        arrived r (tablesOf (now (counts .exit)) (now (clients .exit)) (now (links .exit)) keys values log (now (writes .exit)) reads)
-        ≡ onEntered contents client target (tablesOf (now (counts .entry)) (now (clients .entry)) (now (links .entry)) keys values log (now (writes .entry)) reads)) ⌝ }
+        arrived (nothingShown r)
+        (tablesOf (now (counts .exit)) (now (clients .exit)) (now (links .exit)) keys values log (now (writes .exit)) reads)
+        ≡ onEntered contents client target
+        (tablesOf (now (counts .entry)) (now (clients .entry)) (now (links .entry)) keys values log (now (writes .entry)) reads)) ⌝ }
 {
     let step = settle(counts, links, client, target);
     let place = clients::client_word(clients, client, clients::RECORD);
     clients::put_client_word(clients, client, clients::TAG, contents.number);
     clients::put_client_word(clients, client, clients::STATE, states::IDLE);
     records::put_record_word(writes, place as usize, records::END, step);
-    rules::showing_nothing(Arrival::Write(contents.number))
+    Arrival::Write(contents.number)
 }
 
 // State 3: the last tag and its keys have come; each masked server is asked for its key.
-fn keys_told(
+pub fn keys_told(
     counts: &mut [u32],
     clients: &mut [u32],
     links: &mut [u32],
@@ -120,13 +123,15 @@ fn keys_told(
     client: usize,
     target: usize,
     contents: Contents,
-) -> Delivered
+) -> Arrival
     requires { ⌜ Answerable (now counts) (now links) client target ⌝ }
     requires { ⌜ HasLinks (now links) client ⌝ }
     requires { ⌜ KeysReady (now counts) (now clients) (now log) client (contents .number) ⌝ }
     ensures { λ r. ⌜ ((keys values writes reads : List ℕ) →
-        arrived r (tablesOf (now (counts .exit)) (now (clients .exit)) (now (links .exit)) keys values (now (log .entry)) writes reads)
-        ≡ onKeys contents client target (tablesOf (now (counts .entry)) (now (clients .entry)) (now (links .entry)) keys values (now (log .entry)) writes reads)) ⌝ }
+        arrived (nothingShown r)
+        (tablesOf (now (counts .exit)) (now (clients .exit)) (now (links .exit)) keys values (now (log .entry)) writes reads)
+        ≡ onKeys contents client target
+        (tablesOf (now (counts .entry)) (now (clients .entry)) (now (links .entry)) keys values (now (log .entry)) writes reads)) ⌝ }
 {
     let servers = counts::count_at(counts, counts::SERVERS);
     let mask = clients::client_word(clients, client, clients::MASK);
@@ -143,35 +148,22 @@ fn keys_told(
         tag as usize,
         servers as usize,
     );
-    rules::showing_nothing(Arrival::Next)
+    Arrival::Next
 }
 
-// A READ ends: the client is idle, the record gets tag and end, and the answer shows the setpoints and tags given.
-fn finish(
-    clients: &mut [u32],
-    reads: &mut [u32],
-    client: usize,
-    place: u32,
-    tag: u32,
-    shown: Shown,
-    step: u32,
-) -> Delivered
+// A READ ends: the client is idle, and the record gets tag and end.
+fn finish(clients: &mut [u32], reads: &mut [u32], client: usize, place: u32, tag: u32, step: u32)
     requires { ⌜ (HasRow clientWidth (now clients) client) × (HasRow recordWidth (now reads) place) ⌝ }
-    ensures { λ r. ⌜ Finished (now (clients .entry)) (now (reads .entry)) client place tag shown step r (now (clients .exit)) (now (reads .exit)) ⌝ }
+    ensures clients { λ _. ⌜ now (clients .exit) ≡ putClientWord (now (clients .entry)) client stateField idle ⌝ }
+    ensures reads { λ _. ⌜ now (reads .exit) ≡ endedRecord place step (taggedRecord place tag (now (reads .entry))) ⌝ }
 {
     clients::put_client_word(clients, client, clients::STATE, states::IDLE);
     history::end_read(reads, place as usize, tag, step);
-    let setpoints = shown.setpoints;
-    let tags = shown.tags;
-    Delivered {
-        arrival: Arrival::Read(tag),
-        setpoints: setpoints,
-        tags: tags,
-    }
 }
 
-// State 4: a setpoint has come; the last one ends the READ.
-fn got(
+// State 4: a setpoint has come; the last one ends the READ. The answer is whether the client still waits; where it does not, the READ shows
+// what the client's row has.
+pub fn got(
     counts: &mut [u32],
     clients: &mut [u32],
     links: &mut [u32],
@@ -179,15 +171,18 @@ fn got(
     client: usize,
     target: usize,
     contents: Contents,
-) -> Delivered
+) -> bool
     requires { ⌜ Answerable (now counts) (now links) client target ⌝ }
     requires { ⌜ (HasLinks (now links) client) × (target < 16) ⌝ }
     requires { ⌜ GotReady (now clients) (now reads) client ⌝ }
     ensures { λ r. ⌜ ((keys values log writes : List ℕ) →
-        arrived r (tablesOf (now (counts .exit)) (now (clients .exit)) (now (links .exit)) keys values log writes (now (reads .exit)))
-        ≡ onGot contents client target (tablesOf (now (counts .entry)) (now (clients .entry)) (now (links .entry)) keys values log writes (now (reads .entry)))) ⌝ }
+        arrived (cond r (nothingShown Wait)
+        (rowShown (clientWord (now (clients .entry)) client tagField) (now (clients .exit)) client
+        (clientWord (now (clients .entry)) client maskField)))
+        (tablesOf (now (counts .exit)) (now (clients .exit)) (now (links .exit)) keys values log writes (now (reads .exit)))
+        ≡ onGot contents client target
+        (tablesOf (now (counts .entry)) (now (clients .entry)) (now (links .entry)) keys values log writes (now (reads .entry)))) ⌝ }
 {
-    let mask = clients::client_word(clients, client, clients::MASK);
     let place = clients::client_word(clients, client, clients::RECORD);
     let tag = clients::client_word(clients, client, clients::TAG);
     let step = settle(counts, links, client, target);
@@ -198,10 +193,10 @@ fn got(
         contents.number,
     );
     if rules::is_pending(&*links, client) {
-        return rules::showing_nothing(Arrival::Wait);
+        return true;
     }
-    let shown = words::shown_words(&*clients, client, mask);
-    finish(clients, reads, client, place, tag, shown, step)
+    finish(clients, reads, client, place, tag, step);
+    false
 }
 
 // A READ ends under C: the tag is chosen, the setpoints at it are kept, and the READ finishes, showing the tags that they come from.
@@ -219,7 +214,8 @@ fn finish_by_c(
 ) -> Delivered
     requires { ⌜ ChoiceReady (now clients) (now keys) (now values) client servers ⌝ }
     requires { ⌜ Concludable (now clients) (now keys) (now log) (now reads) client mask servers place ⌝ }
-    ensures { λ r. ⌜ FinishedByC (now (clients .entry)) (now (keys .entry)) (now (values .entry)) (now (log .entry)) (now (reads .entry)) client mask servers place step r (now (clients .exit)) (now (reads .exit)) ⌝ }
+    ensures { λ r. ⌜ FinishedByC (now (clients .entry)) (now (keys .entry)) (now (values .entry)) (now (log .entry)) (now (reads .entry))
+        client mask servers place step r (now (clients .exit)) (now (reads .exit)) ⌝ }
 {
     let entries = clients::client_word(clients, client, clients::RECEIVED + links::COORDINATOR);
     let tag = choice::chosen_tag(
@@ -232,24 +228,18 @@ fn finish_by_c(
         entries as usize,
     ) as u32;
     let tags = choice::conclude(clients, keys, values, log, client, mask, servers, tag);
-    let shown = words::shown_words(&*clients, client, mask);
-    let setpoints = shown.setpoints;
-    finish(
-        clients,
-        reads,
-        client,
-        place,
-        tag,
-        Shown {
-            setpoints: setpoints,
-            tags: tags,
-        },
-        step,
-    )
+    let mut setpoints = [0u32; 16];
+    words::show_words(&*clients, client, clients::SETPOINTS, mask, &mut setpoints);
+    finish(clients, reads, client, place, tag, step);
+    Delivered {
+        arrival: Arrival::Read(tag),
+        setpoints: setpoints,
+        tags: tags,
+    }
 }
 
 // State 5: an n has come; when all replies are in, the READ ends.
-fn all_told(
+pub fn all_told(
     counts: &mut [u32],
     clients: &mut [u32],
     links: &mut [u32],
@@ -287,91 +277,4 @@ fn all_told(
         place,
         step,
     )
-}
-
-// A reply is taken by what the client's state waits for.
-fn reply_in_state(
-    counts: &mut [u32],
-    clients: &mut [u32],
-    links: &mut [u32],
-    keys: &[u32],
-    values: &[u32],
-    log: &[u32],
-    writes: &mut [u32],
-    reads: &mut [u32],
-    client: usize,
-    target: usize,
-    contents: Contents,
-) -> Delivered
-    requires { ⌜ Answerable (now counts) (now links) client target ⌝ }
-    requires { ⌜ (HasRow clientWidth (now clients) client) × (HasLinks (now links) client) ⌝ }
-    requires { ⌜ Brings (now counts) (now clients) (now links) (now keys) (now values) (now log) (now writes) (now reads) client target (contents .number) ⌝ }
-    ensures { λ r. ⌜ arrived r (tablesOf (now (counts .exit)) (now (clients .exit)) (now (links .exit)) (now (keys .entry)) (now (values .entry)) (now (log .entry)) (now (writes .exit)) (now (reads .exit)))
-        ≡ onReplyIn (clientWord (now (clients .entry)) client stateField) contents client target
-        (tablesOf (now (counts .entry)) (now (clients .entry)) (now (links .entry)) (now (keys .entry)) (now (values .entry)) (now (log .entry)) (now (writes .entry)) (now (reads .entry))) ⌝ }
-{
-    let state = clients::client_word(clients, client, clients::STATE);
-    if state == states::WRITING {
-        return set_done(counts, clients, links, client, target);
-    }
-    if state == states::ENTERING {
-        return entered(counts, clients, links, writes, client, target, contents);
-    }
-    if state == states::ASKING_KEYS {
-        return keys_told(counts, clients, links, log, client, target, contents);
-    }
-    if state == states::ASKING_SETPOINTS {
-        return got(counts, clients, links, reads, client, target, contents);
-    }
-    all_told(
-        counts,
-        clients,
-        links,
-        keys,
-        values,
-        log,
-        reads,
-        client,
-        target,
-        contents,
-    )
-}
-
-// Delivers the reply of a target to a client: 9 where the link has none.
-pub fn deliver_reply(
-    counts: &mut [u32],
-    clients: &mut [u32],
-    links: &mut [u32],
-    keys: &[u32],
-    values: &[u32],
-    log: &[u32],
-    writes: &mut [u32],
-    reads: &mut [u32],
-    client: usize,
-    target: usize,
-) -> Delivered
-    requires { ⌜ ReplyReady (now counts) (now clients) (now links) (now keys) (now values) (now log) (now writes) (now reads) client target ⌝ }
-    ensures { λ r. ⌜ arrived r (tablesOf (now (counts .exit)) (now (clients .exit)) (now (links .exit)) (now (keys .entry)) (now (values .entry)) (now (log .entry)) (now (writes .exit)) (now (reads .exit)))
-        ≡ replyDelivered client target
-        (tablesOf (now (counts .entry)) (now (clients .entry)) (now (links .entry)) (now (keys .entry)) (now (values .entry)) (now (log .entry)) (now (writes .entry)) (now (reads .entry))) ⌝ }
-{
-    let link = links::link_at(&*links, client, target);
-    let content = link.content;
-    match content {
-        links::Content::Nothing => rules::showing_nothing(Arrival::Refused(9)),
-        links::Content::Request(_) => rules::showing_nothing(Arrival::Refused(9)),
-        links::Content::Reply(contents) => reply_in_state(
-            counts,
-            clients,
-            links,
-            keys,
-            values,
-            log,
-            writes,
-            reads,
-            client,
-            target,
-            contents,
-        ),
-    }
 }

@@ -5,8 +5,10 @@ use mathlib.Core.Bool.{Bool, true, false}
 use mathlib.Core.List.{List}
 use native.Mathlib.Omega.{arith}
 use borrow.Author.Tests.{eq-eqb, ne-eqb, lt-ltb, le-ltb}
-use Rattle.server.specs.Held.{appended, appendLeft, Appended, append-kept, append-count, firstBearing}
-use Rattle.coordinator.specs.Log.{entered, enterLeft, Entered, enter-kept, enter-count}
+use Rattle.server.specs.Held.{appended, appendLeft, Appended, firstBearing}
+use Rattle.server.specs.HeldLaws.{append-kept, append-count}
+use Rattle.coordinator.specs.Log.{entered, enterLeft, Entered}
+use Rattle.coordinator.specs.LogLaws.{enter-kept, enter-count}
 use Rattle.tables.specs.Layout.{countAt, stepField, versionWord}
 use Rattle.tables.specs.Links.{putLink, linkAt}
 use Rattle.tables.specs.Tables.{Tables, tablesOf, entriesOf, heldOf, stateOf, recordOf}

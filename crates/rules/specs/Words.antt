@@ -6,8 +6,7 @@ use lib.ListN.{set, replicate}
 use Rattle.ranges.specs.Turns.{turns}
 use Rattle.ranges.specs.Picked.{picked}
 use Rattle.keys.specs.Masks.{hasServer}
-use Rattle.tables.specs.Layout.{setpointsField, tagsField, clientWord, putClientWord}
-use Rattle.rules.specs.declared.words.Shown.{Shown}
+use Rattle.tables.specs.Layout.{clientWord, putClientWord}
 
 -- where a row has a word for all, masked or not
 abbrev pub every : ℕ → Bool
@@ -20,16 +19,16 @@ keepWord field word q i clients = putClientWord clients q (field + i) (word i)
 abbrev pub keptWords : ℕ → (ℕ → Bool) → (ℕ → ℕ) → ℕ → ℕ → List ℕ → List ℕ
 keptWords field wanted word q k clients = turns (picked wanted (keepWord field word q)) k clients
 
--- a row of 16: a word of each wanted server below k, 0 elsewhere
+-- a row gets a word of each wanted server i below k at its place; in a row of 16, of which all else is 0
 abbrev pub layWord : (ℕ → ℕ) → ℕ → List ℕ → List ℕ
 layWord word i row = set row i (word i)
 
-abbrev pub laidWords : (ℕ → Bool) → (ℕ → ℕ) → ℕ → List ℕ
-laidWords wanted word k = turns (picked wanted (layWord word)) k (replicate 16 0)
+abbrev pub laidOver : (ℕ → Bool) → (ℕ → ℕ) → ℕ → List ℕ → List ℕ
+laidOver wanted word k row = turns (picked wanted (layWord word)) k row
 
--- what an answer shows: of each masked server the client's word at field + i, 0 elsewhere; and both of its rows
+abbrev pub laidWords : (ℕ → Bool) → (ℕ → ℕ) → ℕ → List ℕ
+laidWords wanted word k = laidOver wanted word k (replicate 16 0)
+
+-- what an answer shows: of each masked server the client's word at field + i, 0 elsewhere
 abbrev pub shownWords : ℕ → List ℕ → ℕ → ℕ → List ℕ
 shownWords field clients q mask = laidWords (hasServer mask) (λ i. clientWord clients q (field + i)) 16
-
-abbrev pub shownBoth : List ℕ → ℕ → ℕ → Shown
-shownBoth clients q mask = record { setpoints = shownWords setpointsField clients q mask; tags = shownWords tagsField clients q mask }

@@ -13,7 +13,7 @@ use Rattle.ranges.specs.Turns.{turns, turns-keep-below}
 use Rattle.ranges.specs.PickedLaws.{is-picked, not-picked}
 use Rattle.keys.specs.Masks.{hasServer}
 use Rattle.tables.specs.Rows.{HasRow, word-same, word-other}
-use Rattle.tables.specs.Layout.{clientWidth, clientWord}
+use Rattle.tables.specs.Layout.{clientWidth, clientWord, putClientWord}
 use Rattle.rules.specs.Words.{every, keepWord, keptWords, layWord, laidWords, shownWords}
 
 -- Words kept for some of k servers, from a field on.
@@ -89,6 +89,20 @@ laid-at wanted word k i h l e =
 pub shown-at : (field : ℕ) (clients : List ℕ) (q mask i : ℕ) → i < 16 → hasServer mask i ≡ true →
     getD (shownWords field clients q mask) i 0 ≡ clientWord clients q (field + i)
 shown-at field clients q mask i l e = laid-at (hasServer mask) (λ j. clientWord clients q (field + j)) 16 i (omega arith) l e
+
+-- the same words below k: the same row
+pub laid-same : (wanted : ℕ → Bool) (word word′ : ℕ → ℕ) (k : ℕ) → ((i : ℕ) → i < k → word i ≡ word′ i) →
+    laidWords wanted word k ≡ laidWords wanted word′ k
+unfolding turns
+laid-same wanted word word′ zero e = refl
+laid-same wanted word word′ (suc k) e = rw (e k (omega arith), laid-same wanted word word′ k (λ i l. e i (omega arith)))
+
+-- a word put ahead of the field shows nothing else
+pub shown-other : (field : ℕ) (clients : List ℕ) (q f v mask : ℕ) → field + 16 ≤ clientWidth → f < field →
+    shownWords field (putClientWord clients q f v) q mask ≡ shownWords field clients q mask
+shown-other field clients q f v mask h l =
+    laid-same (hasServer mask) _ _ 16
+    (λ i b. word-other clientWidth clients q f v q (field + i) (omega arith) (omega arith) (λ y. omega (arith, y .1)))
 
 -- words laid into a row of 16 first, and kept from there, are the words themselves
 pub kept-laid : (field : ℕ) (wanted : ℕ → Bool) (word : ℕ → ℕ) (q k : ℕ) (clients : List ℕ) → k ≤ 16 →

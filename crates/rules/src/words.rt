@@ -5,8 +5,8 @@ ghost use Prim.Native.Nat.{_+_, _≤_, _<_};
 ghost use lib.ListN.{length, getD};
 ghost use Rattle.keys.specs.Masks.{hasServer};
 ghost use Rattle.tables.specs.Rows.{HasRow};
-ghost use Rattle.tables.specs.Layout.{clientWidth, putClientWord};
-ghost use Rattle.rules.specs.Words.{keptWords, shownBoth};
+ghost use Rattle.tables.specs.Layout.{clientWidth, clientWord, putClientWord};
+ghost use Rattle.rules.specs.Words.{keptWords, laidOver};
 use tables::clients;
 
 // The mask that has every server, and the coordinator.
@@ -46,29 +46,19 @@ pub fn keep_words(
     }
 }
 
-// What a client's row shows of the masked servers: setpoints, and the tags of the WRITEs that put them there; 0 elsewhere.
-pub struct Shown {
-    pub setpoints: [u32; 16],
-    pub tags: [u32; 16],
-}
-
-// Both in one walk over the servers: at the end of a READ under A or B there is little else to do.
-pub fn shown_words(clients: &[u32], client: usize, mask: u32) -> Shown
+// A row of 16 gets the words of the masked servers that the client's row has, from a field on. What it has for the other servers stays.
+// The row is lent: one that is returned is built from 16 numbers, and copied.
+pub fn show_words(clients: &[u32], client: usize, field: usize, mask: u32, row: &mut [u32; 16])
     requires { ⌜ HasRow clientWidth (now clients) client ⌝ }
-    ensures { λ r. ⌜ r ≡ shownBoth (now (clients .entry)) client mask ⌝ }
+    requires { ⌜ field + 16 ≤ clientWidth ⌝ }
+    ensures { λ _. ⌜ now (row .exit)
+        ≡ laidOver (hasServer mask) (λ i. clientWord (now (clients .entry)) client (field + i)) 16 (now (row .entry)) ⌝ }
 {
-    let mut setpoints = [0u32; 16];
-    let mut tags = [0u32; 16];
     let mut server = 0;
     while server < 16 {
         if keys::has_server(mask, server) {
-            setpoints[server] = clients::client_word(clients, client, clients::SETPOINTS + server);
-            tags[server] = clients::client_word(clients, client, clients::TAGS + server);
+            row[server] = clients::client_word(clients, client, field + server);
         }
         server += 1;
-    }
-    Shown {
-        setpoints: setpoints,
-        tags: tags,
     }
 }

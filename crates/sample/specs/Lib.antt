@@ -1,2 +1,3 @@
 -- Document 01's sample, line by line, and what "The yard program" prints for it.
 pub mod Sample
+pub mod Played

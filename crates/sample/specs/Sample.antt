@@ -1,5 +1,5 @@
 -- Document 01's sample: the text of "The yard program" computes to what document 01 prints for it, every answer and then the register,
--- on the definitions that the contracts of `playing` and `register_text` cite. Texts are bytes, each line below its letters.
+-- on the definition that the contract of `texts::play_text` cites. Texts are bytes, each line below its letters.
 use Prim.Native.Nat.{ℕ, _*_}
 use mathlib.Core.Path.{_≡_, refl}
 use mathlib.Core.List.{List, [], _∷_, _++_, flatMap}
@@ -9,6 +9,7 @@ use Rattle.ranges.specs.Sum.{sumBelow}
 use Rattle.ranges.specs.First.{firstFrom}
 use Rattle.ranges.specs.Last.{lastBelow}
 use Rattle.ranges.specs.Turns.{turns}
+use Rattle.ranges.specs.Inserted.{inserted}
 use Rattle.tables.specs.Layout.{countWords, clientWidth, serverPlaces, logPlaces, entryWidth, recordPlaces, recordWidth}
 use Rattle.tables.specs.Links.{targets, linkWidth, linkAt, putLink}
 use Rattle.tables.specs.Tables.{Tables, tablesOf}
@@ -22,13 +23,14 @@ use Rattle.soundness.specs.Sound.{requestSound, replySound, contentSound, linkS
 use Rattle.soundness.specs.Sound.{openSound, recordsSound, sound}
 use Rattle.refusals.specs.Refusals.{openRefusal, writeRefusal, readRefusal, deliveryRefusal}
 use Rattle.refusals.specs.Steps as store
-use Rattle.listing.specs.Register.{placesBelow, passing, inserted, insertedAll, listedTo}
+use Rattle.listing.specs.Register.{placesBelow, passing, insertedAll, listedTo}
 use Rattle.schedule.specs.Lines.{linesOf}
 use Rattle.schedule.specs.Numbers.{digitOf, digitHead, readOn, numberOf, spacedOf, numbersBehind}
 use Rattle.schedule.specs.Decimal.{digits, spacedAll}
 use Rattle.schedule.specs.Steps.{stepOf}
 use Rattle.playing.specs.Played.{playedLine, played, answersFrom}
 use Rattle.register_text.specs.Text.{registerPrinted}
+use Rattle.texts.specs.Text.{leftByLines, printOf}
 
 -- the input
 unfoldable pub text : List ℕ
@@ -114,22 +116,13 @@ zeros =
     (replicate (serverPlaces * 2) 0) (replicate (serverPlaces * 2) 0) (replicate (entryWidth * logPlaces) 0)
     (replicate (recordWidth * recordPlaces) 0) (replicate (recordWidth * recordPlaces) 0)
 
--- the tables that some lines leave
-unfoldable pub leftBy : List (List ℕ) → Tables → Tables
-leftBy [] t = t
-leftBy (line ∷ lines) t = leftBy lines (playedLine line t .tables)
-
--- all that a text prints
-unfoldable pub printed : List ℕ → Tables → List ℕ
-printed text t = answersFrom 1 (linesOf text) t ++ registerPrinted (leftBy (linesOf text) t)
-
-pub sample-printed : printed text zeros ≡ answers ++ lines
-unfolding text answers lines zeros leftBy printed linesOf digitOf digitHead readOn numberOf spacedOf numbersBehind digits spacedAll stepOf
-    played answersFrom registerPrinted flatMap placesBelow passing inserted insertedAll listedTo
-    store.open′ store.beginWrite store.beginRead store.deliverRequest store.deliverReply
-    openRefusal writeRefusal readRefusal deliveryRefusal longEnough pressFits turns
+-- what the text prints
+pub sample-printed : printOf text zeros ≡ answers ++ lines
+unfolding text answers lines zeros leftByLines printOf linesOf digitOf digitHead readOn numberOf spacedOf numbersBehind digits spacedAll
+    stepOf played answersFrom registerPrinted flatMap placesBelow passing inserted insertedAll listedTo store.open′ store.beginWrite
+    store.beginRead store.deliverRequest store.deliverReply openRefusal writeRefusal readRefusal deliveryRefusal longEnough pressFits turns
     sound scalarsSound keyInRange serverSound entrySound logSound stateAllowed uses requestSound replySound contentSound linkSound
     receivedSound clientSound writeSound readSound openSound recordsSound allBelow anyBelow sumBelow linkAt putLink firstFrom lastBelow
-    appended log.entered begunWrite begunRead onSet onEnter onWhichKeys onGet onGetAll onRequestIn requestDelivered
-    onSetDone onEntered onKeys onGot onAll onReplyIn replyDelivered
+    appended log.entered begunWrite begunRead onSet onEnter onWhichKeys onGet onGetAll onRequestIn requestDelivered onSetDone onEntered
+    onKeys onGot onAll onReplyIn replyDelivered
 sample-printed = refl

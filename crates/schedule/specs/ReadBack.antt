@@ -4,16 +4,17 @@ use mathlib.Core.Path.{_≡_, refl, ap, sym, _∙_}
 use mathlib.Core.Bool.{true, true≢false}
 use mathlib.Core.Logic.{_⊎_, inl, inr}
 use mathlib.Core.List.{List, [], _∷_, _++_, append-assoc}
-use native.Mathlib.Nat.{pow-succ'}
+use native.Mathlib.Nat.{pow-succ', mul-suc}
 use native.Mathlib.Omega.{arith}
 use lib.ListN.{length, drop, length-append}
 use lib.Seq.{drop-append-seam, drop-at, drop-nil, append-snoc}
 use lib.Dec.{eqb, leb, ltb}
-use borrow.Author.Tests.{le-leb, lt-ltb, ltb-true, ltb-false, leb-true, eqb-true}
-use Rattle.ranges.specs.Tests.{by-test, both-left, both-right}
+use borrow.Author.Tests.{le-leb, lt-ltb, ltb-true, ltb-false, leb-true, eqb-true, ne-eqb}
+use Rattle.ranges.specs.Tests.{either, by-test, both-left, both-right}
 use Rattle.schedule.specs.declared.Number.{Number}
 use Rattle.schedule.specs.declared.Number.the-variants.{Value, Not}
-use Rattle.schedule.specs.Decimal.{glyph, decimal, spacedAll}
+use Rattle.schedule.specs.Lines.{linesOf}
+use Rattle.schedule.specs.Decimal.{glyph, digits, decimal, spacedAll}
 use Rattle.schedule.specs.DecimalLaws.{decimal-one, decimal-more}
 use Rattle.schedule.specs.declared.Step.{Step}
 use Rattle.schedule.specs.declared.Step.the-variants.{Unreadable, Open, BeginWrite, BeginRead, Request, Reply}
@@ -132,6 +133,59 @@ pub step-back : (n : Named) → FitsLine n → stepOf (stepText n) ≡ n
 step-back n f =
     step-read (lineByte (n .step)) (spacedAll (lineNumbers (n .step) (n .setpoints))) (f .size)
     ∙ rw (numbers-back (lineNumbers (n .step) (n .setpoints)) (f .numbers)) (named-back (n .step) (n .setpoints) (f .shape))
+
+-- A printed step is one line, whatever stands behind its byte 10: no byte of its text is one.
+abbrev NoTen : List ℕ → Type 0
+NoTen [] = Unit {0}
+NoTen (byte ∷ rest) = (byte ≡ 10 → ⊥) × NoTen rest
+
+no-ten-append : (a b : List ℕ) → NoTen a → NoTen b → NoTen (a ++ b)
+no-ten-append [] b f g = g
+no-ten-append (byte ∷ a) b f g = (f .0, no-ten-append a b (f .1) g)
+
+glyph-no-ten : (d : ℕ) → NoTen (glyph d ∷ [])
+glyph-no-ten d = (λ e. omega arith, tt)
+
+digits-no-ten : (most n : ℕ) → NoTen (digits most n)
+unfolding digits
+digits-no-ten zero n = tt
+digits-no-ten (suc most) n =
+    either NoTen (ltb n 10) (glyph-no-ten n)
+    (no-ten-append (digits most (n / 10)) (glyph (n % 10) ∷ []) (digits-no-ten most (n / 10)) (glyph-no-ten (n % 10)))
+
+spaced-no-ten : (l : List ℕ) → NoTen (spacedAll l)
+unfolding spacedAll
+spaced-no-ten [] = tt
+spaced-no-ten (n ∷ rest) = (λ e. omega arith, no-ten-append (decimal n) (spacedAll rest) (digits-no-ten 20 n) (spaced-no-ten rest))
+
+byte-no-ten : (step : Step) → lineByte step ≡ 10 → ⊥
+byte-no-ten Unreadable e = omega arith
+byte-no-ten (Open method servers clients) e = omega arith
+byte-no-ten (BeginWrite client mask) e = omega arith
+byte-no-ten (BeginRead client mask) e = omega arith
+byte-no-ten (Request client target) e = omega arith
+byte-no-ten (Reply client target) e = omega arith
+
+first-line : (text rest : List ℕ) → NoTen text → linesOf (text ++ (10 ∷ rest)) ≡ text ∷ linesOf rest
+unfolding linesOf
+first-line [] rest f = refl
+first-line (byte ∷ text) rest f = rw (ne-eqb byte 10 (f .0), first-line text rest (f .1))
+
+pub step-line : (n : Named) (rest : List ℕ) → linesOf (stepText n ++ (10 ∷ rest)) ≡ stepText n ∷ linesOf rest
+step-line n rest =
+    first-line (stepText n) rest (byte-no-ten (n .step), spaced-no-ten (lineNumbers (n .step) (n .setpoints)))
+
+-- How long a row of numbers is as text, by the digits that each has at most.
+abbrev pub AllShort : ℕ → List ℕ → Type 0
+AllShort most [] = Unit {0}
+AllShort most (n ∷ rest) = (length (decimal n) ≤ most) × AllShort most rest
+
+pub spaced-short : (most : ℕ) (l : List ℕ) → AllShort most l → length (spacedAll l) ≤ (1 + most) * length l
+unfolding spacedAll
+spaced-short most [] f = omega arith
+spaced-short most (n ∷ rest) f =
+    rw (mul-suc (1 + most) (length rest), length-append (decimal n) (spacedAll rest))
+    (omega (arith, f .0, spaced-short most rest (f .1)))
 
 -- The other way: what is read is the text of what it is read as.
 

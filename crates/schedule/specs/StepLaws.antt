@@ -141,13 +141,13 @@ few-setpoints (byte ∷ rest) =
     (λ e. rw e (omega arith))
 
 -- what the number reader's answer tells
-count-broken : (read : Read) → Broken ≡ countOf read → read .whole ≡ false
+pub count-broken : (read : Read) → Broken ≡ countOf read → read .whole ≡ false
 count-broken read e =
     by-test (read .whole)
     (λ t. let f : Broken ≡ All (length (read .numbers)) = e ∙ rw t in let z : _≡_ {A = ℕ} 0 1 = cc in let y : ⊥ = omega arith in absurd y)
     (λ t. t)
 
-count-all : (read : Read) {n : ℕ} → All n ≡ countOf read → (read .whole ≡ true) × (n ≡ length (read .numbers))
+pub count-all : (read : Read) {n : ℕ} → All n ≡ countOf read → (read .whole ≡ true) × (n ≡ length (read .numbers))
 count-all read {n} e =
     by-test (read .whole)
     (λ t. let f : All n ≡ All (length (read .numbers)) = e ∙ rw t in (t, cc))

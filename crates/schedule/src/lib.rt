@@ -11,7 +11,7 @@ ghost use Rattle.schedule.specs.StepLaws.{Fits};
 // A line's bytes at most; so its numbers, of two bytes or more each behind its first byte; so its setpoints, behind two numbers or more.
 pub const LINE: usize = 200;
 
-const NUMBERS: usize = (LINE - 1) / 2;
+pub const NUMBERS: usize = (LINE - 1) / 2;
 
 pub const SETPOINTS: usize = NUMBERS - 2;
 
@@ -115,10 +115,11 @@ pub enum Numbers {
     All(usize),
 }
 
-// The numbers of what stands behind a line's first byte, into a place that holds as many as fit a line.
-fn numbers_in(part: &[u8], numbers: &mut [u32]) -> Numbers
+// The numbers of a part of a line, each behind one space, into a place for as many as fit a line. The line's first byte is not in it.
+pub fn numbers_in(part: &[u8], numbers: &mut [u32]) -> Numbers
     requires { ⌜ (length (now part) ≤ lineMost - 1) × (numbersMost ≤ length (now numbers)) ⌝ }
-    ensures { λ r. ⌜ (r ≡ countOf (numbersOf (now (part .entry)))) × (now (numbers .exit) ≡ stored (numbersOf (now (part .entry)) .numbers) (now (numbers .entry))) ⌝ }
+    ensures { λ r. ⌜ (r ≡ countOf (numbersOf (now (part .entry))))
+        × (now (numbers .exit) ≡ stored (numbersOf (now (part .entry)) .numbers) (now (numbers .entry))) ⌝ }
 {
     let mut at = 0;
     let mut count = 0;

@@ -11,6 +11,7 @@ use lib.Dec.{ltb}
 use borrow.Author.Tests.{ltb-true, ltb-false}
 use Rattle.ranges.specs.Tests.{either, by-equal, by-test, not-both}
 use Rattle.ranges.specs.Each.{Each, each-append, each-map, each-at}
+use Rattle.ranges.specs.InsertedLaws.{each-inserted}
 use Rattle.rules.specs.declared.Answer.the-variants as answer
 use Rattle.rules.specs.declared.Arrival.{Arrival}
 use Rattle.rules.specs.declared.Arrival.the-variants as arrival
@@ -145,7 +146,7 @@ module _ (h : History) (ok : Timely h) where
   showed-timely tag d (tagged t) q = stays (suc (h .astray))
   showed-timely tag d (reading mask begin deliveries) q =
       let k = kept (changed (h .doing) q nothing) (h .astray) (new-doing q nothing tt) in
-      record { reads = each-append IsRead (h .reads) _ (ok .reads) (refl, tt); doing = k .doing; begun = k .begun; ends = k .ends }
+      record { reads = each-inserted _ IsRead _ (h .reads) refl (ok .reads); doing = k .doing; begun = k .begun; ends = k .ends }
 
   arrived-timely : (a : Arrival) (d : Delivered) (q : ℕ) → Timely (arrived a d q h)
   arrived-timely arrival.Wait d q = delivered-timely (h .doing q) q

@@ -3,23 +3,24 @@ use Prim.Native.Nat.{ℕ, zero, suc, _≤_, _<_}
 use mathlib.Core.Path.{_≡_, refl, sym, ap, _∙_}
 use mathlib.Core.Bool.{Bool, true, false, cond, false≢true}
 use mathlib.Core.Option.{none, some, Option·none-ne-some, Option·some-injective}
-use mathlib.Core.List.{List, [], _∷_}
+use mathlib.Core.List.{List}
 use native.Mathlib.Omega.{arith}
 use Rattle.ranges.specs.Tests.{by-equal}
-use Rattle.ranges.specs.Each.{Each, each-append, each-map}
+use Rattle.ranges.specs.Each.{each-map}
+use Rattle.ranges.specs.InsertedLaws.{each-inserted}
 use Rattle.rules.specs.declared.Answer.the-variants.{Ok, Refused}
 use Rattle.rules.specs.declared.Arrival.{Arrival}
 use Rattle.rules.specs.declared.Arrival.the-variants as arrival
 use Rattle.rules.specs.declared.Delivered.{Delivered}
 use Rattle.serial.specs.Steps.{Event, opened, begun-write, begun-read, requested, replied}
-use Rattle.serial.specs.History.{Value, valueOpened, valueWritten, valueShown, changed, Transaction, Doing, nothing, writing}
+use Rattle.serial.specs.History.{Value, valueOpened, valueWritten, changed, Transaction, Doing, nothing, writing}
 use Rattle.serial.specs.History.{tagged, reading, History, historyOf, passed, turned, begun, delivered, writeOf, given, entered}
-use Rattle.serial.specs.History.{ended, wrote, readOf, showed, arrived, fresh, extraOf, atCoordinator, after}
+use Rattle.serial.specs.History.{ended, wrote, showed, arrived, fresh, extraOf, atCoordinator, after}
 use Rattle.serial.specs.Claim.{EndsAt, Unfinished}
 use Rattle.serial.proofs.Places.{changed-same, changed-other, changed-all, changed-both}
-use Rattle.serial.proofs.Lists.{pairs-append}
+use Rattle.serial.proofs.Lists.{pairs-inserted}
 use Rattle.serial.proofs.Owed.{valueAt, More, OwedRead, OwedArrival, Owed, floorAfter}
-use Rattle.serial.proofs.HistoryOk.{Timed, Rising, DoingOk, Later, Shown, WriteOk, HistoryOk}
+use Rattle.serial.proofs.HistoryOk.{Timed, Rising, DoingOk, NoLater, Shown, WriteOk, HistoryOk}
 
 -- Values behind a tag go by masks and values of the WRITEs up to it.
 pub value-same : (initial : ℕ → Value) (f g : ℕ → Transaction) (n : ℕ) →
@@ -194,23 +195,21 @@ module _ (tagsAt floor : ℕ → ℕ) (h : History) (ok : HistoryOk tagsAt floor
   showed-ok : (q tag : ℕ) (d : Delivered) → OwedRead (floor q) h (h .doing q) tag d → HistoryOk now′ floor (showed tag d (h .doing q) q h)
   showed-ok q tag d owed =
       let c : (owed .begin < h .clock) × (tagsAt (owed .begin) ≤ floor q) × (floor q ≤ h .tags) = rw (owed .is) at (ok .doing q) in
-      let x = readOf q (owed .mask) (valueShown d) tag (owed .begin) (h .clock) (suc (owed .deliveries)) in
       rw (owed .is) record {
-        order = pairs-append Later (h .reads) _ (ok .order) (tt, tt) (each-map _ (λ y. Each (Later y) (x ∷ [])) (λ y s. ((λ e k. rw (← Option·some-injective _ _ k) (s .begun)), tt)) (h .reads) (ok .reads));
+        order = pairs-inserted _ NoLater _ (λ y l. omega arith) (λ y l. omega arith) (λ y z l k. omega arith) (h .reads) (ok .order);
         rising = rising-on tagsAt (h .clock) (h .tags) (h .tags) (omega arith) (ok .now) (ok .rising);
         now = changed-same tagsAt (suc (h .clock)) (h .tags);
         writes = λ t l k. write-on tagsAt (h .clock) (h .tags) t _ (ok .writes t l k);
-        reads = each-append _ (h .reads) _ (each-map _ _ (timed-on tagsAt (h .clock) (h .tags)) (h .reads) (ok .reads)) (
-          record {
-            begun = omega (arith, c .0);
-            low = omega (arith, before tagsAt (h .clock) (h .tags) (owed .begin) (omega (arith, c .0)), c .1, owed .low);
-            above = λ k. absurd (false≢true k);
-            high = λ e y. rw (← Option·some-injective _ _ y) (c .0, omega arith, rw (changed-same tagsAt (suc (h .clock)) (h .tags)) (owed .high));
-          },
-          tt,
-        );
-        shown = each-append (Shown h) (h .reads) _ (ok .shown) ((refl, owed .high, owed .shows), tt);
-        ends = each-append (EndsAt (h .extra)) (h .reads) _ (ok .ends) ((λ k. owed .count), tt);
+        reads = each-inserted _ (Timed (suc (h .clock)) now′) _ (h .reads) (record {
+          begun = omega (arith, c .0);
+          low = omega (arith, before tagsAt (h .clock) (h .tags) (owed .begin) (omega (arith, c .0)), c .1, owed .low);
+          above = λ k. absurd (false≢true k);
+          high = λ e y.
+              rw (← Option·some-injective _ _ y) (c .0, omega arith, rw (changed-same tagsAt (suc (h .clock)) (h .tags)) (owed .high));
+        })
+            (each-map _ _ (timed-on tagsAt (h .clock) (h .tags)) (h .reads) (ok .reads));
+        shown = each-inserted _ (Shown h) _ (h .reads) (refl, omega (arith, owed .high), λ i m. cc (owed .shows i m)) (ok .shown);
+        ends = each-inserted _ (EndsAt (h .extra)) _ (h .reads) (λ k. owed .count) (ok .ends);
         tags = ok .tags;
         unfinished = changed-all (h .doing) q nothing (λ j y. Unfinished (h .extra) y) tt (λ j ne. ok .unfinished j);
         doing = changed-all (h .doing) q nothing (λ j y. DoingOk (suc (h .clock)) (h .tags) now′ (floor j) y) tt (λ j ne. old-doing j);

@@ -33,10 +33,11 @@ DoingOk clock tags tagsAt floor (writing mask setpoints begin) = (begin < clock)
 DoingOk clock tags tagsAt floor (tagged tag) = (1 ≤ tag) × (tag ≤ tags)
 DoingOk clock tags tagsAt floor (reading mask begin deliveries) = (begin < clock) × (tagsAt begin ≤ floor) × (floor ≤ tags)
 
--- the second ends after the first began
-abbrev pub Later : Transaction → Transaction → Type 0
-Later x y = (e : ℕ) → y .end ≡ some e → x .begin < e
+-- the first began no later than the second
+abbrev pub NoLater : Transaction → Transaction → Type 0
+NoLater x y = x .begin ≤ y .begin
 
+-- the second did not end before the first began
 abbrev pub NotBefore : Transaction → Transaction → Type 0
 NotBefore x y = (e : ℕ) → y .end ≡ some e → x .begin ≤ e
 
@@ -50,8 +51,8 @@ pub record WriteOk (clock : ℕ) (tagsAt : ℕ → ℕ) (place : ℕ) (x : Trans
   pub timed : Timed clock tagsAt x
 
 pub record HistoryOk (tagsAt floor : ℕ → ℕ) (h : History) : Type 0 where
-  -- READs stand in order of their ends
-  pub order : Pairs Later (h .reads)
+  -- READs stand in order of their begins
+  pub order : Pairs NoLater (h .reads)
   pub rising : Rising (h .clock) tagsAt
   pub now : tagsAt (h .clock) ≡ h .tags
   pub writes : (tag : ℕ) → 1 ≤ tag → tag ≤ h .tags → WriteOk (h .clock) tagsAt tag (h .write tag)
@@ -139,8 +140,11 @@ module _ (tagsAt floor : ℕ → ℕ) (h : History) (ok : HistoryOk tagsAt floor
       (each-map (UpTo tag) (UpTo (suc tag)) (λ x q. (omega (arith, q .0), q .1)) (rowTo h tag) (timed tag (omega arith)))
       (each-map (With (suc tag)) (UpTo (suc tag)) (λ x q. (omega (arith, q .0), q .1)) (h .write (suc tag) ∷ readsOf (suc tag) (h .reads)) (write-with (suc tag) (omega arith) l, reads-with (suc tag)))
 
+  -- a READ ahead of another began no later, and the other ended behind its own begin
   reads-ordered : (tag : ℕ) → Pairs NotBefore (readsOf tag (h .reads))
-  reads-ordered tag = pairs-map Later NotBefore (λ x y q e f. omega (arith, q e f)) (readsOf tag (h .reads)) (reads-pairs Later tag (h .reads) (ok .order))
+  reads-ordered tag =
+      pairs-map Time NoLater NotBefore (λ x y timed q e f. omega (arith, q, timed .high e f .0)) (readsOf tag (h .reads))
+      (reads-only Time tag (h .reads) (ok .reads)) (reads-pairs NoLater tag (h .reads) (ok .order))
 
   later : (x y : Transaction) → Time x → Time y → tagsAt (x .begin) < y .tag → NotBefore x y
   later = not-before (h .clock) tagsAt (ok .rising)

@@ -6,14 +6,20 @@ use mathlib.Core.List.{List, [], _∷_, _++_}
 use native.Mathlib.Nat.{zero-add}
 use native.Mathlib.Omega.{arith}
 use lib.ListN.{length, getD, length-append}
-use lib.Dec.{eqb, leb}
-use borrow.Author.Tests.{eqb-true, eq-eqb, ne-eqb, leb-true, leb-false, le-leb, lt-leb}
+use lib.Dec.{eqb, ltb, leb}
+use borrow.Author.Tests.{eqb-true, eq-eqb, ne-eqb, ltb-true, ltb-false, leb-true, leb-false, le-leb, lt-leb}
 use Rattle.ranges.specs.Tests.{either, by-equal, by-test}
 use Rattle.ranges.specs.Each.{Each, each-append, each-map, each-at}
+use Rattle.ranges.specs.Inserted.{inserted}
+use Rattle.ranges.specs.InsertedLaws.{each-inserted}
 use Rattle.serial.specs.History.{Transaction, History}
 use Rattle.serial.specs.Row.{readsOf, rowTo, row}
 
 module _ {A : Type 0} where
+  each-both : (P Q S : A → Type 0) → ((x : A) → P x → Q x → S x) → (xs : List A) → Each P xs → Each Q xs → Each S xs
+  each-both P Q S f [] a b = tt
+  each-both P Q S f (x ∷ xs) a b = (f x (a .0) (b .0), each-both P Q S f xs (a .1) (b .1))
+
   -- each with every one behind it
   abbrev pub Pairs : (A → A → Type 0) → List A → Type 0
   Pairs R [] = Unit {0}
@@ -23,9 +29,24 @@ module _ {A : Type 0} where
   pairs-append R [] ys a b c = b
   pairs-append R (x ∷ xs) ys a b c = (each-append (R x) xs ys (a .0) (c .0), pairs-append R xs ys (a .1) b (c .1))
 
-  pub pairs-map : (R Q : A → A → Type 0) → ((x y : A) → R x y → Q x y) → (xs : List A) → Pairs R xs → Pairs Q xs
-  pairs-map R Q f [] a = tt
-  pairs-map R Q f (x ∷ xs) a = (each-map (R x) (Q x) (f x) xs (a .0), pairs-map R Q f xs (a .1))
+  -- what follows of two of them, with what holds of each
+  pub pairs-map : (P : A → Type 0) (R Q : A → A → Type 0) → ((x y : A) → P y → R x y → Q x y) →
+      (xs : List A) → Each P xs → Pairs R xs → Pairs Q xs
+  pairs-map P R Q f [] e a = tt
+  pairs-map P R Q f (x ∷ xs) e a = (each-both P (R x) (Q x) (f x) xs (e .1) (a .0), pairs-map P R Q f xs (e .1) (a .1))
+
+  -- one member more, by its number: each two stay so, where numbers in order say so of the new one and any other
+  module _ (number : A → ℕ) (R : A → A → Type 0) (x : A) (ahead : (y : A) → number y ≤ number x → R y x)
+      (behind : (y : A) → number x < number y → R x y) (through : (y z : A) → R x y → R y z → R x z) where
+    pub pairs-inserted : (xs : List A) → Pairs R xs → Pairs R (inserted number x xs)
+    unfolding inserted
+    pairs-inserted [] a = (tt, tt)
+    pairs-inserted (y ∷ ys) a =
+        by-test (ltb (number x) (number y))
+        (λ b.
+        let r = behind y (ltb-true _ _ b) in
+        rw b ((r, each-map (R y) (R x) (λ z. through y z r) ys (a .0)), a))
+        (λ b. rw b (each-inserted number (R y) x ys (ahead y (ltb-false _ _ b)) (a .0), pairs-inserted ys (a .1)))
 
   pub pairs-at : (R : A → A → Type 0) (d : A) (xs : List A) → Pairs R xs → (i j : ℕ) → i < j → j < length xs → R (getD xs i d) (getD xs j d)
   pairs-at R d [] a i j l k = let z : ⊥ = omega arith in absurd z

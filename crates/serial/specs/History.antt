@@ -3,9 +3,10 @@ use Prim.Native.Nat.{ℕ, suc}
 use mathlib.Core.Path.{_≡_}
 use mathlib.Core.Bool.{Bool, true, false, cond}
 use mathlib.Core.Option.{Option, none, some}
-use mathlib.Core.List.{List, [], _∷_, _++_}
+use mathlib.Core.List.{List, [], _∷_}
 use lib.ListN.{getD}
 use lib.Dec.{eqb}
+use Rattle.ranges.specs.Inserted.{inserted}
 use Rattle.tables.specs.Tables.{Tables}
 use Rattle.rules.specs.declared.Answer.the-variants.{Ok, Refused}
 use Rattle.rules.specs.declared.Arrival.{Arrival}
@@ -68,7 +69,7 @@ pub record History : Type 0 where
   pub tags : ℕ
   pub write : ℕ → Transaction
   pub said : ℕ → Option ℕ
-  -- finished READs by end
+  -- finished READs, "in order of begin step"
   pub reads : List Transaction
   pub doing : ℕ → Doing
   -- accepted steps that fit no transaction: a begin of a client that is at one, a delivery to a client that is at none, an end of another kind
@@ -154,7 +155,7 @@ showed tag d (writing mask setpoints begin) q h = strayed h
 showed tag d (tagged t) q h = strayed h
 showed tag d (reading mask begin deliveries) q h =
     historyOf (h .initial) (h .extra) (suc (h .clock)) (h .tags) (h .write) (h .said)
-    (h .reads ++ (readOf q mask (valueShown d) tag begin (h .clock) (suc deliveries) ∷ []))
+    (inserted (λ x. x .begin) (readOf q mask (valueShown d) tag begin (h .clock) (suc deliveries)) (h .reads))
     (changed (h .doing) q nothing) (h .astray)
 
 abbrev pub arrived : Arrival → Delivered → ℕ → History → History

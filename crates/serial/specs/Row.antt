@@ -9,12 +9,12 @@ use lib.Dec.{eqb}
 use Rattle.keys.specs.Masks.{hasServer}
 use Rattle.serial.specs.History.{Value, Transaction, noWrite, History}
 
--- the READs of a tag, by end
+-- the READs of a tag, in their order
 unfoldable pub readsOf : ℕ → List Transaction → List Transaction
 readsOf tag [] = []
 readsOf tag (x ∷ xs) = cond (eqb (x .tag) tag) (x ∷ readsOf tag xs) (readsOf tag xs)
 
--- WRITEs by tag, each READ behind the WRITE of its own tag and ahead of the next, those of tag 0 first of all, equal tags by end.
+-- WRITEs by tag, each READ behind the WRITE of its own tag and ahead of the next, those of tag 0 first of all, equal tags by begin.
 -- "Refused steps, untagged WRITEs and unfinished READs are not in the row."
 unfoldable pub rowTo : History → ℕ → List Transaction
 rowTo h zero = readsOf 0 (h .reads)

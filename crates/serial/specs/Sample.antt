@@ -1,4 +1,5 @@
--- Document 01's sample, as a list of steps: played on `store`'s definitions, it computes to the row that document 01 prints.
+-- Document 01's sample, as a list of steps: played on `store`'s definitions, it computes to the row that document 01 prints. And lists of
+-- steps for document 02's rows.
 use Prim.Native.Nat.{ℕ, _*_}
 use mathlib.Core.Path.{_≡_, refl}
 use mathlib.Core.Option.{none, some}
@@ -9,6 +10,7 @@ use Rattle.ranges.specs.Sum.{sumBelow}
 use Rattle.ranges.specs.First.{firstFrom}
 use Rattle.ranges.specs.Last.{lastBelow}
 use Rattle.ranges.specs.Turns.{turns}
+use Rattle.ranges.specs.Inserted.{inserted}
 use Rattle.tables.specs.Layout.{countWords, clientWidth, serverPlaces, logPlaces, entryWidth, recordPlaces, recordWidth}
 use Rattle.tables.specs.Links.{targets, linkWidth, linkAt, putLink}
 use Rattle.tables.specs.Tables.{Tables, tablesOf}
@@ -50,7 +52,12 @@ shows tag setpoints tags = record { arrival = Read tag; setpoints = setpoints ++
 pub sample-row : row (history (run play sample start) (openedWith 2 (1200 ∷ 30 ∷ []))) ≡
     readOf 1 3 (valueShown (shows 0 (1200 ∷ 30 ∷ []) (0 ∷ 0 ∷ []))) 0 2 12 6 ∷
     writeOf 0 3 (valueWritten 1 (1800 ∷ 45 ∷ [])) 1 0 (some 13) ∷ []
-unfolding zeros start sample changed readsOf rowTo store.open′ store.beginWrite store.beginRead store.deliverRequest store.deliverReply openRefusal writeRefusal readRefusal deliveryRefusal longEnough pressFits turns sound scalarsSound keyInRange serverSound entrySound logSound stateAllowed uses requestSound replySound contentSound linkSound receivedSound clientSound writeSound readSound openSound recordsSound allBelow anyBelow sumBelow linkAt putLink firstFrom lastBelow appended log.entered begunWrite begunRead onSet onEnter onWhichKeys onGet onGetAll onRequestIn requestDelivered onSetDone onEntered onKeys onGot onAll onReplyIn replyDelivered
+unfolding zeros start sample changed inserted readsOf rowTo store.open′ store.beginWrite store.beginRead store.deliverRequest
+    store.deliverReply openRefusal writeRefusal readRefusal deliveryRefusal longEnough pressFits turns sound scalarsSound keyInRange
+    serverSound entrySound logSound stateAllowed uses requestSound replySound contentSound linkSound receivedSound clientSound
+    writeSound readSound openSound recordsSound allBelow anyBelow sumBelow linkAt putLink firstFrom lastBelow appended log.entered
+    begunWrite begunRead onSet onEnter onWhichKeys onGet onGetAll onRequestIn requestDelivered onSetDone onEntered onKeys onGot onAll
+    onReplyIn replyDelivered
 sample-row = refl
 
 -- "A READ now shows with each setpoint the tag of the WRITE that put it there, 0 for the opening": one WRITE of server 0 alone, from its
@@ -87,17 +94,30 @@ wroteOne = writeOf 1 1 (valueWritten 1 (1800 ∷ 45 ∷ [])) 1 0 (some 4)
 abbrev readBehind : ℕ → ℕ → Transaction
 readBehind end deliveries = readOf 0 3 (valueShown (shows 1 (1800 ∷ 30 ∷ []) (1 ∷ 0 ∷ []))) 1 5 end deliveries
 
-pub record Tags : Type 0 where
+-- "READs of one tag in order of begin step": by B, client 0 begins a READ of server 0 and then client 1 another, which ends first.
+unfoldable pub laterFirst : List Step
+laterFirst =
+    beginning-read 0 1 ∷ beginning-read 1 1 ∷
+    request 1 16 ∷ reply 1 16 ∷ request 1 0 ∷ reply 1 0 ∷
+    request 0 16 ∷ reply 0 16 ∷ request 0 0 ∷ reply 0 0 ∷ []
+
+-- each shows the opening's 1200
+abbrev readOpening : ℕ → ℕ → ℕ → Transaction
+readOpening client begin end = readOf client 1 (valueShown (shows 0 (1200 ∷ 0 ∷ []) (0 ∷ 0 ∷ []))) 0 begin end 4
+
+pub record Rows : Type 0 where
   pub byA : rowBy 1 (one ++ readA) ≡ wroteOne ∷ readBehind 9 4 ∷ []
   pub byB : rowBy 2 (one ++ readB) ≡ wroteOne ∷ readBehind 11 6 ∷ []
   pub byC : rowBy 3 (one ++ readC) ≡ wroteOne ∷ readBehind 11 6 ∷ []
   pub back : rowBy 3 (one ++ behindC) ≡ wroteOne ∷ readBehind 17 6 ∷ writeOf 1 3 (valueWritten 2 (900 ∷ 12 ∷ [])) 2 8 none ∷ []
+  -- begun at steps 0 and 1, ended at steps 9 and 5
+  pub byBegin : rowBy 2 laterFirst ≡ readOpening 0 0 9 ∷ readOpening 1 1 5 ∷ []
 
-pub tags : Tags
-unfolding startBy rowBy one readA readB readC behindC zeros changed readsOf rowTo store.open′ store.beginWrite store.beginRead
-    store.deliverRequest store.deliverReply openRefusal writeRefusal readRefusal deliveryRefusal longEnough pressFits turns sound
-    scalarsSound keyInRange serverSound entrySound logSound stateAllowed uses requestSound replySound contentSound linkSound
+pub rows : Rows
+unfolding startBy rowBy one readA readB readC behindC laterFirst zeros changed inserted readsOf rowTo store.open′ store.beginWrite
+    store.beginRead store.deliverRequest store.deliverReply openRefusal writeRefusal readRefusal deliveryRefusal longEnough pressFits
+    turns sound scalarsSound keyInRange serverSound entrySound logSound stateAllowed uses requestSound replySound contentSound linkSound
     receivedSound clientSound writeSound readSound openSound recordsSound allBelow anyBelow sumBelow linkAt putLink firstFrom lastBelow
     appended log.entered begunWrite begunRead onSet onEnter onWhichKeys onGet onGetAll onRequestIn requestDelivered onSetDone onEntered
     onKeys onGot onAll onReplyIn replyDelivered
-tags = record { byA = refl; byB = refl; byC = refl; back = refl }
+rows = record { byA = refl; byB = refl; byC = refl; back = refl; byBegin = refl }

@@ -9,6 +9,7 @@ use Rattle.ranges.specs.Sum.{sumBelow}
 use Rattle.ranges.specs.First.{firstFrom}
 use Rattle.ranges.specs.Last.{lastBelow}
 use Rattle.ranges.specs.Turns.{turns}
+use Rattle.ranges.specs.Inserted.{inserted}
 use Rattle.tables.specs.Links.{linkAt, putLink}
 use Rattle.server.specs.Held.{appended}
 use Rattle.coordinator.specs.Log as log
@@ -150,8 +151,8 @@ record Tested : Type 0 where
   not-waiting-at-nothing : Computed (whose ∷ []) store.waitingAtNothing 3 replyOnly
 
 tested : Tested
-unfolding zeros played changed readsOf rowTo open′ beginWrite beginRead deliverRequest deliverReply openRefusal writeRefusal
-    readRefusal deliveryRefusal longEnough pressFits turns sound scalarsSound keyInRange serverSound entrySound logSound
+unfolding zeros played changed inserted readsOf rowTo open′ beginWrite beginRead deliverRequest deliverReply openRefusal
+    writeRefusal readRefusal deliveryRefusal longEnough pressFits turns sound scalarsSound keyInRange serverSound entrySound logSound
     stateAllowed uses requestSound replySound contentSound linkSound receivedSound clientSound writeSound readSound openSound
     recordsSound allBelow anyBelow sumBelow linkAt putLink firstFrom lastBelow appended log.entered begunWrite begunRead onSet
     onEnter onWhichKeys onGet onGetAll onRequestIn requestDelivered onSetDone onEntered onKeys onGot onAll onReplyIn

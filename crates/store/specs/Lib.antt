@@ -2,3 +2,4 @@
 pub mod Ready
 pub mod ReadyReplies
 pub mod Cases
+pub mod Replies

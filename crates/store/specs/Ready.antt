@@ -11,7 +11,7 @@ use Rattle.tables.specs.Links.{targets}
 use Rattle.tables.specs.Tables.{Tables, serversOf, clientsOf, entriesOf, stateOf, countOf, maskOf, contentAt}
 use Rattle.tables.specs.declared.links.Contents.{Contents}
 use Rattle.tables.specs.declared.links.Content.the-variants.{Request, Reply}
-use Rattle.soundness.specs.Sound.{uses, requestSound, replySound, keyOn, contentSound}
+use Rattle.soundness.specs.Sound.{uses, replySound, contentSound}
 use Rattle.soundness.specs.Facts.{Sound}
 use Rattle.soundness.specs.Room.{few-servers, server-fits, keys-row, values-row, client-fits, client-row, client-links, link-row, write-row, log-entries, next-write, next-read}
 use Rattle.history.specs.Ready.{BeginReady}
@@ -19,7 +19,7 @@ use Rattle.begins.specs.Ready.{AskReady, WriteReady}
 use Rattle.requests.specs.Ready.{Answerable, AtServer, Asks, RequestReady}
 use Rattle.opening.specs.Ready.{OpenReady}
 use Rattle.keeping.specs.Accepted.{Openable, Writable, Readable, Deliverable, target-below}
-use Rattle.keeping.specs.States.{uses-writing, uses-setpoints, masked-server}
+use Rattle.keeping.specs.States.{set-server, get-server}
 
 pub open-ready : (m k p : ℕ) (setpoints : List ℕ) (t : Tables) → Openable m k p setpoints t → OpenReady (t .counts) (t .keys) (t .values) (t .log) setpoints k
 open-ready m k p setpoints t o =
@@ -64,10 +64,6 @@ module _ (t : Tables) (s : Sound t) where
     answerable = record { counted = s .long .counts; stepped = d .early; linked = link-row t s q (d .client) i target }
 
     -- what a link holds is what its state uses the target for, and its contents are in range
-    pub request-used : (w : Contents) → contentAt t q i ≡ Request w → uses (stateOf t q) (maskOf t q) i ≡ true
-    unfolding contentSound
-    request-used w e = both-left (uses (stateOf t q) (maskOf t q) i) (requestSound (stateOf t q) q (keyOn t q i) (w .number) t) (rw e at (s .client q (d .client) .link i target .content))
-
     pub reply-used : (w : Contents) → contentAt t q i ≡ Reply w → uses (stateOf t q) (maskOf t q) i ≡ true
     unfolding contentSound
     reply-used w e = both-left (uses (stateOf t q) (maskOf t q) i) (replySound (stateOf t q) i (w .number) t) (rw e at (s .client q (d .client) .link i target .content))
@@ -85,15 +81,14 @@ module _ (t : Tables) (s : Sound t) where
 
     asks : (w : Contents) → contentAt t q i ≡ Request w → Asks (t .counts) (t .clients) (t .keys) (t .values) (t .log) (t .writes) q i
     asks w e =
-        let u = request-used w e in
         record {
-          set = λ z. at-server (masked-server t s q i (d .client) (sym (uses-writing (maskOf t q) i) ∙ (rw z at u)));
+          set = λ z. at-server (set-server t s q i (d .client) target w e z);
           enter = λ z. record {
             room = record { counted = s .long .counts; logged = s .long .log };
             row = client-row t s q (d .client);
             recorded = write-row t s q (d .client) (rw z);
           };
-          get = λ z. at-server (masked-server t s q i (d .client) (sym (uses-setpoints (maskOf t q) i) ∙ (rw z at u)));
+          get = λ z. at-server (get-server t s q i (d .client) target w e z);
         }
 
     pub request-ready : RequestReady (t .counts) (t .clients) (t .links) (t .keys) (t .values) (t .log) (t .writes) q i

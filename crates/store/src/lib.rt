@@ -12,8 +12,12 @@ ghost use Rattle.refusals.specs.Steps.{open′, beginWrite, beginRead, deliverR
 use rules::Answer;
 use rules::Arrival;
 use rules::Delivered;
+use rules::states;
+use rules::words;
 use soundness::lengths;
 use soundness::scalars;
+use tables::clients;
+use tables::links;
 
 // Whether method, servers and clients fit a press, and there is a setpoint for each server.
 fn fits_press(method: u32, servers: u32, panels: u32, given: usize) -> bool
@@ -317,17 +321,59 @@ pub fn deliver_reply_sound(
     if fault != 0 {
         return rules::showing_nothing(Arrival::Refused(fault));
     }
-    replies::deliver_reply(
+    let client = client as usize;
+    let target = target as usize;
+    let link = links::link_at(&*links, client, target);
+    let content = link.content;
+    let contents = match content {
+        links::Content::Nothing => {
+            return rules::showing_nothing(Arrival::Refused(9));
+        }
+        links::Content::Request(_) => {
+            return rules::showing_nothing(Arrival::Refused(9));
+        }
+        links::Content::Reply(contents) => contents,
+    };
+    let state = clients::client_word(clients, client, clients::STATE);
+    if state == states::WRITING {
+        let arrival = replies::set_done(counts, clients, links, client, target);
+        return rules::showing_nothing(arrival);
+    }
+    if state == states::ENTERING {
+        let arrival = replies::entered(counts, clients, links, writes, client, target, contents);
+        return rules::showing_nothing(arrival);
+    }
+    if state == states::ASKING_KEYS {
+        let arrival = replies::keys_told(counts, clients, links, log, client, target, contents);
+        return rules::showing_nothing(arrival);
+    }
+    if state == states::ASKING_SETPOINTS {
+        let mask = clients::client_word(clients, client, clients::MASK);
+        let tag = clients::client_word(clients, client, clients::TAG);
+        if replies::got(counts, clients, links, reads, client, target, contents) {
+            return rules::showing_nothing(Arrival::Wait);
+        }
+        let mut setpoints = [0u32; 16];
+        let mut tags = [0u32; 16];
+        words::show_words(&*clients, client, clients::SETPOINTS, mask, &mut setpoints);
+        words::show_words(&*clients, client, clients::TAGS, mask, &mut tags);
+        return Delivered {
+            arrival: Arrival::Read(tag),
+            setpoints: setpoints,
+            tags: tags,
+        };
+    }
+    replies::all_told(
         counts,
         clients,
         links,
         keys,
         values,
         log,
-        writes,
         reads,
-        client as usize,
-        target as usize,
+        client,
+        target,
+        contents,
     )
 }
 

@@ -24,17 +24,17 @@ const MOST_SERVERS: usize = 16;
 
 const MOST_CLIENTS: usize = 16;
 
-const CLIENTS: usize = clients::WIDTH * MOST_CLIENTS;
+pub const CLIENTS: usize = clients::WIDTH * MOST_CLIENTS;
 
-const LINKS: usize = links::WIDTH * (links::TARGETS * MOST_CLIENTS);
+pub const LINKS: usize = links::WIDTH * (links::TARGETS * MOST_CLIENTS);
 
-const KEYS: usize = versions::PLACES * MOST_SERVERS;
+pub const KEYS: usize = versions::PLACES * MOST_SERVERS;
 
-const VALUES: usize = versions::PLACES * MOST_SERVERS;
+pub const VALUES: usize = versions::PLACES * MOST_SERVERS;
 
-const LOG: usize = log::WIDTH * log::PLACES;
+pub const LOG: usize = log::WIDTH * log::PLACES;
 
-const RECORDS: usize = records::WIDTH * records::PLACES;
+pub const RECORDS: usize = records::WIDTH * records::PLACES;
 
 // Answers a line, unless it is answered already, and passes it.
 fn answer_line(
@@ -119,41 +119,8 @@ fn turn(
     )
 }
 
-// The register of the last opening, at the front of the print; before any opening there is none. It answers where the print ends.
-fn print_end(
-    counts: &[u32],
-    clients: &[u32],
-    links: &[u32],
-    keys: &[u32],
-    values: &[u32],
-    log: &[u32],
-    writes: &[u32],
-    reads: &[u32],
-    out: &mut [u8],
-) -> usize
-    requires { ⌜ Playable (tablesOf (now counts) (now clients) (now links) (now keys) (now values) (now log) (now writes) (now reads)) ⌝ }
-    requires { ⌜ registerMost ≤ length (now out) ⌝ }
-    ensures { λ r. ⌜ Printed (now (out .entry)) 0 (registerPrinted (tablesOf (now (counts .entry)) (now (clients .entry)) (now (links .entry)) (now (keys .entry)) (now (values .entry)) (now (log .entry)) (now (writes .entry)) (now (reads .entry)))) r (now (out .exit)) × (r ≤ registerMost) ⌝ }
-{
-    if tables::counts::count_at(counts, METHOD) == 0 {
-        return 0;
-    }
-    register_text::print_register(
-        counts,
-        clients,
-        links,
-        keys,
-        values,
-        log,
-        writes,
-        reads,
-        out,
-        0,
-    )
-}
-
 // Plays standard input to its end, and prints the answers and the register. It is lent nothing and answers nothing, so that no contract is left to state:
-// what the system reads and writes is in none. What it does is in those of `turn` and `print_end`, and that it ends is part of its proof.
+// what the system reads and writes is in none. What it does is in those of `turn` and `texts::print_end`, and that it ends is part of its proof.
 pub fn replay() {
     let mut counts = [0u32; counts::WORDS];
     let mut clients = [0u32; CLIENTS];
@@ -190,7 +157,7 @@ pub fn replay() {
     }
     let used = run.used;
     io::write_all(STDOUT_FILENO, &out[..used]);
-    let end = print_end(
+    let end = texts::print_end(
         &counts,
         &clients,
         &links,
@@ -200,6 +167,7 @@ pub fn replay() {
         &writes,
         &reads,
         &mut out,
+        0,
     );
     io::write_all(STDOUT_FILENO, &out[..end]);
 }

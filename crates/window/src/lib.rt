@@ -121,22 +121,29 @@ pub fn read_on(run: Run, window: &mut [u8]) -> Run
     }
 }
 
-// Writes the print out where it is nearly full.
+// Writes the print out where it is nearly full. It answers where the print goes on.
+pub fn room_from(used: usize, out: &[u8]) -> usize
+    requires { ⌜ (used ≤ length (now out)) × (answerMost ≤ length (now out)) ⌝ }
+    ensures { λ r. ⌜ r ≡ roomFrom used (length (now (out .entry))) ⌝ }
+{
+    if out.len() - printing::ANSWER < used {
+        io::write_all(STDOUT_FILENO, &out[..used]);
+        return 0;
+    }
+    used
+}
+
+// The run with room for an answer in its print.
 pub fn make_room(run: Run, out: &[u8]) -> Run
     requires { ⌜ (run .used ≤ length (now out)) × (answerMost ≤ length (now out)) ⌝ }
     ensures { λ r. ⌜ r ≡ roomy run (roomFrom (run .used) (length (now (out .entry)))) ⌝ }
 {
-    let mut used = run.used;
-    if out.len() - printing::ANSWER < used {
-        io::write_all(STDOUT_FILENO, &out[..used]);
-        used = 0;
-    }
     Run {
         left: run.left,
         lines: run.lines,
         from: run.from,
         held: run.held,
-        used: used,
+        used: room_from(run.used, out),
         skipping: run.skipping,
     }
 }

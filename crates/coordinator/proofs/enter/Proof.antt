@@ -1,5 +1,5 @@
 -- `coordinator::enter` meets its contract: full or entered, each a case law of `entered`.
-use Rattle.coordinator.specs.Log.{enter-full, enter-done}
+use Rattle.coordinator.specs.LogLaws.{enter-full, enter-done}
 use borrow.Author.Needs.{needs}
 use Rattle.coordinator.proofs.enter.Statement.{statement}
 use Rattle.coordinator.proofs.enter.Tie as tie

@@ -7,8 +7,13 @@ use Rattle.replies.proofs.finish_by_c.Statement.{statement}
 use Rattle.replies.proofs.finish_by_c.Tie as tie
 
 cast-tag : tie.Need-cast-tag
-cast-tag c = let a = c .before .before .before .before .before .before .before .before .before .args in let p = c .before .before .before .before .before .before .before .before .before .pre .1 in
-    let e = tag-is (a .clients .now) (a .keys .now) (a .log .now) (a .client) (a .mask) (a .servers) (p .some) (c .before .before .client-word .ensures) (c .chosen-tag .ensures) in
+cast-tag c =
+    let start = c .before .before .before .before .before .before .before .before .before in
+    let a = start .args in
+    let p = start .pre .1 in
+    let e =
+    tag-is (a .clients .now) (a .keys .now) (a .log .now) (a .client) (a .mask) (a .servers) (p .some)
+    (c .before .before .client-word .ensures) (c .chosen-tag .ensures) in
     let l = tag-below (a .clients .now) (a .keys .now) (a .log .now) (a .client) (a .mask) (a .servers) (p .some) in
     omega (arith, p .entries)
 
@@ -19,26 +24,32 @@ conclude-requires c κs =
     let start = at-client-word .before .before .before .before .before .before .before in
     let a = start .args in
     let p = start .pre .1 in
-    let e = tag-is (a .clients .now) (a .keys .now) (a .log .now) (a .client) (a .mask) (a .servers) (p .some) (at-client-word .client-word .ensures) (at-chosen-tag .chosen-tag .ensures) in
+    let e =
+    tag-is (a .clients .now) (a .keys .now) (a .log .now) (a .client) (a .mask) (a .servers) (p .some)
+    (at-client-word .client-word .ensures) (at-chosen-tag .chosen-tag .ensures) in
     let l = tag-below (a .clients .now) (a .keys .now) (a .log .now) (a .client) (a .mask) (a .servers) (p .some) in
-    (start .pre .0, ((p .row, record { place = omega (arith, p .entries); there = omega (arith, p .logged) }), rw e (tag-qualifies (a .clients .now) (a .keys .now) (a .log .now) (a .client) (a .mask) (a .servers) (p .some) (p .opening))))
+    let q = tag-qualifies (a .clients .now) (a .keys .now) (a .log .now) (a .client) (a .mask) (a .servers) (p .some) (p .opening) in
+    (start .pre .0, ((p .row, record { place = omega (arith, p .entries); there = omega (arith, p .logged) }), rw e q))
 
 returns : tie.Need-returns
 returns c =
     let at-finish = c .before .before .before .before in
-    let at-shown-words = at-finish .before .before .before .before in
-    let at-conclude = at-shown-words .before .before .before .before in
+    let at-show-words = at-finish .before .before .before in
+    let at-conclude = at-show-words .before .before .before .before .before in
     let at-chosen-tag = at-conclude .before .before in
     let at-client-word = at-chosen-tag .before .before in
     let start = at-client-word .before .before .before .before .before .before .before in
     let a = start .args in
     let p = start .pre .1 in
-    let e = tag-is (a .clients .now) (a .keys .now) (a .log .now) (a .client) (a .mask) (a .servers) (p .some) (at-client-word .client-word .ensures) (at-chosen-tag .chosen-tag .ensures) in
+    let e =
+    tag-is (a .clients .now) (a .keys .now) (a .log .now) (a .client) (a .mask) (a .servers) (p .some)
+    (at-client-word .client-word .ensures) (at-chosen-tag .chosen-tag .ensures) in
     let f = at-finish .finish .ensures in
     let k = at-conclude .conclude .ensures in
-    record { shown = f .shown ∙ rw (at-shown-words .shown-words .ensures, k .0, k .1, e); idled = f .idled ∙ rw (k .0, e); recorded = f .recorded ∙ rw e }
+    record { shown = rw (at-show-words .show-words .ensures, k .0, k .1, e); idled = f .0 ∙ rw (k .0, e); recorded = f .1 ∙ rw e }
 
 pub finish-by-c-spec : {M : Type 1} → statement M
 finish-by-c-spec =
     tie.close
-    (tie.spec (λ c. search needs) (λ c κs. search needs) (λ c. search needs) (λ c κs. search needs) cast-tag conclude-requires (λ c κs. search needs) (λ c κs. search needs) (λ c. search needs) (λ c. search needs) returns)
+    (tie.spec (λ c. search needs) (λ c κs. search needs) (λ c. search needs) (λ c κs. search needs) cast-tag conclude-requires
+    (λ c κs. search needs) (λ c κs. search needs) (λ c. search needs) (λ c. search needs) returns)

@@ -6,7 +6,6 @@ use Rattle.replies.specs.Cases.{keys-ask}
 use borrow.Author.Needs.{needs}
 use Rattle.replies.proofs.keys_told.Statement.{statement}
 use Rattle.replies.proofs.keys_told.Tie as tie
-use Rattle.replies.proofs.keys_told.Reads as reads
 
 send-gets-requires : tie.Need-send-gets-requires
 send-gets-requires c κs =
@@ -24,7 +23,7 @@ send-gets-requires c κs =
 
 returns : tie.Need-returns
 returns c =
-    let at-send-gets = c .before .before .before .before .before in
+    let at-send-gets = c .before .before .before .before in
     let at-put-client-word2 = at-send-gets .before .before .before .before .before in
     let at-put-client-word = at-put-client-word2 .before .before .before .before in
     let at-settle = at-put-client-word .before .before .before .before .before .before in
@@ -36,12 +35,12 @@ returns c =
     let put = at-put-client-word2 .put-client-word2 .ensures in
     λ keys values writes reads. keys-ask (a .client) (a .target)
     (tablesOf (a .counts .now) (a .clients .now) (a .links .now) keys values (a .log .now) writes reads)
-    (at-settle .settle .ensures) (a .contents) (at-client-word .client-word .ensures) (at-count-at .count-at .ensures) (c .showing-nothing .ensures)
+    (at-settle .settle .ensures) (a .contents) (at-client-word .client-word .ensures) (at-count-at .count-at .ensures)
     (asked .0 ∙ rw (put, at-put-client-word .put-client-word .ensures))
     (asked .1)
 
 pub keys-told-spec : {M : Type 1} → statement M
 keys-told-spec =
     tie.close
-    (tie.spec (λ c κs. search needs) (λ c κs. search needs) (λ c. search needs) (λ c κs. search needs) (λ c κs. search needs) (λ c κs. search needs)
-    (λ c. search needs) (λ c. search needs) send-gets-requires (λ c κs. search needs) (λ c. search needs) (λ c. search needs) (λ c. search needs) returns)
+    (tie.spec (λ c κs. search needs) (λ c κs. search needs) (λ c. search needs) (λ c κs. search needs) (λ c κs. search needs)
+    (λ c κs. search needs) (λ c. search needs) (λ c. search needs) send-gets-requires (λ c. search needs) (λ c. search needs) (λ c. search needs) returns)

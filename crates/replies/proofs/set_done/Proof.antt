@@ -4,22 +4,32 @@ use Rattle.replies.specs.Cases.{set-waits, set-enters}
 use borrow.Author.Needs.{needs}
 use Rattle.replies.proofs.set_done.Statement.{statement}
 use Rattle.replies.proofs.set_done.Tie as tie
-use Rattle.replies.proofs.set_done.Reads as reads
 
 returns : tie.Need-returns
-returns c = let a = c .before .before .before .before .before .before .before .before .before .before .before .before .before .before .args in λ keys values log writes reads. set-waits (a .client) (a .target) (tablesOf (a .counts .now) (a .clients .now) (a .links .now) keys values log writes reads) (c .before .before .before .before .before .before .before .before .settle .ensures) (c .before .before .is-pending .ensures) (c .before .if1 .taken) (c .showing-nothing .ensures)
+returns c =
+    let at-is-pending = c .before in
+    let at-settle = at-is-pending .before .before .before .before .before .before in
+    let start = at-settle .before .before .before .before .before .before in
+    let a = start .args in
+    λ keys values log writes reads. set-waits (a .client) (a .target)
+    (tablesOf (a .counts .now) (a .clients .now) (a .links .now) keys values log writes reads)
+    (at-settle .settle .ensures) (at-is-pending .is-pending .ensures) (c .if1 .taken)
 
 returns-2 : tie.Need-returns-2
 returns-2 c =
-    let at-send-entry = c .before .before .before .before .before in
+    let at-send-entry = c .before .before .before .before in
     let at-if1 = at-send-entry .before .before .before in
     let at-is-pending = at-if1 .before in
     let at-settle = at-is-pending .before .before .before .before .before .before in
     let start = at-settle .before .before .before .before .before .before in
     let a = start .args in
-    λ keys values log writes reads. set-enters (a .client) (a .target) (tablesOf (a .counts .now) (a .clients .now) (a .links .now) keys values log writes reads) (at-settle .settle .ensures) (at-is-pending .is-pending .ensures) (at-if1 .if1 .left) (c .showing-nothing2 .ensures) (at-send-entry .send-entry .ensures .0) (at-send-entry .send-entry .ensures .1)
+    λ keys values log writes reads. set-enters (a .client) (a .target)
+    (tablesOf (a .counts .now) (a .clients .now) (a .links .now) keys values log writes reads)
+    (at-settle .settle .ensures) (at-is-pending .is-pending .ensures) (at-if1 .if1 .left)
+    (at-send-entry .send-entry .ensures .0) (at-send-entry .send-entry .ensures .1)
 
 pub set-done-spec : {M : Type 1} → statement M
 set-done-spec =
     tie.close
-    (tie.spec (λ c κs. search needs) (λ c κs. search needs) (λ c κs. search needs) (λ c. search needs) (λ c. search needs) returns (λ c κs. search needs) (λ c κs. search needs) (λ c. search needs) (λ c. search needs) (λ c. search needs) returns-2)
+    (tie.spec (λ c κs. search needs) (λ c κs. search needs) (λ c. search needs) (λ c. search needs) returns
+    (λ c κs. search needs) (λ c. search needs) (λ c. search needs) (λ c. search needs) returns-2)

@@ -1,5 +1,5 @@
 -- `server::append` meets its contract: full or stored, each a case law of `appended`.
-use Rattle.server.specs.Held.{append-full, append-stored}
+use Rattle.server.specs.HeldLaws.{append-full, append-stored}
 use borrow.Author.Needs.{needs}
 use Rattle.server.proofs.append.Statement.{statement}
 use Rattle.server.proofs.append.Tie as tie

@@ -1,32 +1,261 @@
--- `store::deliver_reply_sound` meets its contract: a fault refuses, and where there is none sound tables are ready for the inner step.
-use Rattle.tables.specs.Tables.{tablesOf}
-use Rattle.store.specs.ReadyReplies.{reply-ready}
-use Rattle.store.specs.Cases.{reply-refused, reply-accepted, delivery-able}
+-- `store::deliver_reply_sound` meets its contract: a fault refuses, and where there is none sound tables are ready for each state's step.
+use mathlib.Core.Path.{_≡_, sym, _∙_}
+use Rattle.tables.specs.Tables.{Tables, tablesOf}
+use Rattle.refusals.specs.Refusals.{deliveryFault}
+use Rattle.replies.specs.Cases.{by-nothing, by-request, by-arrival, by-waiting, by-row, by-set-done, by-entered, by-keys, by-got, by-all}
+use Rattle.store.specs.Cases.{reply-refused}
+use Rattle.store.specs.Replies.{Taking, taking, brings, taken}
 use borrow.Author.Needs.{needs}
 use Rattle.store.proofs.deliver_reply_sound.Statement.{statement}
 use Rattle.store.proofs.deliver_reply_sound.Tie as tie
 
-returns : tie.Need-returns
-returns c = let a = c .before .before .before .before .before .before .before .before .before .before .before .before .args in reply-refused (tablesOf (a .counts .now) (a .clients .now) (a .links .now) (a .keys .now) (a .values .now) (a .log .now) (a .writes .now) (a .reads .now)) (c .before .before .before .before .before .before .before .before .before .before .before .before .pre) (a .client) (a .target) (c .before .before .delivery-fault .ensures (a .clients .now) (a .links .now) (a .keys .now) (a .values .now) (a .log .now) (a .writes .now) (a .reads .now)) (c .before .if1 .taken) (c .showing-nothing .ensures)
+-- the tables that are lent
+abbrev lent : tie.Start → Tables
+lent s =
+    let a = s .args in
+    tablesOf (a .counts .now) (a .clients .now) (a .links .now) (a .keys .now) (a .values .now) (a .log .now) (a .writes .now)
+    (a .reads .now)
 
-deliver-reply-requires : tie.Need-deliver-reply-requires
-deliver-reply-requires c κs =
-    let at-if1 = c .before .before .before .before .before in
-    let at-delivery-fault = at-if1 .before in
-    let start = at-delivery-fault .before .before .before .before .before .before .before .before .before .before in
-    let a = start .args in
-    reply-ready (tablesOf (a .counts .now) (a .clients .now) (a .links .now) (a .keys .now) (a .values .now) (a .log .now) (a .writes .now) (a .reads .now)) (start .pre) (a .client) (a .target) (delivery-able (tablesOf (a .counts .now) (a .clients .now) (a .links .now) (a .keys .now) (a .values .now) (a .log .now) (a .writes .now) (a .reads .now)) (start .pre) (a .client) (a .target) (at-delivery-fault .delivery-fault .ensures (a .clients .now) (a .links .now) (a .keys .now) (a .values .now) (a .log .now) (a .writes .now) (a .reads .now)) (at-if1 .if1 .left))
+-- the place where the fault is known
+abbrev start : tie.After-delivery-fault → tie.Start
+start f = f .before .before .before .before .before .before .before .before .before .before
+
+fault : (f : tie.After-delivery-fault) →
+    f .delivery-fault .result ≡ deliveryFault (start f .args .client) (start f .args .target) (lent (start f))
+fault f =
+    let a = start f .args in
+    f .delivery-fault .ensures (a .clients .now) (a .links .now) (a .keys .now) (a .values .now) (a .log .now) (a .writes .now)
+    (a .reads .now)
+
+-- the place where none refuses
+free : (n : tie.Else1) → Taking (lent (start (n .before))) (start (n .before) .args .client) (start (n .before) .args .target)
+free n =
+    let s = start (n .before) in
+    taking (lent s) (s .pre) (s .args .client) (s .args .target) (fault (n .before)) (n .if1 .left)
+
+-- the place where the client's state is read, and the one before it where the link is
+abbrev link : tie.After-client-word → tie.After-link-at
+link s = s .before .before .before .before .before
+
+abbrev none : tie.After-client-word → tie.Else1
+none s = link s .before .before
+
+abbrev first : tie.After-client-word → tie.Start
+first s = start (none s .before)
+
+returns : tie.Need-returns
+returns c =
+    let f = c .before .before in
+    let s = start f in
+    reply-refused (lent s) (s .pre) (s .args .client) (s .args .target) (fault f) (c .before .if1 .taken) (c .showing-nothing .ensures)
+
+link-at-requires : tie.Need-link-at-requires
+link-at-requires c κs =
+    let h = free (c .before) .ready in
+    search needs
 
 returns-2 : tie.Need-returns-2
 returns-2 c =
-    let at-deliver-reply = c .before .before .before .before .before .before .before .before .before .before in
-    let at-if1 = at-deliver-reply .before .before .before .before .before .before in
-    let at-delivery-fault = at-if1 .before in
-    let start = at-delivery-fault .before .before .before .before .before .before .before .before .before .before in
-    let a = start .args in
-    reply-accepted (tablesOf (a .counts .now) (a .clients .now) (a .links .now) (a .keys .now) (a .values .now) (a .log .now) (a .writes .now) (a .reads .now)) (start .pre) (a .client) (a .target) (at-delivery-fault .delivery-fault .ensures (a .clients .now) (a .links .now) (a .keys .now) (a .values .now) (a .log .now) (a .writes .now) (a .reads .now)) (at-if1 .if1 .left) (at-deliver-reply .deliver-reply .ensures)
+    let l = c .before .before .before in
+    let s = start (l .before .before .before) in
+    free (l .before .before) .accepted _
+    (by-nothing (s .args .client) (s .args .target) (lent s) (l .link-at .ensures)
+    (c .before .enum-told .given .1) (c .showing-nothing2 .ensures))
+
+returns-3 : tie.Need-returns-3
+returns-3 c =
+    let l = c .before .before .before in
+    let s = start (l .before .before .before) in
+    free (l .before .before) .accepted _
+    (by-request (s .args .client) (s .args .target) (lent s) (l .link-at .ensures)
+    (c .before .enum-told2 .given .1) (c .showing-nothing3 .ensures))
+
+client-word-requires : tie.Need-client-word-requires
+client-word-requires c κs =
+    let h = free (c .before .before .before .before .before .before) .ready in
+    search needs
+
+set-done-requires : tie.Need-set-done-requires
+set-done-requires c κs =
+    let s = c .before .before .before .before in
+    let a = first s .args in
+    let t = lent (first s) in
+    let h = free (none s) in
+    let b = brings t (a .client) (a .target) h (link s .link-at .ensures) (s .before .before .before .content .given .1) in
+    (h .ready .answerable, (b .done (sym (s .client-word .ensures) ∙ c .before .before .before .if2 .taken), h .ready .linked))
+
+returns-4 : tie.Need-returns-4
+returns-4 c =
+    let at-set-done = c .before .before .before .before .before .before .before in
+    let at-if2 = at-set-done .before .before .before .before in
+    let s = at-if2 .before in
+    let a = first s .args in
+    let t = lent (first s) in
+    taken t (a .client) (a .target) (free (none s)) (link s .link-at .ensures) (s .before .before .before .content .given .1)
+    (by-set-done _ (a .client) (a .target) t (s .client-word .ensures) (at-if2 .if2 .taken)
+    (by-arrival (c .showing-nothing4 .ensures)
+    (at-set-done .set-done .ensures (a .keys .now) (a .values .now) (a .log .now) (a .writes .now) (a .reads .now))))
+
+entered-requires : tie.Need-entered-requires
+entered-requires c κs =
+    let at-if3 = c .before .before .before .before in
+    let s = at-if3 .before .before in
+    let a = first s .args in
+    let t = lent (first s) in
+    let h = free (none s) in
+    let b = brings t (a .client) (a .target) h (link s .link-at .ensures) (s .before .before .before .content .given .1) in
+    (h .ready .answerable, b .entered (sym (s .client-word .ensures) ∙ at-if3 .if3 .taken))
+
+returns-5 : tie.Need-returns-5
+returns-5 c =
+    let at-entered = c .before .before .before .before .before .before .before .before .before in
+    let at-if3 = at-entered .before .before .before .before .before in
+    let s = at-if3 .before .before in
+    let a = first s .args in
+    let t = lent (first s) in
+    taken t (a .client) (a .target) (free (none s)) (link s .link-at .ensures) (s .before .before .before .content .given .1)
+    (by-entered _ (a .client) (a .target) t (s .client-word .ensures) (at-if3 .before .if2 .left) (at-if3 .if3 .taken)
+    (by-arrival (c .showing-nothing5 .ensures)
+    (at-entered .entered .ensures (a .keys .now) (a .values .now) (a .log .now) (a .reads .now))))
+
+keys-told-requires : tie.Need-keys-told-requires
+keys-told-requires c κs =
+    let at-if4 = c .before .before .before in
+    let s = at-if4 .before .before .before in
+    let a = first s .args in
+    let t = lent (first s) in
+    let h = free (none s) in
+    let b = brings t (a .client) (a .target) h (link s .link-at .ensures) (s .before .before .before .content .given .1) in
+    (h .ready .answerable, (h .ready .linked, b .told (sym (s .client-word .ensures) ∙ at-if4 .if4 .taken)))
+
+returns-6 : tie.Need-returns-6
+returns-6 c =
+    let at-keys-told = c .before .before .before .before .before .before .before in
+    let at-if4 = at-keys-told .before .before .before .before in
+    let at-if3 = at-if4 .before in
+    let s = at-if3 .before .before in
+    let a = first s .args in
+    let t = lent (first s) in
+    taken t (a .client) (a .target) (free (none s)) (link s .link-at .ensures) (s .before .before .before .content .given .1)
+    (by-keys _ (a .client) (a .target) t (s .client-word .ensures) (at-if3 .before .if2 .left) (at-if3 .if3 .left) (at-if4 .if4 .taken)
+    (by-arrival (c .showing-nothing6 .ensures)
+    (at-keys-told .keys-told .ensures (a .keys .now) (a .values .now) (a .writes .now) (a .reads .now))))
+
+client-word-requires-2 : tie.Need-client-word-requires-2
+client-word-requires-2 c κs =
+    let h = free (none (c .before .before .before .before .before)) .ready in
+    search needs
+
+client-word-requires-3 : tie.Need-client-word-requires-3
+client-word-requires-3 c κs =
+    let h = free (none (c .before .before .before .before .before .before .before)) .ready in
+    search needs
+
+got-requires : tie.Need-got-requires
+got-requires c κs =
+    let at-if5 = c .before .before .before .before .before .before .before .before in
+    let s = at-if5 .before .before .before .before in
+    let a = first s .args in
+    let t = lent (first s) in
+    let h = free (none s) in
+    let b = brings t (a .client) (a .target) h (link s .link-at .ensures) (s .before .before .before .content .given .1) in
+    let g = b .got (sym (s .client-word .ensures) ∙ at-if5 .if5 .taken) in
+    (h .ready .answerable, ((h .ready .linked, g .0), g .1))
+
+returns-7 : tie.Need-returns-7
+returns-7 c =
+    let at-got = c .before .before .before .before .before .before .before .before .before .before in
+    let at-tag = at-got .before .before .before .before .before in
+    let at-mask = at-tag .before .before in
+    let at-if5 = at-mask .before .before in
+    let at-if4 = at-if5 .before in
+    let at-if3 = at-if4 .before in
+    let s = at-if3 .before .before in
+    let a = first s .args in
+    let t = lent (first s) in
+    taken t (a .client) (a .target) (free (none s)) (link s .link-at .ensures) (s .before .before .before .content .given .1)
+    (by-got _ (a .client) (a .target) t (s .client-word .ensures)
+    (at-if3 .before .if2 .left) (at-if3 .if3 .left) (at-if4 .if4 .left) (at-if5 .if5 .taken)
+    (by-waiting _ _ (at-got .got .ensures (a .keys .now) (a .values .now) (a .log .now) (a .writes .now))
+    (c .before .if6 .taken) (c .showing-nothing7 .ensures)))
+
+show-words-requires : tie.Need-show-words-requires
+show-words-requires c κs =
+    let at-got = c .before .before .before .before .before .before .before .before .before .before .before in
+    let s = at-got .before .before .before .before .before .before .before .before .before .before .before .before .before in
+    let h = free (none s) .ready in
+    let kept = at-got .got .kept in
+    search needs
+
+show-words-requires-2 : tie.Need-show-words-requires-2
+show-words-requires-2 c κs =
+    let at-got = c .before .before .before .before .before .before .before .before .before .before .before .before .before .before in
+    let s = at-got .before .before .before .before .before .before .before .before .before .before .before .before .before in
+    let h = free (none s) .ready in
+    let kept = at-got .got .kept in
+    search needs
+
+returns-8 : tie.Need-returns-8
+returns-8 c =
+    let at-show = c .before .before .before in
+    let at-got = at-show .before .before .before .before .before .before .before .before .before .before .before .before in
+    let at-tag = at-got .before .before .before .before .before in
+    let at-mask = at-tag .before .before in
+    let at-if5 = at-mask .before .before in
+    let at-if4 = at-if5 .before in
+    let at-if3 = at-if4 .before in
+    let s = at-if3 .before .before in
+    let a = first s .args in
+    let t = lent (first s) in
+    taken t (a .client) (a .target) (free (none s)) (link s .link-at .ensures) (s .before .before .before .content .given .1)
+    (by-got _ (a .client) (a .target) t (s .client-word .ensures)
+    (at-if3 .before .if2 .left) (at-if3 .if3 .left) (at-if4 .if4 .left) (at-if5 .if5 .taken)
+    (by-row _ _ (at-got .got .ensures (a .keys .now) (a .values .now) (a .log .now) (a .writes .now))
+    (at-show .before .before .before .if6 .left)
+    (rw (c .show-words2 .ensures, at-show .show-words .ensures, at-tag .client-word3 .ensures, at-mask .client-word2 .ensures))))
+
+all-told-requires : tie.Need-all-told-requires
+all-told-requires c κs =
+    let at-if5 = c .before .before .before .before in
+    let at-if4 = at-if5 .before in
+    let at-if3 = at-if4 .before in
+    let at-if2 = at-if3 .before in
+    let s = at-if2 .before in
+    let a = first s .args in
+    let t = lent (first s) in
+    let h = free (none s) in
+    let b = brings t (a .client) (a .target) h (link s .link-at .ensures) (s .before .before .before .content .given .1) in
+    let e = s .client-word .ensures in (
+      h .ready .answerable,
+      b .all (λ z. at-if2 .if2 .left (e ∙ z)) (λ z. at-if3 .if3 .left (e ∙ z)) (λ z. at-if4 .if4 .left (e ∙ z))
+          (λ z. at-if5 .if5 .left (e ∙ z)),
+    )
+
+returns-9 : tie.Need-returns-9
+returns-9 c =
+    let at-if5 = c .before .before .before .before .before .before .before .before .before .before .before .before .before in
+    let at-if4 = at-if5 .before in
+    let at-if3 = at-if4 .before in
+    let at-if2 = at-if3 .before in
+    let s = at-if2 .before in
+    let a = first s .args in
+    let t = lent (first s) in
+    taken t (a .client) (a .target) (free (none s)) (link s .link-at .ensures) (s .before .before .before .content .given .1)
+    (by-all _ (a .client) (a .target) t (s .client-word .ensures)
+    (at-if2 .if2 .left) (at-if3 .if3 .left) (at-if4 .if4 .left) (at-if5 .if5 .left)
+    (c .before .before .before .before .before .before .before .before .all-told .ensures (a .writes .now)))
 
 pub deliver-reply-sound-spec : {M : Type 1} → statement M
 deliver-reply-sound-spec =
     tie.close
-    (tie.spec (λ c κs. search needs) (λ c κs. search needs) (λ c. search needs) returns deliver-reply-requires (λ c. search needs) (λ c. search needs) (λ c. search needs) (λ c. search needs) (λ c. search needs) returns-2)
+    (tie.spec (λ c κs. search needs) (λ c κs. search needs) (λ c. search needs) returns link-at-requires
+    (λ c. search needs) (λ c κs. search needs) (λ c. search needs) (λ c. search needs) returns-2
+    (λ c. search needs) (λ c κs. search needs) (λ c. search needs) (λ c. search needs) returns-3
+    (λ c. search needs) client-word-requires
+    set-done-requires (λ c κs. search needs) (λ c. search needs) (λ c. search needs) (λ c. search needs) returns-4
+    entered-requires (λ c κs. search needs) (λ c. search needs) (λ c. search needs) (λ c. search needs) (λ c. search needs) returns-5
+    keys-told-requires (λ c κs. search needs) (λ c. search needs) (λ c. search needs) (λ c. search needs) returns-6
+    client-word-requires-2 client-word-requires-3
+    got-requires (λ c κs. search needs) (λ c. search needs) (λ c. search needs) (λ c. search needs) (λ c. search needs) returns-7
+    show-words-requires show-words-requires-2 (λ c. search needs) (λ c. search needs) (λ c. search needs) (λ c. search needs) returns-8
+    all-told-requires (λ c. search needs) (λ c. search needs) (λ c. search needs) (λ c. search needs) returns-9)

@@ -1,25 +1,12 @@
--- The print is written out where less is left of it than the longest answer.
-use mathlib.Core.Path.{sym, ap}
-use lib.ListN.{length}
-use lib.Seq.{length-take-le}
+-- The same run, where the print goes on.
+use mathlib.Core.Path.{ap}
 use Rattle.window.specs.Window.{roomy}
-use Rattle.window.specs.WindowLaws.{at-front, behind-used}
 use borrow.Author.Needs.{needs}
 use Rattle.window.proofs.make_room.Statement.{statement}
 use Rattle.window.proofs.make_room.Tie as tie
 
-slice-aggregate-write-all : tie.Need-slice-aggregate-write-all
-slice-aggregate-write-all c = let a = c .before .before .before .args in sym (length-take-le (a .run .used) (a .out .now) (search needs))
-
 returns : tie.Need-returns
-returns c =
-    let a = c .before .before .before .before .args in
-    ap (roomy (a .run)) (sym (at-front (a .run .used) (length (a .out .now)) (c .before .before .if1 .taken)))
-
-returns-2 : tie.Need-returns-2
-returns-2 c =
-    let a = c .before .before .args in
-    ap (roomy (a .run)) (sym (behind-used (a .run .used) (length (a .out .now)) (c .if1 .left)))
+returns c = ap (roomy (c .before .before .args .run)) (c .room-from .ensures)
 
 pub make-room-spec : {M : Type 1} → statement M
-make-room-spec = tie.close (tie.spec (λ c. search needs) slice-aggregate-write-all (λ c κs. search needs) returns returns-2)
+make-room-spec = tie.close (tie.spec (λ c κs. search needs) returns)

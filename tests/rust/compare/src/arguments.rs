@@ -19,7 +19,7 @@ impl Arguments {
                 _ => parsed.program.push(word.clone()),
             }
         }
-        let wants_program = parsed.subject == "schedules";
+        let wants_program = ["schedules", "load-text"].contains(&parsed.subject.as_str());
         (wants_program != parsed.program.is_empty()).then_some(parsed)
     }
 

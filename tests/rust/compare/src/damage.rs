@@ -103,6 +103,21 @@ fn change_together(tables: &mut Tables, random: &mut Random) {
     }
 }
 
+/// Brings sound tables close to their limits: WRITEs and READs begun, and with them some of the versions, the log and the step number.
+pub fn fill_to_limits(tables: &mut Tables, random: &mut Random) {
+    fill_writes(tables, random);
+    fill_reads(tables, random);
+    if random.chance(1, 2) {
+        fill_versions(tables, random);
+    }
+    if random.chance(1, 2) {
+        fill_log(tables, random);
+    }
+    if random.chance(1, 4) {
+        tables.counts[STEP] = u32::MAX - random.below(30) as u32;
+    }
+}
+
 /// The limit, or one less, and no less than is held.
 fn near(limit: usize, held: usize, random: &mut Random) -> usize {
     (limit - random.below(2)).max(held)

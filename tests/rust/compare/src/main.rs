@@ -5,11 +5,16 @@
 //!     compare tables [--cases N] [--seed S]
 //!     compare frames [--cases N] [--seed S]
 //!     compare wire [--cases N] [--seed S]
+//!     compare load [--cases N] [--seed S]
+//!     compare load-text PROGRAM [ARGUMENT...] [--cases N] [--seed S]
 
 mod arguments;
 mod damage;
 mod frames_run;
+mod load_run;
+mod load_text_run;
 mod messages;
+mod programs;
 mod reached;
 mod schedules_run;
 mod stores;
@@ -26,7 +31,10 @@ pub type Report = Result<String, String>;
 fn main() -> ExitCode {
     let given: Vec<String> = std::env::args().skip(1).collect();
     let Some(arguments) = Arguments::parse(&given) else {
-        eprintln!("usage: compare schedules PROGRAM [ARGUMENT...] | tables | frames | wire, each with [--cases N] [--seed S]");
+        eprintln!(
+            "usage: compare schedules PROGRAM [ARGUMENT...] | load-text PROGRAM [ARGUMENT...] | tables | frames | wire | load,"
+        );
+        eprintln!("       each with [--cases N] [--seed S]");
         return ExitCode::from(2);
     };
     let started = std::time::Instant::now();
@@ -35,6 +43,8 @@ fn main() -> ExitCode {
         "tables" => tables_run::compare(&arguments),
         "frames" => frames_run::compare(&arguments),
         "wire" => wire_run::compare(&arguments),
+        "load" => load_run::compare(&arguments),
+        "load-text" => load_text_run::compare(&arguments),
         other => Err(format!("no such comparison: {other}")),
     };
     let seconds = started.elapsed().as_secs_f32();

@@ -1,11 +1,10 @@
 //! Random schedules through a program: its output equal to the model's, byte by byte, and demand 3 on it.
 
 use crate::arguments::Arguments;
+use crate::programs::{first_difference, run};
 use crate::reached::Reached;
 use crate::Report;
 use demand3::Summary;
-use std::io::{Read, Write};
-use std::process::{Command, Stdio};
 
 /// Openings in one input, in turn: mostly one, whose register is then printed, and now and then many.
 const OPENINGS: [usize; 8] = [1, 1, 1, 5, 1, 1, 1, 29];
@@ -21,7 +20,7 @@ pub fn compare(arguments: &Arguments) -> Report {
         let openings = OPENINGS[inputs % OPENINGS.len()];
         let seed = arguments.seed_of(inputs);
         let schedule = schedules::schedule(seed, openings);
-        let output = play(&arguments.program, &schedule)?;
+        let output = run(&arguments.program, &schedule)?;
         let found = judge(&schedule, &output).map_err(|difference| keep(&schedule, &output, seed, &difference))?;
         reached.add(&schedule, &found);
         inputs += 1;
@@ -42,22 +41,6 @@ fn judge(schedule: &[u8], output: &[u8]) -> Result<Summary, String> {
     demand3::check(schedule, output).map_err(|violation| format!("demand 3, {violation}"))
 }
 
-/// The first line in which two outputs differ.
-fn first_difference(expected: &[u8], output: &[u8]) -> String {
-    let text = |line: Option<&[u8]>| line.map_or("nothing".into(), |line| String::from_utf8_lossy(line).into_owned());
-    let (mut wanted, mut found) = (expected.split(|&byte| byte == 10), output.split(|&byte| byte == 10));
-    let mut number = 1;
-    loop {
-        match (wanted.next(), found.next()) {
-            (None, None) => return "the outputs are equal".into(),
-            (one, other) if one != other => {
-                return format!("output line {number} is '{}' and the model's is '{}'", text(other), text(one));
-            }
-            _ => number += 1,
-        }
-    }
-}
-
 /// Keeps both texts of a difference for a closer look.
 fn keep(schedule: &[u8], output: &[u8], seed: u64, difference: &str) -> String {
     let folder = std::env::temp_dir();
@@ -68,26 +51,4 @@ fn keep(schedule: &[u8], output: &[u8], seed: u64, difference: &str) -> String {
         Err(error) => format!("the texts could not be kept: {error}"),
     };
     format!("input {seed}: {difference}; {place}")
-}
-
-/// Runs the program on an input; the input is written beside the reading, since a pipe holds only so much.
-fn play(program: &[String], input: &[u8]) -> Result<Vec<u8>, String> {
-    let failed = |error: std::io::Error| format!("{}: {error}", program[0]);
-    let mut child =
-        Command::new(&program[0]).args(&program[1..]).stdin(Stdio::piped()).stdout(Stdio::piped()).spawn().map_err(failed)?;
-    let mut stdin = child.stdin.take().expect("piped");
-    let mut stdout = child.stdout.take().expect("piped");
-    let mut output = Vec::new();
-    std::thread::scope(|scope| {
-        // A program that stops reading shows in its output.
-        scope.spawn(move || stdin.write_all(input));
-        stdout.read_to_end(&mut output)
-    })
-    .map_err(failed)?;
-    let status = child.wait().map_err(failed)?;
-    if status.success() {
-        Ok(output)
-    } else {
-        Err(format!("{}: {status}", program[0]))
-    }
 }

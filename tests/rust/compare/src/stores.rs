@@ -36,7 +36,7 @@ pub fn visit_store(seed: u64, visit: &mut impl FnMut(&mut Tables, &Step) -> Resu
 }
 
 /// Tables for an opening: just long enough or longer, full of one word.
-fn fresh_tables(opening: &Step, random: &mut Random) -> Tables {
+pub fn fresh_tables(opening: &Step, random: &mut Random) -> Tables {
     let Step::Open { servers, clients, .. } = opening else {
         unreachable!("openings open");
     };
@@ -63,4 +63,15 @@ pub fn shown(tables: &Tables) -> String {
         first(&tables.writes, 50),
         first(&tables.reads, 50)
     )
+}
+
+/// The first word that differs.
+pub fn differing(proved: &Tables, tables: &Tables) -> String {
+    const NAMES: [&str; 8] = ["counts", "clients", "links", "keys", "setpoints", "log", "writes", "reads"];
+    for (which, (one, other)) in proved.all().into_iter().zip(tables.all()).enumerate() {
+        if let Some(place) = (0..one.len()).find(|&place| one[place] != other[place]) {
+            return format!("{}[{place}] is {}, the model's {}", NAMES[which], one[place], other[place]);
+        }
+    }
+    "none".into()
 }

@@ -1,7 +1,7 @@
 //! Tables through the proved check and the proved public steps: the answers and every word as the model has them.
 
 use crate::arguments::Arguments;
-use crate::stores::{shown, visit_store};
+use crate::stores::{differing, shown, visit_store};
 use crate::tally::Tally;
 use crate::Report;
 use ffi::StoreLibrary;
@@ -74,15 +74,4 @@ fn same(before: &Tables, step: &Step, model: (&Outcome, &Tables), library: (&Out
         ));
     }
     Ok(())
-}
-
-/// The first word that differs.
-fn differing(proved: &Tables, tables: &Tables) -> String {
-    const NAMES: [&str; 8] = ["counts", "clients", "links", "keys", "setpoints", "log", "writes", "reads"];
-    for (which, (one, other)) in proved.all().into_iter().zip(tables.all()).enumerate() {
-        if let Some(place) = (0..one.len()).find(|&place| one[place] != other[place]) {
-            return format!("{}[{place}] is {}, the model's {}", NAMES[which], one[place], other[place]);
-        }
-    }
-    "none".into()
 }

@@ -18,7 +18,14 @@ const DUE_FRAMES: [&str; 16] = [
     "kind 1", "kind 2", "kind 3", "kind 4", "kind 5", "kind 6", "kind 7", "kind 8", "kind 9", "kind 10", "kind 11", "kind 12",
     "no 2", "no 3", "no 9", "no 12",
 ];
-const DUE_LISTS: [&str; 3] = ["listed", "no 2", "no 12"];
+const DUE_LISTS: [&str; 5] =
+    ["listed", "no 2", "no 12", "with READs of one tag that end in another order", "with READs that tie"];
+
+/// A READ's kind, and words of a row of the register.
+const READ: u32 = 1;
+const TAG: usize = 1;
+const BEGIN: usize = 4;
+const END: usize = 5;
 
 /// Room for the longest frame, of 256 versions, and for the longest register.
 const LONGEST_FRAME: usize = 1411;
@@ -140,9 +147,25 @@ fn compare_list(library: WireLibrary, tables: &Tables, random: &mut Random, coun
         let place = (0..list.len()).find(|&place| list[place] != expected_list[place]).expect("they differ");
         return Err(format!("word {place} is {}, the model's {}; {}", list[place], expected_list[place], shown(tables)));
     }
-    counts.lists.count(&match expected {
-        Ok(_) => "listed".into(),
-        Err(refusal) => refusal.to_string(),
-    });
+    match expected {
+        Ok(lines) => {
+            counts.lists.count("listed");
+            count_orders(&list[..LINE_WORDS * lines], &mut counts.lists);
+        }
+        Err(refusal) => counts.lists.count(&refusal.to_string()),
+    }
     Ok(())
+}
+
+/// Whether READs of one tag, listed by begin, ended in another order, and whether different ones began at one step.
+fn count_orders(list: &[u32], lists: &mut Tally) {
+    let rows: Vec<&[u32]> = list.chunks_exact(LINE_WORDS).collect();
+    let of_one_tag = |pair: &&[&[u32]]| pair[0][0] == READ && pair[1][0] == READ && pair[0][TAG] == pair[1][TAG];
+    let pairs: Vec<&[&[u32]]> = rows.windows(2).filter(of_one_tag).collect();
+    if pairs.iter().any(|pair| pair[0][END] > pair[1][END]) {
+        lists.count("with READs of one tag that end in another order");
+    }
+    if pairs.iter().any(|pair| pair[0][BEGIN] == pair[1][BEGIN] && pair[0] != pair[1]) {
+        lists.count("with READs that tie");
+    }
 }

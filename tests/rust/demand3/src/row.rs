@@ -5,14 +5,14 @@ use crate::text::Value;
 use crate::{violation, Violation};
 
 /// The places of the tagged WRITEs and finished READs in the order of the row:
-/// the WRITE of each tag, then the READs of that tag by end.
+/// the WRITE of each tag, then the READs of that tag "in order of begin step".
 pub fn row_of(run: &Run) -> Result<Vec<usize>, Violation> {
     let mut reads: Vec<usize> = (0..run.transactions.len()).filter(|&place| finished_read(&run.transactions[place])).collect();
     let last = run.tagged.len();
     if let Some(&place) = reads.iter().find(|&&place| tag(run, place) > last) {
         return Err(violation(0, format!("a READ shows tag {}, and {last} WRITEs are tagged", tag(run, place))));
     }
-    reads.sort_by_key(|&place| (tag(run, place), run.transactions[place].end));
+    reads.sort_by_key(|&place| (tag(run, place), run.transactions[place].begin));
     let mut row = Vec::new();
     let mut reads = reads.into_iter().peekable();
     for number in 0..=last {

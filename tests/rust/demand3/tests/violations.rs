@@ -122,13 +122,28 @@ fn an_invented_step_number() {
     assert!(sample_report("W 1 0 1 2 15", "W 1 0 1 2 -").contains("register"));
 }
 
+/// Document 02's E3, by method B: of three READs of tag 0 the first begun ends last, and panel 1's second begins when its first has
+/// ended. The answers and the register are written by hand.
+const READS_OF_ONE_TAG: &str = "O 2 1 2 5\nR 0 1\nR 1 1\n> 1 16\n< 1 16\n> 1 0\n< 1 0\n\
+    R 1 1\n> 1 16\n< 1 16\n> 1 0\n< 1 0\n> 0 16\n< 0 16\n> 0 0\n< 0 0\n";
+const READS_PRINTED: &str = "1 ok\n2 ok\n3 ok\n4 ok\n5 next\n6 ok\n7 read 0 0=5@0\n\
+    8 ok\n9 ok\n10 next\n11 ok\n12 read 0 0=5@0\n13 ok\n14 next\n15 ok\n16 read 0 0=5@0\n\
+    R 0 0 2 16 0\nR 0 1 3 7 0\nR 0 1 8 12 0\n";
+
 #[test]
 fn reads_of_equal_tag_in_the_wrong_order() {
-    // Panel 0's READ begins first and ends last.
-    let schedule = "O 3 1 2 5\nR 0 1\nR 1 1\n> 0 0\n> 1 0\n> 0 16\n> 1 16\n< 1 0\n< 1 16\n< 0 0\n< 0 16\n";
-    let right = printed(schedule);
-    assert!(right.ends_with("R 0 1 3 9 0\nR 0 0 2 11 0\n"), "{right}");
-    assert!(report(schedule, &right, "R 0 1 3 9 0\nR 0 0 2 11 0\n", "R 0 0 2 11 0\nR 0 1 3 9 0\n").contains("register"));
+    assert_eq!(printed(READS_OF_ONE_TAG), READS_PRINTED);
+    let (first, second, third) = ("R 0 0 2 16 0\n", "R 0 1 3 7 0\n", "R 0 1 8 12 0\n");
+    let right = [first, second, third].concat();
+    let wrong = [
+        ("by end", [second, third, first]),
+        ("by begin falling", [third, second, first]),
+        ("a READ that had ended behind the one begun then", [first, third, second]),
+    ];
+    for (what, wrong) in wrong {
+        let report = report(READS_OF_ONE_TAG, READS_PRINTED, &right, &wrong.concat());
+        assert!(report.contains("the register has"), "{what}: {report}");
+    }
 }
 
 #[test]

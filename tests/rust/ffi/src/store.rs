@@ -77,33 +77,13 @@ impl StoreLibrary {
 
 #[cfg(store_exports)]
 mod linked {
+    use crate::exported::exported;
     use model::key::{has_server, servers_of};
     use model::{Answer, Outcome, Refusal, Shown, Step};
     use words::layout::MASK;
     use words::Tables;
 
-    /// Rust functions by the names of exported ones that are lent the eight tables alike, each as `ptr` or `mut`.
-    /// A table crosses as a pointer and a length. Nothing checks these declarations against crates/store_exports/src/lib.rt.
-    macro_rules! exported {
-        (@pointer mut) => { *mut u32 };
-        (@pointer ptr) => { *const u32 };
-        (@lend mut $table:expr) => { $table.as_mut_ptr() };
-        (@lend ptr $table:expr) => { $table.as_ptr() };
-        (@one $name:ident $lender:ty, [$($table:ident $lent:ident),*] ($($more:ident: $type:ty),*) -> $answer:ty) => {
-            #[inline]
-            unsafe fn $name(t: $lender $(, $more: $type)*) -> $answer {
-                // Within this block the name is the exported function's.
-                extern "C" {
-                    fn $name($($table: exported!(@pointer $lent), _: usize,)* $($more: $type),*) -> $answer;
-                }
-                $name($(exported!(@lend $lent t.$table), t.$table.len(),)* $($more),*)
-            }
-        };
-        ($($name:ident),+: $lender:ty, $tables:tt $more:tt -> $answer:ty) => {
-            $(exported!(@one $name $lender, $tables $more -> $answer);)+
-        };
-    }
-
+    // Nothing checks these declarations against crates/store_exports/src/lib.rt.
     exported!(store_sound: &Tables,
         [counts ptr, clients ptr, links ptr, keys ptr, setpoints ptr, log ptr, writes ptr, reads ptr]
         () -> bool);

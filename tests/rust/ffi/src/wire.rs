@@ -43,27 +43,17 @@ impl WireLibrary {
 
 #[cfg(wire_exports)]
 mod linked {
+    use crate::exported::exported;
     use model::Refusal;
     use words::Tables;
 
-    /// Rust functions by the names of exported ones that are lent the eight tables to read.
-    /// Nothing checks these declarations against crates/wire_exports/src/lib.rt.
-    macro_rules! exported {
-        ($name:ident, [$($table:ident),*] ($($more:ident: $type:ty),*)) => {
-            pub unsafe fn $name(t: &Tables $(, $more: $type)*) -> u64 {
-                // Within this block the name is the exported function's.
-                extern "C" {
-                    fn $name($($table: *const u32, _: usize,)* $($more: $type),*) -> u64;
-                }
-                $name($(t.$table.as_ptr(), t.$table.len(),)* $($more),*)
-            }
-        };
-    }
-
-    exported!(wire_write_link_frame, [counts, clients, links, keys, setpoints, log, writes, reads]
-        (client: u32, target: u32, bytes: *mut u8, bytes_length: usize));
-    exported!(wire_list_register, [counts, clients, links, keys, setpoints, log, writes, reads]
-        (list: *mut u32, list_length: usize));
+    // Nothing checks these declarations against crates/wire_exports/src/lib.rt.
+    exported!(wire_write_link_frame: &Tables,
+        [counts ptr, clients ptr, links ptr, keys ptr, setpoints ptr, log ptr, writes ptr, reads ptr]
+        (client: u32, target: u32, bytes: *mut u8, bytes_length: usize) -> u64);
+    exported!(wire_list_register: &Tables,
+        [counts ptr, clients ptr, links ptr, keys ptr, setpoints ptr, log ptr, writes ptr, reads ptr]
+        (list: *mut u32, list_length: usize) -> u64);
 
     /// A refusal is 2^64 - 1 less its number; any other number is the answer.
     pub fn answer(number: u64) -> Result<usize, Refusal> {

@@ -9,22 +9,27 @@ use crate::store::{Method, Store};
 use crate::{COORDINATOR, MOST_BEGUN};
 
 impl Store {
-    /// "Begin a WRITE: next count; a request to each masked station; state 1."
-    pub fn begin_write(&mut self, client: u32, mask: u32, setpoints: &[u32]) -> Outcome {
+    /// The client that may begin a WRITE of this mask with so many setpoints, or why it may not.
+    pub(crate) fn writer(&self, client: u32, mask: u32, setpoints: usize) -> Result<usize, Refusal> {
         let client = self.existing_client(client)?;
         if self.method == Method::A && client == 0 {
             return Err(Refusal::WrongPart);
         }
         self.idle(client)?;
         self.good_mask(mask)?;
-        if setpoints.len() != self.servers.len() {
+        if setpoints != self.servers.len() {
             return Err(Refusal::BadMask);
         }
         if self.writes.len() >= MOST_BEGUN {
             return Err(Refusal::Exhausted);
         }
         self.step_left()?;
+        Ok(client)
+    }
 
+    /// "Begin a WRITE: next count; a request to each masked station; state 1."
+    pub fn begin_write(&mut self, client: u32, mask: u32, setpoints: &[u32]) -> Outcome {
+        let client = self.writer(client, mask, setpoints.len())?;
         self.step += 1;
         let count = self.clients[client].count + 1;
         let key = Key { count, client: client as u8 };
@@ -42,8 +47,8 @@ impl Store {
         Ok(Answer::Ok)
     }
 
-    /// "Begin a READ." Method 1: only panel 0 reads.
-    pub fn begin_read(&mut self, client: u32, mask: u32) -> Outcome {
+    /// The client that may begin a READ of this mask, or why it may not. Method 1: only panel 0 reads.
+    pub(crate) fn reader(&self, client: u32, mask: u32) -> Result<usize, Refusal> {
         let client = self.existing_client(client)?;
         if self.method == Method::A && client != 0 {
             return Err(Refusal::WrongPart);
@@ -54,7 +59,12 @@ impl Store {
             return Err(Refusal::Exhausted);
         }
         self.step_left()?;
+        Ok(client)
+    }
 
+    /// "Begin a READ."
+    pub fn begin_read(&mut self, client: u32, mask: u32) -> Outcome {
+        let client = self.reader(client, mask)?;
         self.step += 1;
         self.clients[client].mask = mask;
         self.clients[client].record = self.reads.len();

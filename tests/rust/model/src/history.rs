@@ -35,11 +35,11 @@ fn overlap(writes: &[WriteRecord], begin: u32, end: u32) -> usize {
     writes.iter().filter(overlaps).count()
 }
 
-/// "The register lists by tag: the WRITE of a tag, finished or not, then finished READs of that tag by end step;
-/// what ties keeps the order of records. Tag 0 has READs only."
+/// "The register lists by tag: the WRITE of a tag, finished or not, then finished READs of that tag"; "The register now puts READs
+/// of one tag in order of begin step"; "what ties keeps the order of records. Tag 0 has READs only."
 pub fn listing<'a>(writes: &'a [WriteRecord], reads: &'a [ReadRecord]) -> Vec<Listed<'a>> {
     let mut finished: Vec<(&ReadRecord, u32)> = reads.iter().filter_map(|read| read.end.map(|end| (read, end))).collect();
-    finished.sort_by_key(|&(read, end)| (read.tag, end));
+    finished.sort_by_key(|&(read, _)| (read.tag, read.begin));
     let mut tagged: Vec<&WriteRecord> = writes.iter().filter(|write| write.tag > 0).collect();
     tagged.sort_by_key(|write| write.tag);
 
@@ -48,7 +48,7 @@ pub fn listing<'a>(writes: &'a [WriteRecord], reads: &'a [ReadRecord]) -> Vec<Li
         let overlap = overlap(writes, record.begin, end);
         Listed::Read { record, end, overlap }
     }));
-    // Stable: a tag's WRITE stays ahead of its READs, and those stay by end.
+    // Stable: a tag's WRITE stays ahead of its READs, and those stay by begin.
     lines.sort_by_key(|line| match line {
         Listed::Write(write) => write.tag,
         Listed::Read { record, .. } => record.tag,

@@ -1,4 +1,4 @@
-//! Documents 01 and 02 (E1) in plain Rust: the store, its five steps, the history and the program that plays a schedule.
+//! Documents 01 and 02 (E1, E2) in plain Rust: the store, its five steps, the history, the program that plays a schedule, and loads.
 //! It is written from the papers and the readings in docs/DECISIONS.md, and shares no code with the proved crates.
 //!
 //! A press is a `Store` here, a station a server, a panel a client, the head the coordinator, the register the history.
@@ -11,6 +11,7 @@ pub mod history;
 pub mod key;
 pub mod line;
 pub mod link;
+pub mod load;
 pub mod replay;
 mod reply;
 mod request;

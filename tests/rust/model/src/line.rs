@@ -1,4 +1,4 @@
-//! The text of a schedule: its lines, and the step that a line names.
+//! The text of a schedule: its lines, and the step that a line names; and the line that asks for a load.
 
 use crate::step::Step;
 
@@ -27,6 +27,12 @@ pub fn step_of(line: &[u8]) -> Option<Step> {
         (b'<', &[client, target]) => Some(Step::DeliverReply { client, target }),
         _ => None,
     }
+}
+
+/// The numbers of a line `seed length method k p`, or `None` where it is of any other shape.
+pub fn load_of(line: &[u8]) -> Option<[u32; 5]> {
+    let spaced = [b" ", line].concat();
+    numbers(&spaced)?.try_into().ok()
 }
 
 /// Numbers with one space before each, to the end of the line.

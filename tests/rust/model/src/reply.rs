@@ -9,12 +9,19 @@ use crate::store::Store;
 use crate::COORDINATOR;
 
 impl Store {
-    pub fn deliver_reply(&mut self, client: u32, target: u32) -> Outcome {
+    /// The link and the reply that can be delivered there, or why none can.
+    pub(crate) fn reply_on(&self, client: u32, target: u32) -> Result<(usize, usize, &Reply), Refusal> {
         let (client, target) = self.existing_link(client, target)?;
         self.step_left()?;
-        let Link::Reply(reply) = self.clients[client].links[target].clone() else {
+        let Link::Reply(reply) = &self.clients[client].links[target] else {
             return Err(Refusal::NothingThere);
         };
+        Ok((client, target, reply))
+    }
+
+    pub fn deliver_reply(&mut self, client: u32, target: u32) -> Outcome {
+        let (client, target, reply) = self.reply_on(client, target)?;
+        let reply = reply.clone();
         self.step += 1;
         self.clients[client].links[target] = Link::Nothing;
         Ok(self.receive(client, target, reply))

@@ -1,53 +1,78 @@
 //! The delivery of a request: what a station or the head does with it, and the reply left on the link.
 
 use crate::answer::{Answer, Outcome, Refusal};
-use crate::key::{latest, setpoint_of, Entry, Key, Version};
+use crate::key::{latest, setpoint_of, Entry, Version};
 use crate::link::{Link, Reply, Request};
 use crate::store::Store;
 use crate::MOST_HELD;
 
+/// What a request that can be delivered does.
+pub(crate) enum Due {
+    Append(Version),
+    Enter(Entry),
+    TellKeys,
+    TellSetpoint(u32),
+    TellVersions,
+    TellLog,
+}
+
 impl Store {
-    pub fn deliver_request(&mut self, client: u32, target: u32) -> Outcome {
+    /// The link and what its request does there, or why it cannot be delivered.
+    pub(crate) fn request_on(&self, client: u32, target: u32) -> Result<(usize, usize, Due), Refusal> {
         let (client, target) = self.existing_link(client, target)?;
         self.step_left()?;
-        let Link::Request(request) = self.clients[client].links[target].clone() else {
+        let Link::Request(request) = &self.clients[client].links[target] else {
             return Err(Refusal::NothingThere);
         };
-        let reply = self.answer_request(client, target, request)?;
+        Ok((client, target, self.due(target, request)?))
+    }
+
+    /// "a set or enter request finds 256 versions or log entries, or a get request a key not held": 8
+    fn due(&self, target: usize, request: &Request) -> Result<Due, Refusal> {
+        match *request {
+            Request::Set { key, setpoint } if self.servers[target].len() < MOST_HELD => {
+                Ok(Due::Append(Version { key, setpoint }))
+            }
+            Request::Enter { key, mask } if self.log.len() < MOST_HELD => Ok(Due::Enter(Entry { key, mask })),
+            Request::Set { .. } | Request::Enter { .. } => Err(Refusal::FullOrNotHeld),
+            Request::WhichKeys => Ok(Due::TellKeys),
+            Request::Get { key } => setpoint_of(&self.servers[target], key).map(Due::TellSetpoint).ok_or(Refusal::FullOrNotHeld),
+            Request::GetAll => Ok(Due::TellVersions),
+            Request::GetLog => Ok(Due::TellLog),
+        }
+    }
+
+    pub fn deliver_request(&mut self, client: u32, target: u32) -> Outcome {
+        let (client, target, due) = self.request_on(client, target)?;
+        let reply = self.answered(client, target, due);
         self.clients[client].links[target] = Link::Reply(reply);
         self.step += 1;
         Ok(Answer::Ok)
     }
 
-    fn answer_request(&mut self, client: usize, target: usize, request: Request) -> Result<Reply, Refusal> {
-        match request {
-            Request::Set { key, setpoint } => self.append_version(target, Version { key, setpoint }),
-            Request::Enter { key, mask } => self.append_entry(client, Entry { key, mask }),
-            Request::WhichKeys => Ok(self.newest_keys()),
-            Request::Get { key } => self.look_up(target, key),
-            Request::GetAll => Ok(Reply::All { versions: self.servers[target].clone() }),
-            Request::GetLog => Ok(Reply::Log { entries: self.log.clone() }),
+    fn answered(&mut self, client: usize, target: usize, due: Due) -> Reply {
+        match due {
+            Due::Append(version) => self.append_version(target, version),
+            Due::Enter(entry) => self.append_entry(client, entry),
+            Due::TellKeys => self.newest_keys(),
+            Due::TellSetpoint(setpoint) => Reply::Got { setpoint },
+            Due::TellVersions => Reply::All { versions: self.servers[target].clone() },
+            Due::TellLog => Reply::Log { entries: self.log.clone() },
         }
     }
 
     /// "A request delivered there appends (key, setpoint)."
-    fn append_version(&mut self, server: usize, version: Version) -> Result<Reply, Refusal> {
-        if self.servers[server].len() >= MOST_HELD {
-            return Err(Refusal::FullOrNotHeld);
-        }
+    fn append_version(&mut self, server: usize, version: Version) -> Reply {
         self.servers[server].push(version);
-        Ok(Reply::SetDone)
+        Reply::SetDone
     }
 
     /// "that delivery appends to the log, and the new place is the tag"
-    fn append_entry(&mut self, client: usize, entry: Entry) -> Result<Reply, Refusal> {
-        if self.log.len() >= MOST_HELD {
-            return Err(Refusal::FullOrNotHeld);
-        }
+    fn append_entry(&mut self, client: usize, entry: Entry) -> Reply {
         self.log.push(entry);
         let tag = self.last_tag();
         self.writes[self.clients[client].record].tag = tag;
-        Ok(Reply::Entered { tag })
+        Reply::Entered { tag }
     }
 
     /// "its reply has the last tag and all k keys", each with its own tag
@@ -55,10 +80,5 @@ impl Store {
         let tag = self.last_tag();
         let keys = (0..self.servers.len()).map(|server| latest(&self.log, server, tag));
         Reply::Keys { tag, keys: keys.collect() }
-    }
-
-    fn look_up(&self, server: usize, key: Key) -> Result<Reply, Refusal> {
-        let setpoint = setpoint_of(&self.servers[server], key).ok_or(Refusal::FullOrNotHeld)?;
-        Ok(Reply::Got { setpoint })
     }
 }

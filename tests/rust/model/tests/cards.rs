@@ -1,7 +1,8 @@
 //! The bench cards that are about steps, and the tags that READs show.
 
+use model::history::{listing, Listed};
 use model::key::{latest, servers_of, Entry, Key, Latest};
-use model::{replay, Answer, Refusal, Shown, Store};
+use model::{replay, Answer, ReadRecord, Refusal, Shown, Store};
 
 fn opened(method: u32, servers: u32, clients: u32) -> Store {
     let setpoints: Vec<u32> = (0..servers).map(|server| 100 + server).collect();
@@ -208,4 +209,21 @@ fn c_keeps_no_tags() {
     cross(&mut store, 0, 0);
     assert_eq!(cross(&mut store, 0, 16), read(1, &[(0, 7, 1)]));
     assert_eq!(kept(&store), [0, 1]);
+}
+
+/// A READ record of a tag, with its panel as its name.
+fn finished(client: usize, tag: usize, begin: u32, end: u32) -> ReadRecord {
+    ReadRecord { client, mask: 1, tag, begin, end: Some(end) }
+}
+
+/// "READs of one tag in order of begin step", "what ties keeps the order of records", on records that stand in no order.
+#[test]
+fn reads_of_one_tag_by_begin() {
+    let unfinished = ReadRecord { end: None, ..finished(9, 1, 0, 0) };
+    let reads = [finished(0, 1, 7, 20), finished(1, 0, 9, 10), unfinished, finished(2, 1, 5, 30), finished(3, 1, 7, 8)];
+    let panel = |line: &Listed| match line {
+        Listed::Read { record, .. } => record.client,
+        Listed::Write(_) => unreachable!("there are READs only"),
+    };
+    assert_eq!(listing(&[], &reads).iter().map(panel).collect::<Vec<_>>(), [1, 2, 0, 3]);
 }

@@ -1,6 +1,7 @@
-//! The lent tables of words, in the layout of docs/DECISIONS.md: soundness, and the model's steps on them.
+//! The lent tables of words, in the layout of docs/DECISIONS.md: soundness, and the model's steps and loads on them.
 
 pub mod layout;
+pub mod load;
 mod reading;
 pub mod register;
 pub mod sound;

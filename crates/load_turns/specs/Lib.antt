@@ -1,0 +1,2 @@
+-- The sizes of what the program prints a load with.
+pub mod Sized

@@ -1,0 +1,35 @@
+-- A reply delivered to sound tables where no fault refuses it.
+use Prim.Native.Nat.{ℕ}
+use mathlib.Core.Path.{_≡_, sym, _∙_, ap}
+use Rattle.tables.specs.Links.{linkAt}
+use Rattle.tables.specs.Tables.{Tables, stateOf}
+use Rattle.tables.specs.declared.links.Contents.{Contents}
+use Rattle.tables.specs.declared.links.Content.the-variants.{Reply}
+use Rattle.tables.specs.declared.links.Link.{Link}
+use Rattle.rules.specs.Answers.{Arrived}
+use Rattle.rules.specs.Reply.{onReplyIn, replyDelivered}
+use Rattle.soundness.specs.Facts.{Sound}
+use Rattle.refusals.specs.Refusals.{deliveryFault}
+use Rattle.refusals.specs.Steps.{deliverReply}
+use Rattle.replies.specs.Ready.{Brings, ReplyReady}
+use Rattle.replies.specs.Cases.{by-reply}
+use Rattle.store.specs.ReadyReplies.{reply-ready}
+use Rattle.store.specs.Cases.{reply-accepted, delivery-able}
+
+-- the tables are ready for it, and what it leaves is what the step leaves
+pub record Taking (t : Tables) (q i : ℕ) : Type 0 where
+  pub ready : ReplyReady (t .counts) (t .clients) (t .links) (t .keys) (t .values) (t .log) (t .writes) (t .reads) q i
+  pub accepted : (x : Arrived) → x ≡ replyDelivered q i t → x ≡ deliverReply q i t
+
+-- n is the fault that was found
+pub taking : (t : Tables) → Sound t → (q i : ℕ) {n : ℕ} → n ≡ deliveryFault q i t → n ≡ 0 → Taking t q i
+taking t s q i d z = record { ready = reply-ready t s q i (delivery-able t s q i d z); accepted = λ x e. reply-accepted t s q i d z e }
+
+-- l is what was read of the links, w what the reply there brings
+module _
+    (t : Tables) (q i : ℕ) (h : Taking t q i) {l : Link} {w : Contents} (e : l ≡ linkAt (t .links) q i) (f : l .content ≡ Reply w) where
+  pub brings : Brings (t .counts) (t .clients) (t .links) (t .keys) (t .values) (t .log) (t .writes) (t .reads) q i (w .number)
+  brings = h .ready .brings w (ap (λ (k : Link). k .content) (sym e) ∙ f)
+
+  pub taken : {x : Arrived} → x ≡ onReplyIn (stateOf t q) w q i t → x ≡ deliverReply q i t
+  taken g = h .accepted _ (by-reply q i t e f g)

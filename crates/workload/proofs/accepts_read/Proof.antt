@@ -1,0 +1,17 @@
+use mathlib.Core.List.{[]}
+use Rattle.workload.specs.Accepts.{seen}
+use Rattle.workload.specs.Cases.{by-read}
+use borrow.Author.Needs.{needs}
+use Rattle.workload.proofs.accepts_read.Statement.{statement}
+use Rattle.workload.proofs.accepts_read.Tie as tie
+
+returns : tie.Need-returns
+returns c =
+    let a = c .before .before .before .before .before .args in
+    λ links keys. by-read (seen (a .counts .now) (a .clients .now) links keys) (a .client) (c .before .before .count-at .ensures)
+    (c .before .all-servers .ensures)
+    (c .read-fault .ensures links keys [] [] [] [])
+
+pub accepts-read-spec : {M : Type 1} → statement M
+accepts-read-spec =
+    tie.close (tie.spec (λ c κs. search needs) (λ c κs. search needs) (λ c κs. search needs) returns)

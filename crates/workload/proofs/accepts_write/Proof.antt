@@ -1,0 +1,19 @@
+use Rattle.tables.specs.Tables.{tablesOf}
+use mathlib.Core.List.{[]}
+use Rattle.workload.specs.Accepts.{seen}
+use Rattle.workload.specs.Cases.{by-write}
+use borrow.Author.Needs.{needs}
+use Rattle.workload.proofs.accepts_write.Statement.{statement}
+use Rattle.workload.proofs.accepts_write.Tie as tie
+
+returns : tie.Need-returns
+returns c =
+    let a = c .before .before .before .before .before .args in
+    λ links keys. by-write (seen (a .counts .now) (a .clients .now) links keys) (a .client) (c .before .before .count-at .ensures)
+    (c .before .all-servers .ensures)
+    (c .write-fault .ensures links keys [] [] [] [])
+
+pub accepts-write-spec : {M : Type 1} → statement M
+accepts-write-spec =
+    tie.close
+    (tie.spec (λ c κs. search needs) (λ c κs. search needs) (λ c. search needs) (λ c κs. search needs) returns)

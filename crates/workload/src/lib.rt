@@ -1,0 +1,328 @@
+// The load: the step that it gives next, picked by its seed among the steps that would be accepted.
+ghost use mathlib.Core.Path.{_≡_};
+ghost use mathlib.Core.List.{List};
+ghost use Prim.Native.Nat.{ℕ, _/_, _≤_, _<_};
+ghost use lib.ListN.{length};
+ghost use Rattle.tables.specs.Rows.{HasRow};
+ghost use Rattle.tables.specs.Layout.{countAt, clientsField, countWords};
+ghost use Rattle.tables.specs.Links.{targets, linkWidth, linkRow};
+ghost use Rattle.tables.specs.Tables.{tablesOf, clientsOf};
+ghost use Rattle.soundness.specs.Facts.{Sound};
+ghost use Rattle.refusals.specs.Cases.{Judged};
+ghost use Rattle.workload.specs.Passing.{passing};
+ghost use Rattle.workload.specs.Load.{advance, indexBy, numbered, numberedCount, pickedFrom, nextStep};
+ghost use Rattle.workload.specs.Accepts.{seen, acceptsWrite, acceptsRead, isHeld, answersIn, acceptsRequest, acceptsReply, accepts};
+ghost use Rattle.workload.specs.Ready.{Searched, Served, Numberable, Scanned};
+ghost use Rattle.workload.specs.PassingLaws.{Noted, Found};
+use keys::Key;
+use rules::states;
+use schedule::Step;
+use tables::clients;
+use tables::counts;
+use tables::links;
+use tables::links::Contents;
+use tables::log;
+use tables::versions;
+
+// A step of the load: that of a schedule, and the setpoint of every server in it.
+pub struct LoadStep {
+    pub step: Step,
+    pub setpoint: u32,
+}
+
+// What a pick gives.
+pub enum Next {
+    // the tables are not sound: number 2
+    Refused(u8),
+    // no step is acceptable
+    End,
+    // the next seed, and the step
+    Given(u32, LoadStep),
+}
+
+const TARGETS: u32 = links::TARGETS as u32;
+
+// How many numbered steps of a client stand ahead of its requests, ahead of its replies, and in all.
+const BEGINS: u32 = 2;
+
+const BEFORE_REPLIES: u32 = BEGINS + TARGETS;
+
+const NUMBERED: u32 = BEFORE_REPLIES + TARGETS;
+
+// The numbered steps of 16 clients.
+const MOST: usize = 16 * NUMBERED as usize;
+
+// The number behind a seed.
+pub fn advance(seed: u32) -> u32
+    ensures { λ r. ⌜ r ≡ advance seed ⌝ }
+{
+    ((seed as u64 * 1664525 + 1013904223) % 4294967296) as u32
+}
+
+// The high half of a number.
+fn high_half(number: u32) -> u32
+    ensures { λ r. ⌜ r ≡ number / 65536 ⌝ }
+{
+    number / 65536
+}
+
+// Which of so many steps a number picks: it is scaled down to their count.
+fn index_by(number: u32, count: u32) -> u32
+    requires { ⌜ (0 < count) × (count ≤ 576) ⌝ }
+    ensures { λ r. ⌜ (r ≡ indexBy number count) × (r < count) ⌝ }
+{
+    high_half(number) * count / 65536
+}
+
+// Whether the WRITE of a client to all servers would be accepted.
+fn accepts_write(counts: &[u32], clients: &[u32], client: u32) -> bool
+    requires { ⌜ Judged (now counts) (now clients) ⌝ }
+    ensures { λ r. ⌜ ((links keys : List ℕ) → r ≡ acceptsWrite (seen (now (counts .entry)) (now (clients .entry)) links keys) client) ⌝ }
+{
+    let servers = counts::count_at(counts, counts::SERVERS);
+    let all = keys::all_servers(servers);
+    refusals::write_fault(counts, clients, client, all, servers as usize) == 0
+}
+
+// Whether the READ of all servers by a client would be accepted.
+fn accepts_read(counts: &[u32], clients: &[u32], client: u32) -> bool
+    requires { ⌜ Judged (now counts) (now clients) ⌝ }
+    ensures { λ r. ⌜ ((links keys : List ℕ) → r ≡ acceptsRead (seen (now (counts .entry)) (now (clients .entry)) links keys) client) ⌝ }
+{
+    let servers = counts::count_at(counts, counts::SERVERS);
+    let all = keys::all_servers(servers);
+    refusals::read_fault(counts, clients, client, all) == 0
+}
+
+// Whether a server holds a key.
+fn holds(counts: &[u32], keys: &[u32], server: usize, key: Key) -> bool
+    requires { ⌜ Searched (now counts) (now keys) server ⌝ }
+    ensures { λ r. ⌜ r ≡ isHeld (now (counts .entry)) (now (keys .entry)) server key ⌝ }
+{
+    let held = counts::count_at(counts, counts::HELD + server) as usize;
+    server::find(keys, server, held, key) < held
+}
+
+// Whether the target of a request can answer it, by the state that sent it.
+fn answers(counts: &[u32], keys: &[u32], state: u32, target: usize, contents: Contents) -> bool
+    requires { ⌜ Served (now counts) (now keys) state target ⌝ }
+    ensures { λ r. ⌜ r ≡ answersIn state contents (now (counts .entry)) (now (keys .entry)) target ⌝ }
+{
+    if state == states::WRITING {
+        return counts::count_at(counts, counts::HELD + target) < versions::PLACES as u32;
+    }
+    if state == states::ENTERING {
+        return counts::count_at(counts, counts::ENTRIES) < log::PLACES as u32;
+    }
+    if state == states::ASKING_KEYS {
+        return true;
+    }
+    if state == states::ASKING_SETPOINTS {
+        let key = contents.key;
+        return holds(counts, keys, target, key);
+    }
+    true
+}
+
+// Whether the delivery of a request would be accepted.
+fn accepts_request(
+    counts: &[u32],
+    clients: &[u32],
+    links: &[u32],
+    keys: &[u32],
+    client: u32,
+    target: u32,
+) -> bool
+    requires { ⌜ Scanned (now counts) (now clients) (now links) (now keys) ⌝ }
+    requires { ⌜ (client < countAt (now counts) clientsField) × (target < targets) ⌝ }
+    ensures { λ r. ⌜ r ≡ acceptsRequest (seen (now (counts .entry)) (now (clients .entry)) (now (links .entry)) (now (keys .entry)))
+        client target ⌝ }
+{
+    let link = links::link_at(links, client as usize, target as usize);
+    let content = link.content;
+    match content {
+        links::Content::Nothing => false,
+        links::Content::Reply(_) => false,
+        links::Content::Request(contents) => {
+            if refusals::delivery_fault(counts, client, target) != 0 {
+                return false;
+            }
+            let state = clients::client_word(clients, client as usize, clients::STATE);
+            answers(counts, keys, state, target as usize, contents)
+        }
+    }
+}
+
+// Whether the delivery of a reply would be accepted.
+fn accepts_reply(counts: &[u32], links: &[u32], client: u32, target: u32) -> bool
+    requires { ⌜ countWords ≤ length (now counts) ⌝ }
+    requires { ⌜ HasRow linkWidth (now links) (linkRow client target) ⌝ }
+    ensures { λ r. ⌜ ((clients keys : List ℕ) →
+        r ≡ acceptsReply (seen (now (counts .entry)) clients (now (links .entry)) keys) client target) ⌝ }
+{
+    let link = links::link_at(links, client as usize, target as usize);
+    let content = link.content;
+    match content {
+        links::Content::Nothing => false,
+        links::Content::Request(_) => false,
+        links::Content::Reply(_) => refusals::delivery_fault(counts, client, target) == 0,
+    }
+}
+
+// Whether the step of a number would be accepted.
+fn accepts(counts: &[u32], clients: &[u32], links: &[u32], keys: &[u32], number: u32) -> bool
+    requires { ⌜ Scanned (now counts) (now clients) (now links) (now keys) ⌝ }
+    requires { ⌜ number < numberedCount (countAt (now counts) clientsField) ⌝ }
+    ensures { λ r. ⌜ r ≡ accepts (seen (now (counts .entry)) (now (clients .entry)) (now (links .entry)) (now (keys .entry))) number ⌝ }
+{
+    let panels = counts::count_at(counts, counts::CLIENTS);
+    if number < panels {
+        return accepts_write(counts, clients, number);
+    }
+    if number < BEGINS * panels {
+        return accepts_read(counts, clients, number - panels);
+    }
+    if number < BEFORE_REPLIES * panels {
+        let row = number - BEGINS * panels;
+        return accepts_request(counts, clients, links, keys, row / TARGETS, row % TARGETS);
+    }
+    let row = number - BEFORE_REPLIES * panels;
+    accepts_reply(counts, links, row / TARGETS, row % TARGETS)
+}
+
+// Notes a number behind those noted so far, where it passes. It answers how many are noted then.
+fn note(numbers: &mut [u32], count: usize, number: u32, passes: bool) -> usize
+    requires { ⌜ count < length (now numbers) ⌝ }
+    ensures { λ r. ⌜ Noted (now (numbers .entry)) count number passes r (now (numbers .exit)) ⌝ }
+{
+    if passes {
+        numbers[count] = number;
+        return count + 1;
+    }
+    count
+}
+
+// The numbers of the steps that would be accepted, rising. It answers how many they are.
+fn list_accepted(
+    counts: &[u32],
+    clients: &[u32],
+    links: &[u32],
+    keys: &[u32],
+    numbers: &mut [u32],
+) -> usize
+    requires { ⌜ Scanned (now counts) (now clients) (now links) (now keys) × (numberedCount 16 ≤ length (now numbers)) ⌝ }
+    ensures { λ r. ⌜ Found (accepts (seen (now (counts .entry)) (now (clients .entry)) (now (links .entry)) (now (keys .entry))))
+        (numberedCount (countAt (now (counts .entry)) clientsField)) r (now (numbers .exit)) ⌝ }
+{
+    let total = NUMBERED * counts::count_at(counts, counts::CLIENTS);
+    let mut count = 0;
+    let mut number: u32 = 0;
+    while number < total {
+        let passes = accepts(counts, clients, links, keys, number);
+        count = note(numbers, count, number, passes);
+        number += 1;
+    }
+    count
+}
+
+// The step of a number.
+fn numbered(counts: &[u32], clients: &[u32], number: u32) -> LoadStep
+    requires { ⌜ Numberable (now counts) (now clients) ⌝ }
+    ensures { λ r. ⌜ ((links keys : List ℕ) → r ≡ numbered (seen (now (counts .entry)) (now (clients .entry)) links keys) number) ⌝ }
+{
+    let panels = counts::count_at(counts, counts::CLIENTS);
+    let all = keys::all_servers(counts::count_at(counts, counts::SERVERS));
+    if number < panels {
+        let count = clients::client_word(clients, number as usize, clients::COUNT);
+        return LoadStep {
+            step: Step::BeginWrite(number, all),
+            setpoint: count + 1,
+        };
+    }
+    if number < BEGINS * panels {
+        return LoadStep {
+            step: Step::BeginRead(number - panels, all),
+            setpoint: 0,
+        };
+    }
+    if number < BEFORE_REPLIES * panels {
+        let row = number - BEGINS * panels;
+        return LoadStep {
+            step: Step::Request(row / TARGETS, row % TARGETS),
+            setpoint: 0,
+        };
+    }
+    let row = number - BEFORE_REPLIES * panels;
+    LoadStep {
+        step: Step::Reply(row / TARGETS, row % TARGETS),
+        setpoint: 0,
+    }
+}
+
+// Picks among the steps that would be accepted.
+fn pick(counts: &[u32], clients: &[u32], links: &[u32], keys: &[u32], seed: u32) -> Next
+    requires { ⌜ Scanned (now counts) (now clients) (now links) (now keys) ⌝ }
+    ensures { λ r. ⌜ (let t = seen (now (counts .entry)) (now (clients .entry)) (now (links .entry)) (now (keys .entry)) in
+        r ≡ pickedFrom (passing (accepts t) (numberedCount (clientsOf t))) t seed) ⌝ }
+{
+    let mut numbers = [0u32; MOST];
+    let count = list_accepted(counts, clients, links, keys, &mut numbers);
+    if count == 0 {
+        return Next::End;
+    }
+    let behind = advance(seed);
+    let index = index_by(behind, count as u32) as usize;
+    Next::Given(behind, numbered(counts, clients, numbers[index]))
+}
+
+// The next step of a load, and the seed behind it, on tables known to be sound.
+pub fn next_step_sound(
+    counts: &[u32],
+    clients: &[u32],
+    links: &[u32],
+    keys: &[u32],
+    values: &[u32],
+    log: &[u32],
+    writes: &[u32],
+    reads: &[u32],
+    seed: u32,
+) -> Next
+    requires { ⌜ Sound (tablesOf (now counts) (now clients) (now links) (now keys) (now values) (now log) (now writes) (now reads)) ⌝ }
+    ensures { λ r. ⌜ r
+        ≡ nextStep (tablesOf (now (counts .entry)) (now (clients .entry)) (now (links .entry)) (now (keys .entry)) (now (values .entry))
+        (now (log .entry)) (now (writes .entry)) (now (reads .entry))) seed ⌝ }
+{
+    pick(counts, clients, links, keys, seed)
+}
+
+// The next step of a load, and the seed behind it: refused by 2.
+pub fn next_step(
+    counts: &[u32],
+    clients: &[u32],
+    links: &[u32],
+    keys: &[u32],
+    values: &[u32],
+    log: &[u32],
+    writes: &[u32],
+    reads: &[u32],
+    seed: u32,
+) -> Next
+    ensures { λ r. ⌜ r
+        ≡ nextStep (tablesOf (now (counts .entry)) (now (clients .entry)) (now (links .entry)) (now (keys .entry)) (now (values .entry))
+        (now (log .entry)) (now (writes .entry)) (now (reads .entry))) seed ⌝ }
+{
+    if !soundness::sound(counts, clients, links, keys, values, log, writes, reads) {
+        return Next::Refused(2);
+    }
+    next_step_sound(
+        counts,
+        clients,
+        links,
+        keys,
+        values,
+        log,
+        writes,
+        reads,
+        seed,
+    )
+}

@@ -1,0 +1,2 @@
+-- The load's answers as numbers.
+pub mod Numbers
