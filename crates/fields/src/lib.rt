@@ -190,7 +190,7 @@ fn put_by_bytes(bytes: &mut [u8], at: usize, width: usize, value: u32)
     put_up_to(bytes, place, free, whole, value >> left);
 }
 
-// The number in the `width` bits from `at` on. Each width that frames have stands as a number, so that the compiled code of each is its own.
+// The number in the `width` bits from `at` on. Each width that frames have stands as a number, so that each has compiled code of its own.
 pub fn read_field(bytes: &[u8], at: usize, width: usize) -> u32
     requires { ⌜ Inside (now bytes) at width ⌝ }
     ensures { λ r. ⌜ r ≡ fieldByBytes (now (bytes .entry)) at width ⌝ }

@@ -11,7 +11,8 @@ use Rattle.ranges.specs.SumLaws.{sum-more}
 use Rattle.fields.specs.Bits.{fieldAt}
 use Rattle.formats.specs.Grammar.{Grammar, got, read, good}
 use Rattle.formats.specs.RoundTrip.{field-got, read-good, read-size}
-use Rattle.formats.specs.Table.{manyPlace, entryPlace, ownerPlace, numberPlace, entryFields, kinds, headerBits, shapeOf, sortAt, bitsOf}
+use Rattle.formats.specs.Table.{manyPlace, entryPlace, ownerPlace, numberPlace, entryFields, kinds}
+use Rattle.formats.specs.Table.{headerBits, shapeOf, sortAt, bitsOf}
 use Rattle.formats.specs.Table.{mostOf, entriesIn, entriesSaid, valuesFor}
 use Rattle.formats.specs.TableLaws.{row-right, bitsFrom, columns-small, entries-fit, bits-most, sort-small}
 use Rattle.formats.specs.Format.{widthOf, nextOf, format}
@@ -108,7 +109,8 @@ module _ (bytes vs : List ℕ) (r : read format bytes 0 ≡ got vs) where
     next-bit d = sum-more (λ j. widthOf (stateAt vs j)) (valuesFor m + d)
 
     -- its three values
-    value-at : (d p w : ℕ) → d < entryFields → firstBit vs (valuesFor m + d) ≡ p → widthOf (stateAt vs (valuesFor m + d)) ≡ w → getD vs (valuesFor m + d) 0 ≡ fieldAt bytes p w
+    value-at : (d p w : ℕ) → d < entryFields → firstBit vs (valuesFor m + d) ≡ p → widthOf (stateAt vs (valuesFor m + d)) ≡ w
+        → getD vs (valuesFor m + d) 0 ≡ fieldAt bytes p w
     value-at d p w h e f = value-stands (valuesFor m + d) (inside d h) ∙ ap₂ (fieldAt bytes) e f
 
     w₀ : widthOf (stateAt vs (valuesFor m + 0)) ≡ countBits
@@ -123,10 +125,14 @@ module _ (bytes vs : List ℕ) (r : read format bytes 0 ≡ got vs) where
     b₀ = ap (firstBit vs) (omega arith) ∙ begins
 
     b₁ : firstBit vs (valuesFor m + 1) ≡ begin + countBits
-    b₁ = let e : firstBit vs (valuesFor m + 1) ≡ firstBit vs (valuesFor m + 0 + 1) = ap (firstBit vs) (omega arith) in omega (arith, next-bit 0, b₀, w₀)
+    b₁ =
+        let e : firstBit vs (valuesFor m + 1) ≡ firstBit vs (valuesFor m + 0 + 1) = ap (firstBit vs) (omega arith) in
+        omega (arith, next-bit 0, b₀, w₀)
 
     b₂ : firstBit vs (valuesFor m + 2) ≡ begin + keyBits
-    b₂ = let e : firstBit vs (valuesFor m + 2) ≡ firstBit vs (valuesFor m + 1 + 1) = ap (firstBit vs) (omega arith) in omega (arith, next-bit 1, b₁, w₁)
+    b₂ =
+        let e : firstBit vs (valuesFor m + 2) ≡ firstBit vs (valuesFor m + 1 + 1) = ap (firstBit vs) (omega arith) in
+        omega (arith, next-bit 1, b₁, w₁)
 
     pub key-found : keyAt bytes (entriesBit kind) (numberBits kind) m ≡ keyIn vs m
     key-found =
@@ -163,7 +169,8 @@ module _ (bytes vs : List ℕ) (r : read format bytes 0 ≡ got vs) where
       omega arith)
 
   -- and its entries lie within the bytes
-  pub found-unpackable : Keyed (getD vs 0 0) → {n : ℕ} → n ≡ entriesSaid vs → Unpackable bytes (entriesBit (getD vs 0 0)) (numberBits (getD vs 0 0)) n
+  pub found-unpackable : Keyed (getD vs 0 0) → {n : ℕ} → n ≡ entriesSaid vs
+      → Unpackable bytes (entriesBit (getD vs 0 0)) (numberBits (getD vs 0 0)) n
   found-unpackable k {n} en =
       let kind = getD vs 0 0 in
       let h = kind-below vs right in

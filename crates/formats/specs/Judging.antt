@@ -15,13 +15,15 @@ use Rattle.fields.specs.FieldLaws.{field-below, field-join}
 use Rattle.formats.specs.declared.state.Field.{Field}
 use Rattle.formats.specs.declared.state.State.{State}
 use Rattle.formats.specs.Grammar.{Grammar, Outcome, got, fault, ahead, ended, read}
-use Rattle.formats.specs.Table.{manyPlace, entryPlace, ownerPlace, numberPlace, fixedFields, entryFields, mostEntries, sortAt, bitsOf, mostOf}
+use Rattle.formats.specs.Table.{manyPlace, entryPlace, ownerPlace, numberPlace, fixedFields}
+use Rattle.formats.specs.Table.{entryFields, mostEntries, sortAt, bitsOf, mostOf}
 use Rattle.formats.specs.Table.{less, limitsOf, limitRow, rowOf, entriesIn}
 use Rattle.formats.specs.TableLaws.{few-entries, entries-most, entries-by, row-at, limits-width, bits-most, sort-small}
 use Rattle.formats.specs.Format.{widthOf, fieldOf, within, nextOf, one, entries, format}
 use Rattle.formats.specs.FormatLaws.{rest-late}
 use Rattle.formats.specs.Columns.{mostBits}
-use Rattle.formats.specs.Entry.{countBits, ownerBits, keyBits, maskBits, numberBits, numberLeast, Keyed, ownerField, Ahead, ahead-next, ahead-again}
+use Rattle.formats.specs.Entry.{countBits, ownerBits, keyBits, maskBits, numberBits, numberLeast, Keyed}
+use Rattle.formats.specs.Entry.{ownerField, Ahead, ahead-next, ahead-again}
 use Rattle.formats.specs.Entry.{count-field, owner-field, number-field, keyed-some}
 use Rattle.formats.specs.Reading.{faultAt, endFault, end-reads, scanOf, after, fault-reads, none-reads, Come, Said}
 
@@ -210,7 +212,10 @@ module _ (bytes : List ℕ) (at : ℕ) where
       rw (eq-eqb (fieldAt bytes at countBits) 0 z, lt-leb 16 (fieldAt bytes at keyBits) (omega (arith, p)))
       (by-equal (fieldAt bytes (at + countBits) ownerBits) 0
       (λ y. rw (le-leb (fieldAt bytes (at + countBits) ownerBits) 0 (omega arith), eq-eqb (fieldAt bytes at keyBits) 0 (omega (arith, p))))
-      (λ y. rw (lt-leb (fieldAt bytes (at + countBits) ownerBits) 0 (omega arith), ne-eqb (fieldAt bytes at keyBits) 0 (λ q. y (omega (arith, p)))))))
+      (λ y. rw (
+        lt-leb (fieldAt bytes (at + countBits) ownerBits) 0 (omega arith),
+        ne-eqb (fieldAt bytes at keyBits) 0 (λ q. y (omega (arith, p))),
+      ))))
       (λ z.
       rw (
         ne-eqb (fieldAt bytes at countBits) 0 z,
@@ -250,7 +255,12 @@ pub none-passed : (bytes : List ℕ) (kind n : ℕ) (st : State) (at : ℕ) → 
 unfolding entries read after
 none-passed bytes kind n st at z =
     let e : at ≡ at + 0 * (keyBits + numberBits kind) = omega arith in
-    rw z (record { values = []; many = refl; found = ap (ended bytes) e ∙ sym (nothing-after (ended bytes (at + 0 * (keyBits + numberBits kind)))) })
+    rw z (record {
+      values = [];
+      many = refl;
+      found = ap (ended bytes) e
+          ∙ sym (nothing-after (ended bytes (at + 0 * (keyBits + numberBits kind))));
+    })
   where
     nothing-after : (o : Outcome) → after [] o ≡ o
     nothing-after (got vs) = refl
@@ -323,7 +333,8 @@ module _ (bytes : List ℕ) {kind : ℕ} (k : Keyed kind) where
       unfolding fieldOf
       owner-read next =
           one-right bytes (at + countBits) second next z
-          ∙ ap (λ (f : Field). let v = fieldAt bytes (at + countBits) (f .width) in ahead v (read (next v) bytes (at + countBits + f .width)))
+          ∙ ap (λ (f : Field). let v = fieldAt bytes (at + countBits) (f .width) in
+          ahead v (read (next v) bytes (at + countBits + f .width)))
           (owner-field k a c)
 
     module _ (z : faultAt bytes (at + countBits + ownerBits) (fieldOf third) ≡ 0) where
@@ -335,7 +346,8 @@ module _ (bytes : List ℕ) {kind : ℕ} (k : Keyed kind) where
       number-read next =
           let at₂ = at + countBits + ownerBits in
           one-right bytes at₂ third next z
-          ∙ ap (λ (f : Field). let v = fieldAt bytes at₂ (f .width) in ahead v (read (next v) bytes (at₂ + f .width))) (number-field k at-third)
+          ∙ ap (λ (f : Field). let v = fieldAt bytes at₂ (f .width) in ahead v (read (next v) bytes (at₂ + f .width)))
+          (number-field k at-third)
 
     -- an entry without a fault
     entry-right :
@@ -380,7 +392,8 @@ module _ (bytes : List ℕ) {kind : ℕ} (k : Keyed kind) where
 
   -- ---- all entries
 
-  pub entries-passed : (n : ℕ) (st : State) → Ahead kind entryPlace st → (at : ℕ) → entriesFault bytes at w least n ≡ 0 → Passed bytes kind n st at
+  pub entries-passed : (n : ℕ) (st : State) → Ahead kind entryPlace st → (at : ℕ) → entriesFault bytes at w least n ≡ 0
+      → Passed bytes kind n st at
   unfolding entriesFault entries read after ahead
   entries-passed zero st a at e = none-passed bytes kind 0 st at refl
   entries-passed (suc n) st a at e =
@@ -480,7 +493,8 @@ module _ {bytes row : List ℕ} {at kind : ℕ} {st : State} (c : Come bytes row
   left-read =
       let m : st .left ≡ entryFields * n = s .many ∙ ap (λ (k : ℕ). entryFields * k) (sym en) in
       c .found
-      ∙ ap (λ (g : Grammar). after (c .values) (read g bytes at)) (rest-late st (omega (arith, a .its-place)) ∙ ap (λ (k : ℕ). entries k st) m)
+      ∙ ap (λ (g : Grammar). after (c .values) (read g bytes at))
+      (rest-late st (omega (arith, a .its-place)) ∙ ap (λ (k : ℕ). entries k st) m)
 
   passed : entriesFault bytes at (numberBits kind) (numberLeast kind) n ≡ 0 → Passed bytes kind n st at
   passed z =
@@ -514,7 +528,8 @@ module _ {bytes row : List ℕ} {at kind : ℕ} {st : State} (c : Come bytes row
         masked = λ k d. ew ∙ said-keyed s (omega (arith, en)) .masked (λ z. d (el ∙ z));
       }
 
-  module _ {width least f : ℕ} (ew : width ≡ numberBits kind) (el : least ≡ numberLeast kind) (ef : f ≡ restFault bytes at width least n) where
+  module _ {width least f : ℕ} (ew : width ≡ numberBits kind) (el : least ≡ numberLeast kind)
+      (ef : f ≡ restFault bytes at width least n) where
     e : f ≡ restFault bytes at (numberBits kind) (numberLeast kind) n
     e = ef ∙ ap₂ (λ (x y : ℕ). restFault bytes at x y n) ew el
 
@@ -548,8 +563,10 @@ module _ {bytes row : List ℕ} {at kind : ℕ} {st : State} (c : Come bytes row
         let l : length (c .values) ≡ fixedFields = c .many ∙ a .its-place in
         let m : length (c .values ++ us) ≡ fixedFields + entryFields * n =
         length-append (c .values) us ∙ omega (arith, l, length-append (p .values) [], p .many) in
-        let t : take fixedFields (c .values ++ us) ≡ take fixedFields (c .values) = take-append-le fixedFields (c .values) us (omega arith) in
+        let t : take fixedFields (c .values ++ us) ≡ take fixedFields (c .values) =
+        take-append-le fixedFields (c .values) us (omega arith) in
         let all : read format bytes 0 ≡ got (c .values ++ us) =
         left-read
-        ∙ ap (after (c .values)) (p .found ∙ ap (after (p .values)) (end-reads bytes (at + n * (keyBits + numberBits kind)) refl .0 (q .1))) in
+        ∙ ap (after (c .values)) (p .found
+        ∙ ap (after (p .values)) (end-reads bytes (at + n * (keyBits + numberBits kind)) refl .0 (q .1))) in
         (λ j. record { fault = 0; fields = sym m j; fixed = (row-whole ∙ sym t) j }) ∙ ap scanOf (sym all)

@@ -1,5 +1,5 @@
--- A frame's values as the writer goes over them: the fixed ones by the table, then the entries, a key and a number each; and that the grammar
--- says the same.
+-- A frame's values as the writer goes over them: the fixed ones by the table, then the entries, a key and a number each; and that the
+-- grammar says the same.
 use mathlib.Core.Path.{_≡_, refl, sym, ap, ap₂, _∙_, subst}
 use Prim.Native.Nat.{ℕ, zero, suc, _+_, _-_, _*_, _/_, _%_, _^_, _≤_, _<_}
 use native.Mathlib.Omega.{arith}
@@ -24,7 +24,8 @@ use Rattle.fields.specs.ByBytes.{put-by-bytes}
 use Rattle.formats.specs.declared.state.Field.{Field}
 use Rattle.formats.specs.declared.state.State.{State}
 use Rattle.formats.specs.Grammar.{Grammar, end, field, good, size, lay}
-use Rattle.formats.specs.Table.{none, count, of, manyPlace, entryPlace, numberPlace, fixedFields, entryFields, sortAt, bitsOf, leastOf}
+use Rattle.formats.specs.Table.{none, count, of, manyPlace, entryPlace, numberPlace, fixedFields}
+use Rattle.formats.specs.Table.{entryFields, sortAt, bitsOf, leastOf}
 use Rattle.formats.specs.Table.{sorts, mostOf, limitsOf, limitRow, rowOf, hasNumbers, entriesIn, entriesSaid, valuesFor}
 use Rattle.formats.specs.TableLaws.{sort-small, bitsFrom}
 use Rattle.formats.specs.Columns.{mostBits}
@@ -32,7 +33,8 @@ use Rattle.formats.specs.Format.{sortOf, widthOf, fieldOf, within, allow
 use Rattle.formats.specs.FormatLaws.{Goes, goes-start, goes-next, Rowed, rowed-start, next-place, place-inner, field-is, at-most}
 use Rattle.formats.specs.FormatLaws.{rest, rest-start, rest-one, rest-late}
 use Rattle.formats.specs.Entries.{entryValue, valuesBy}
-use Rattle.formats.specs.Entry.{countBits, ownerBits, keyBits, numberBits, numberLeast, Keyed, ownerField, Ahead, ahead-next, ahead-again}
+use Rattle.formats.specs.Entry.{countBits, ownerBits, keyBits, numberBits, numberLeast, Keyed}
+use Rattle.formats.specs.Entry.{ownerField, Ahead, ahead-next, ahead-again}
 use Rattle.formats.specs.Entry.{count-field, owner-field, number-field}
 use Rattle.formats.specs.EntryLaws.{part-count, part-client, part-number}
 use Rattle.formats.specs.Reading.{Said}
@@ -99,7 +101,8 @@ module _ (vs : List ℕ) where
         let st = stateAt vs i in
         let some : 0 < st .left = omega (arith, left-first vs i (omega arith)) in
         good-from i (omega arith)
-        ∙ ap (λ (b : Bool). allBelow (rightAt vs) i && b) (ap₂ good (rest-one st (goes-at i (omega arith)) some) (drop-cons vs i 0 (omega arith)))
+        ∙ ap (λ (b : Bool). allBelow (rightAt vs) i && b)
+        (ap₂ good (rest-one st (goes-at i (omega arith)) some) (drop-cons vs i 0 (omega arith)))
         ∙ and-assoc (allBelow (rightAt vs) i) (rightAt vs i) (good (rest (nextOf st (getD vs i 0))) (drop (suc i) vs))
 
     -- what is left of them is laid behind the first ones
@@ -242,7 +245,8 @@ module _ {kind : ℕ} (k : Keyed kind) (st : State) (a : Ahead kind entryPlace s
       (λ i.
       lay (entries n fourth) us (putField (putField (putField bytes at (w₀ i) c) (at + w₀ i) (w₁ i) o) (at + w₀ i + w₁ i) (w₂ i) x)
       (at + w₀ i + w₁ i + w₂ i))
-      ∙ ap₂ (λ (p q : ℕ). lay (entries n fourth) us (putField (putField (putField bytes at countBits c) (at + countBits) ownerBits o) p (numberBits kind) x) q)
+      ∙ ap₂ (λ (p q : ℕ). lay (entries n fourth) us
+      (putField (putField (putField bytes at countBits c) (at + countBits) ownerBits o) p (numberBits kind) x) q)
       (omega arith) (omega arith)
 
 -- ---- all entries
@@ -284,10 +288,12 @@ module _ (fixed keys numbers : List ℕ) (total : ℕ) (eight : length fixed ≡
       let q : (d : ℕ) → d < entryFields → (entryFields * i + d) / entryFields ≡ i = λ d l. omega arith in
       let v₀ : getD vs k 0 ≡ getD keys i 0 / 256 =
       ap (λ (m : ℕ). getD vs m 0) (omega arith) ∙ at 0 (omega arith)
-      ∙ sym (ap (λ (m : ℕ). getD keys m 0 / 256) (sym (q 0 (omega arith))) ∙ part-count _ keys numbers (entryFields * i + 0) (omega arith)) in
+      ∙ sym (ap (λ (m : ℕ). getD keys m 0 / 256) (sym (q 0 (omega arith)))
+      ∙ part-count _ keys numbers (entryFields * i + 0) (omega arith)) in
       let v₁ : getD vs (suc k) 0 ≡ getD keys i 0 % 256 =
       ap (λ (m : ℕ). getD vs m 0) (omega arith) ∙ at 1 (omega arith)
-      ∙ sym (ap (λ (m : ℕ). getD keys m 0 % 256) (sym (q 1 (omega arith))) ∙ part-client _ keys numbers (entryFields * i + 1) (omega arith)) in
+      ∙ sym (ap (λ (m : ℕ). getD keys m 0 % 256) (sym (q 1 (omega arith)))
+      ∙ part-client _ keys numbers (entryFields * i + 1) (omega arith)) in
       let v₂ : getD vs (suc (suc k)) 0 ≡ getD numbers i 0 =
       ap (λ (m : ℕ). getD vs m 0) (omega arith) ∙ at 2 (omega arith)
       ∙ sym (ap (λ (m : ℕ). getD numbers m 0) (sym (q 2 (omega arith)))
@@ -374,7 +380,8 @@ module _ (fixed keys numbers : List ℕ) (total : ℕ) (eight : length fixed ≡
 
   good-behind :
       good format values
-      ≡ (allBelow (rightAt fixed) entryPlace && good (entries (entryFields * entriesIn its-kind (getD fixed manyPlace 0)) last) (drop entryPlace values))
+      ≡ (allBelow (rightAt fixed) entryPlace
+      && good (entries (entryFields * entriesIn its-kind (getD fixed manyPlace 0)) last) (drop entryPlace values))
   good-behind =
       good-from values long entryPlace (omega arith)
       ∙ ap₂ (λ (a b : Bool). a && b) fixed-same
@@ -437,18 +444,22 @@ module _ (fixed keys numbers : List ℕ) (total : ℕ) (eight : length fixed ≡
       unfolding lay entries entriesLaid
       entries-follow bytes =
           lay-from values long bytes entryPlace (omega arith)
-          ∙ (λ j. lay (g j) (drop entryPlace values) (laid-same values fixed bytes entryPlace same j) (bit-same values fixed entryPlace same j))
+          ∙ (λ j. lay (g j) (drop entryPlace values) (laid-same values fixed bytes entryPlace same j)
+          (bit-same values fixed entryPlace same j))
           ∙ by-equal total 0
           (λ z.
-          ap (λ (n : ℕ). lay (entries (entryFields * n) last) (drop entryPlace values) (laidTo fixed bytes entryPlace) (firstBit fixed entryPlace)) z
-          ∙ sym (ap (λ (n : ℕ). entriesLaid (numberBits its-kind) keys numbers 0 n (laidTo fixed bytes entryPlace) (firstBit fixed entryPlace)) z))
+          ap (λ (n : ℕ). lay (entries (entryFields * n) last) (drop entryPlace values) (laidTo fixed bytes entryPlace)
+          (firstBit fixed entryPlace)) z
+          ∙ sym (ap (λ (n : ℕ). entriesLaid (numberBits its-kind) keys numbers 0 n (laidTo fixed bytes entryPlace)
+          (firstBit fixed entryPlace)) z))
           (λ d.
           let k = its-keyed (omega arith) in
           entries-lay fixed keys numbers total eight k (k .numbered) total 0 last at-last (omega arith) (laidTo fixed bytes entryPlace)
           (firstBit fixed entryPlace))
         where
           g : rest last ≡ entries (entryFields * total) last
-          g = rest-late last (omega (arith, at-last .its-place)) ∙ ap (λ (m : ℕ). entries m last) (left-last ∙ ap (λ (n : ℕ). entryFields * n) (sym en))
+          g = rest-late last (omega (arith, at-last .its-place))
+              ∙ ap (λ (m : ℕ). entries m last) (left-last ∙ ap (λ (n : ℕ). entryFields * n) (sym en))
 
           same : (j : ℕ) → j < entryPlace → getD values j 0 ≡ getD fixed j 0
           same j h = sym (front-same fixed keys numbers total eight j h)
@@ -501,7 +512,8 @@ module _ {fixed : List ℕ} {st : State} (t : Tried fixed st) (h : st .place < e
     tried-at =
         e ∙ ap (λ (s : State). ltb (getD fixed (st .place) 0) (2 ^ widthOf s) && allowed s (getD fixed (st .place) 0)) (t .is)
 
-    pub tried-on : {next : State} → next ≡ nextOf st (getD fixed (st .place) 0) → not r ≡ false → Tried fixed next × (next .place ≡ st .place + 1)
+    pub tried-on : {next : State} → next ≡ nextOf st (getD fixed (st .place) 0) → not r ≡ false
+        → Tried fixed next × (next .place ≡ st .place + 1)
     unfolding stateAt
     tried-on {next} en d =
         let p = st .place in
@@ -558,11 +570,13 @@ module _ (width least : ℕ) (keys numbers : List ℕ) (i n : ℕ) (some : 0 < n
           (m : ℕ)
           → 0 < m
           → entriesRight width least keys numbers i m
-          ≡ ((keyRight (getD keys i 0) && numberRight width least (getD numbers i 0)) && entriesRight width least keys numbers (i + 1) (m - 1))
+          ≡ ((keyRight (getD keys i 0) && numberRight width least (getD numbers i 0))
+          && entriesRight width least keys numbers (i + 1) (m - 1))
       go zero h = let z : ⊥ = omega arith in absurd z
       go (suc m) h =
           let q : m ≡ suc m - 1 = omega arith in
-          ap₂ (λ (j k : ℕ). (keyRight (getD keys i 0) && numberRight width least (getD numbers i 0)) && entriesRight width least keys numbers j k)
+          ap₂ (λ (j k : ℕ). (keyRight (getD keys i 0) && numberRight width least (getD numbers i 0))
+          && entriesRight width least keys numbers j k)
           (sym (add-one i)) q
 
   module _ {r : Bool} (e : r ≡ keyRight (getD keys i 0)) where
@@ -593,7 +607,8 @@ laid-entry width keys numbers i (suc n) m bytes at h em e =
     let q : m ≡ n = omega arith in
     λ j. entriesLaid width keys numbers (add-one i j) (q j) (e j) (at + (keyBits + width))
 
-pub laid-none : (width : ℕ) (keys numbers : List ℕ) (i n : ℕ) {bytes : List ℕ} (at : ℕ) → n ≡ 0 → bytes ≡ entriesLaid width keys numbers i n bytes at
+pub laid-none : (width : ℕ) (keys numbers : List ℕ) (i n : ℕ) {bytes : List ℕ} (at : ℕ) → n ≡ 0
+    → bytes ≡ entriesLaid width keys numbers i n bytes at
 unfolding entriesLaid
 laid-none width keys numbers i n at z = rw z
 
@@ -613,7 +628,8 @@ entry-put width key number bytes at {b} {d} p q r =
 
 pub length-entryLaid : (width key number : ℕ) (bytes : List ℕ) (at : ℕ) → length (entryLaid width key number bytes at) ≡ length bytes
 unfolding entryLaid
-length-entryLaid width key number bytes at = length-putField _ _ _ _ ∙ length-putField _ _ _ _ ∙ length-putField bytes at countBits (key / 256)
+length-entryLaid width key number bytes at = length-putField _ _ _ _ ∙ length-putField _ _ _ _
+    ∙ length-putField bytes at countBits (key / 256)
 
 -- a turn of laying the fixed values
 pub laid-more :
@@ -713,13 +729,15 @@ module _ (fixed keys numbers : List ℕ) (total : ℕ) (eight : length fixed ≡
       owner-bits = refl
 
 -- what laying asks, of values that are a frame's
-module _ {row fixed keys numbers : List ℕ} {n bytes : ℕ} (eight : length fixed ≡ fixedFields) (p : Layable row fixed keys numbers n bytes) where
+module _ {row fixed keys numbers : List ℕ} {n bytes : ℕ} (eight : length fixed ≡ fixedFields)
+    (p : Layable row fixed keys numbers n bytes) where
   pub fixed-in : FixedIn row fixed bytes
   fixed-in =
       let r = fixed-room fixed keys numbers n eight (p .right) in
       record { its-row = p .its-row; near = omega (arith, r, size-small _ (p .right)); room = omega (arith, r, p .fits) }
 
-  pub entries-in : {width : ℕ} → width ≡ numberBits (getD fixed 0 0) → width ≤ 32 → EntriesIn (firstBit fixed entryPlace) width n (length keys) (length numbers) bytes
+  pub entries-in : {width : ℕ} → width ≡ numberBits (getD fixed 0 0) → width ≤ 32
+      → EntriesIn (firstBit fixed entryPlace) width n (length keys) (length numbers) bytes
   entries-in {width} ew h =
       let kind = getD fixed 0 0 in
       let r = entries-room fixed keys numbers n eight (p .right) in

@@ -18,7 +18,8 @@ use Rattle.formats.specs.Grammar.{Grammar, end, field, Outcome, got, fau
 use Rattle.formats.specs.Table.{none, manyPlace, entryPlace, fixedFields, entryFields, sortAt, bitsOf, leastOf, mostOf, entriesIn}
 use Rattle.formats.specs.TableLaws.{kindBits}
 use Rattle.formats.specs.Format.{sortOf, widthOf, fieldOf, within, allowed, nextOf, one, fixed, start, format}
-use Rattle.formats.specs.FormatLaws.{Goes, goes-start, goes-next, next-place, next-left, place-inner, left-entries, at-most, Rowed, rowed-next, rest}
+use Rattle.formats.specs.FormatLaws.{Goes, goes-start, goes-next, next-place, next-left, place-inner}
+use Rattle.formats.specs.FormatLaws.{left-entries, at-most, Rowed, rowed-next, rest}
 use Rattle.formats.specs.FormatLaws.{rest-start, rest-one, field-is}
 
 -- ---- definitions
@@ -131,13 +132,15 @@ after-nothing (got vs) = refl
 after-nothing (fault n) = refl
 
 -- what one field's fault makes of reading
-pub fault-reads : (whole right : Bool) (o : Outcome) {n : ℕ} → n ≡ cond whole (cond right 0 11) 10 → (n ≡ 0 → ⊥) → judged whole right o ≡ fault n
+pub fault-reads : (whole right : Bool) (o : Outcome) {n : ℕ} → n ≡ cond whole (cond right 0 11) 10 → (n ≡ 0 → ⊥)
+    → judged whole right o ≡ fault n
 unfolding judged
 fault-reads true true o e d = absurd (d e)
 fault-reads true false o e d = ap fault (sym e)
 fault-reads false right o e d = ap fault (sym e)
 
-pub none-reads : (whole right : Bool) (o : Outcome) {n : ℕ} → n ≡ cond whole (cond right 0 11) 10 → n ≡ 0 → (whole ≡ true) × (right ≡ true) × (judged whole right o ≡ o)
+pub none-reads : (whole right : Bool) (o : Outcome) {n : ℕ} → n ≡ cond whole (cond right 0 11) 10 → n ≡ 0
+    → (whole ≡ true) × (right ≡ true) × (judged whole right o ≡ o)
 unfolding judged
 none-reads true true o e z = (refl, refl, refl)
 none-reads true false o e d = let z : ⊥ = omega arith in absurd z
@@ -186,7 +189,8 @@ unfolding format fixed bitsOf sortAt read judged
 come-none bytes z = rw (lt-leb 4 (8 * length bytes) (omega arith))
 
 -- no kind
-pub come-unknown : (bytes : List ℕ) {kind : ℕ} → (length bytes ≡ 0 → ⊥) → kind ≡ fieldAt bytes 0 kindBits → 12 < kind → fault 11 ≡ read format bytes 0
+pub come-unknown : (bytes : List ℕ) {kind : ℕ} → (length bytes ≡ 0 → ⊥) → kind ≡ fieldAt bytes 0 kindBits → 12 < kind
+    → fault 11 ≡ read format bytes 0
 unfolding format fixed bitsOf sortAt read judged within fieldOf leastOf mostOf
 come-unknown bytes {kind} some e h =
     let v = fieldAt bytes 0 kindBits in
@@ -282,7 +286,8 @@ module _ {bytes row : List ℕ} {at : ℕ} {st : State} (c : Come bytes row at s
           kept = λ j k. kept-on v j (omega (arith, next-here v));
         }
 
-    pub turn-on : {next : State} → t .width ≤ 32 → next ≡ nextOf st (t .value) → Come bytes (set row (st .place) (t .value)) (at + t .width) next
+    pub turn-on : {next : State} → t .width ≤ 32 → next ≡ nextOf st (t .value)
+        → Come bytes (set row (st .place) (t .value)) (at + t .width) next
     turn-on w en = rw (en, is-value, is-width) (come-on (omega (arith, is-width)))
 
     -- with the row of the kind that the first field has
@@ -313,7 +318,8 @@ module _ {bytes row : List ℕ} {at : ℕ} {st : State} (c : Come bytes row at s
           client = st .client;
           before = st .before;
           right = omega (arith, at-most st v turn-allowed, m);
-          many = ap (λ (s : State). s .left) en ∙ next-left st v ∙ sym (left-entries st v p refl) ∙ ap (λ (k : ℕ). entryFields * entriesIn k v) q;
+          many = ap (λ (s : State). s .left) en ∙ next-left st v ∙ sym (left-entries st v p refl)
+              ∙ ap (λ (k : ℕ). entryFields * entriesIn k v) q;
         })
 
 -- no fault is number 0

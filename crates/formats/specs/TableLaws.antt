@@ -13,7 +13,8 @@ use Rattle.ranges.specs.All.{allBelow}
 use Rattle.ranges.specs.AllLaws.{all-at}
 use Rattle.formats.specs.declared.state.Field.{Field}
 use Rattle.formats.specs.declared.table.Shape.{Shape}
-use Rattle.formats.specs.Table.{none, server, coord, own, of, less, bodyPlace, manyPlace, entryPlace, rowPlaces, bodyFields, entryFields, kinds}
+use Rattle.formats.specs.Table.{none, server, coord, own, of, less, bodyPlace, manyPlace, entryPlace}
+use Rattle.formats.specs.Table.{rowPlaces, bodyFields, entryFields, kinds}
 use Rattle.formats.specs.Table.{sorts, headerBits, mostEntries}
 use Rattle.formats.specs.Table.{shape, byKind, shapeOf, bare, bodies, rowOf, sortAt, bitsOf, leastOf, mostOf, limitsOf, entriesIn}
 

@@ -20,7 +20,8 @@ use Rattle.formats.specs.Table.{manyPlace, entryPlace, ownerPlace, numbe
 use Rattle.formats.specs.Table.{sortAt, bitsOf, mostOf, shapeOf, entriesIn, entriesSaid, valuesFor}
 use Rattle.formats.specs.TableLaws.{row-right, bitsFrom, few-entries, entries-most}
 use Rattle.formats.specs.Format.{sortOf, widthOf, allowed, nextOf, start, format}
-use Rattle.formats.specs.FormatLaws.{rest, rest-start, rest-one, rest-end, next-place, next-left, next-kind, place-last, place-inner, left-entries, left-one-less, at-most}
+use Rattle.formats.specs.FormatLaws.{rest, rest-start, rest-one, rest-end, next-place, next-left}
+use Rattle.formats.specs.FormatLaws.{next-kind, place-last, place-inner, left-entries, left-one-less, at-most}
 use Rattle.formats.specs.Writing.{Tested, tested-start, tested-end, tested-short, tested-bad, tested-on}
 use Rattle.formats.specs.RoundTrip.{length-frame}
 

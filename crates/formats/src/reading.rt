@@ -1,5 +1,5 @@
-// From bytes to values: the fixed fields one by one, then the entries, until the first fault. Only the fixed values are kept; the entries are
-// judged where they stand.
+// From bytes to values: the fixed fields one by one, then the entries, until the first fault. Only the fixed values are kept; the entries
+// are judged where they stand.
 use crate::state;
 use crate::state::Field;
 use crate::state::State;
@@ -131,8 +131,8 @@ fn key_fault(bytes: &[u8], at: usize) -> u8
     11
 }
 
-// What is wrong with the number of an entry: 10 where it is cut short, 11 where it is below its least, else 0. It is read only where it has a
-// least, and is a mask then.
+// What is wrong with the number of an entry: 10 where it is cut short, 11 where it is below its least, else 0. It is read only where it
+// has a least, and is a mask then.
 fn number_fault(bytes: &[u8], at: usize, width: usize, least: u32) -> u8
     requires { ⌜ Number at width least ⌝ }
     ensures { λ r. ⌜ r ≡ numberFault (now (bytes .entry)) at width least ⌝ }

@@ -4,7 +4,8 @@ ghost use mathlib.Core.Path.{_≡_};
 ghost use Prim.Native.Nat.{_+_, _<_, _≤_};
 ghost use mathlib.Core.Bool.{cond};
 ghost use lib.Dec.{eqb};
-ghost use Rattle.formats.specs.Table.{server, coord, sorts, less, headerBits, limitsOf, mostEntries, shapeOf, rowOf, leastOf, mostOf, hasNumbers};
+ghost use Rattle.formats.specs.Table.{server, coord, sorts, less, headerBits, limitsOf, mostEntries};
+ghost use Rattle.formats.specs.Table.{shapeOf, rowOf, leastOf, mostOf, hasNumbers};
 ghost use Rattle.formats.specs.Columns.{lengthBy};
 
 // What a field holds. NO: the kind has no such field; it then has no bits and the value 0.

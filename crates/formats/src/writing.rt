@@ -212,7 +212,8 @@ fn lay_entries(
     bytes: &mut [u8],
 )
     requires { ⌜ EntriesIn first width entries (length (now keys)) (length (now numbers)) (length (now bytes)) ⌝ }
-    ensures { λ _. ⌜ now (bytes .exit) ≡ entriesLaid width (now (keys .entry)) (now (numbers .entry)) 0 entries (now (bytes .entry)) first ⌝ }
+    ensures { λ _. ⌜ now (bytes .exit)
+        ≡ entriesLaid width (now (keys .entry)) (now (numbers .entry)) 0 entries (now (bytes .entry)) first ⌝ }
 {
     let mut at = first;
     let mut i: usize = 0;

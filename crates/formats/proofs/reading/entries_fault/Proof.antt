@@ -33,7 +33,11 @@ entry-fault-requires c κs =
     let l = c .before .loop in
     let p = c .before .before .before .pre in (
       omega (arith, l .inv .1, bits-left c, p .near),
-      record { near = omega (arith, l .inv .1, bits-left c, p .near); narrow = p .narrow; masked = p .masked (omega (arith, l .inv .2, c .loop-test .taken)) },
+      record {
+        near = omega (arith, l .inv .1, bits-left c, p .near);
+        narrow = p .narrow;
+        masked = p .masked (omega (arith, l .inv .2, c .loop-test .taken));
+      },
     )
 
 returns : tie.Need-returns Inv-loop μ-loop
@@ -42,7 +46,8 @@ returns c =
     let turn = at-entry .before in
     let l = turn .before .loop in
     let a = turn .before .before .before .args in
-    entries-stop (a .bytes .now) (l .at) (a .width) (a .least) (l .left) (turn .loop-test .taken) (at-entry .entry-fault .ensures) (c .if1 .taken)
+    entries-stop (a .bytes .now) (l .at) (a .width) (a .least) (l .left) (turn .loop-test .taken) (at-entry .entry-fault .ensures)
+    (c .if1 .taken)
     ∙ l .inv .0
 
 add-at-2 : tie.Need-add-at-2 Inv-loop μ-loop

@@ -13,7 +13,8 @@ returns-2 : tie.Need-returns-2
 returns-2 c =
     let at-key = c .before .before in
     let a = at-key .before .before .args in
-    entry-second (a .bytes .now) (a .at) (a .width) (a .least) (at-key .key-fault .ensures) (c .before .if1 .left) (c .number-fault .ensures)
+    entry-second (a .bytes .now) (a .at) (a .width) (a .least) (at-key .key-fault .ensures) (c .before .if1 .left)
+    (c .number-fault .ensures)
 
 pub entry-fault-spec : {M : Type 1} → statement M
 entry-fault-spec =

@@ -34,7 +34,8 @@ returns-2 c =
     let at-if1 = at-read .before in
     let a = at-if1 .before .before .args in
     c .refused2 .ensures
-    ∙ ap scanOf (come-unknown (a .bytes .now) (at-if1 .if1 .left) (at-read .read-field .ensures ∙ field-by-bytes _ _ _) (c .before .if2 .taken))
+    ∙ ap scanOf (come-unknown (a .bytes .now) (at-if1 .if1 .left) (at-read .read-field .ensures ∙ field-by-bytes _ _ _)
+    (c .before .if2 .taken))
 
 target-of-requires : tie.Need-target-of-requires Inv-loop μ-loop
 target-of-requires c κs =
@@ -62,7 +63,8 @@ taken-requires c κs =
     let at-loop = c .before .before in
     let at-row = at-loop .before .before in
     let l = at-loop .loop in
-    let t = rowed-tells (at-row .before .before .before .before .read-field .result) (l .at) (l .state) (l .inv .1) (at-row .row-of .ensures) in
+    let t = rowed-tells (at-row .before .before .before .before .read-field .result) (l .at) (l .state) (l .inv .1)
+    (at-row .row-of .ensures) in
     (omega (arith, l .inv .0 .near, c .if3 .taken), l .inv .0 .inside, t .0, t .1)
 
 returns-3 : tie.Need-returns-3 Inv-loop μ-loop
@@ -88,7 +90,8 @@ next-requires c κs =
     let at-loop = at-if3 .before .before in
     let at-row = at-loop .before .before in
     let l = at-loop .loop in
-    let t = rowed-tells (at-row .before .before .before .before .read-field .result) (l .at) (l .state) (l .inv .1) (at-row .row-of .ensures) in
+    let t = rowed-tells (at-row .before .before .before .before .read-field .result) (l .at) (l .state) (l .inv .1)
+    (at-row .row-of .ensures) in
     (omega (arith, l .inv .0 .goes .counted (at-if3 .if3 .taken)), l .inv .0 .goes .inside, t .0)
 
 -- the next state is one place further
@@ -128,24 +131,28 @@ module _ (c : tie.Else3 Inv-loop μ-loop) where
   behind : c .before .before .loop .state .place ≡ entryPlace
   behind = let l = c .before .before .loop in omega (arith, c .if3 .left, l .inv .0 .early)
 
-  ahead : Ahead (c .before .before .before .before .before .before .before .before .read-field .result) entryPlace (c .before .before .loop .state)
+  ahead : Ahead (c .before .before .before .before .before .before .before .before .read-field .result) entryPlace
+      (c .before .before .loop .state)
   ahead =
       let l = c .before .before .loop in
       record { its-kind = l .inv .1 .later (λ z. omega (arith, behind)); its-place = behind }
 
   said :
       let l = c .before .before .loop in
-      Said (c .before .before .before .before .before .before .before .before .read-field .result) (getD (l .fixed) manyPlace 0) (l .state .left)
+      Said (c .before .before .before .before .before .before .before .before .read-field .result) (getD (l .fixed) manyPlace 0)
+      (l .state .left)
   said = c .before .before .loop .inv .2 behind
 
 module _ (c : tie.After-entries-in Inv-loop μ-loop) where
   many :
       let at-loop = c .before .before .before in
-      c .entries-in .result ≡ entriesIn (at-loop .before .before .before .before .before .before .read-field .result) (getD (at-loop .loop .fixed) manyPlace 0)
+      c .entries-in .result ≡ entriesIn (at-loop .before .before .before .before .before .before .read-field .result)
+      (getD (at-loop .loop .fixed) manyPlace 0)
   many =
       let at-loop = c .before .before .before in
       let at-row = at-loop .before .before in
-      entries-said (at-row .before .before .before .before .read-field .result) (at-row .row-of .ensures) (getD (at-loop .loop .fixed) manyPlace 0)
+      entries-said (at-row .before .before .before .before .read-field .result) (at-row .row-of .ensures)
+      (getD (at-loop .loop .fixed) manyPlace 0)
       (c .entries-in .ensures)
 
 array-read-entries-in-2 : tie.Need-array-read-entries-in-2 Inv-loop μ-loop
@@ -174,7 +181,8 @@ returns-4 c =
     let at-if3 = at-entries .before in
     let at-loop = at-if3 .before .before in
     let at-row = at-loop .before .before in
-    let n = number-limits (at-row .before .before .before .before .read-field .result) (at-row .row-of .ensures) (at-limits .limits-of .ensures) in
+    let n = number-limits (at-row .before .before .before .before .read-field .result) (at-row .row-of .ensures)
+    (at-limits .limits-of .ensures) in
     c .refused4 .ensures
     ∙ ap scanOf
     (rest-refused (at-loop .loop .inv .0) (ahead at-if3) (said at-if3) (many at-entries) (n .0) (n .1) (at-rest .rest-fault .ensures)
@@ -198,8 +206,10 @@ returns-5 c =
     let at-if3 = at-entries .before in
     let at-loop = at-if3 .before .before in
     let at-row = at-loop .before .before in
-    let n = number-limits (at-row .before .before .before .before .read-field .result) (at-row .row-of .ensures) (at-limits .limits-of .ensures) in
-    rest-read (at-loop .loop .inv .0) (ahead at-if3) (said at-if3) (many at-entries) (n .0) (n .1) (at-rest .rest-fault .ensures) (c .if5 .left)
+    let n = number-limits (at-row .before .before .before .before .read-field .result) (at-row .row-of .ensures)
+    (at-limits .limits-of .ensures) in
+    rest-read (at-loop .loop .inv .0) (ahead at-if3) (said at-if3) (many at-entries) (n .0) (n .1) (at-rest .rest-fault .ensures)
+    (c .if5 .left)
 
 pub scan-frame-spec : {M : Type 1} → statement M
 scan-frame-spec =

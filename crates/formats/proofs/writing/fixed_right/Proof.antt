@@ -40,7 +40,8 @@ returns c =
     let a = at-loop .before .before .args in
     let l = at-loop .loop in
     let h = at-if1 .if1 .taken in
-    all-stop (rightAt (a .fixed .now)) (l .state .place) {n = entryPlace} (λ i. entryPlace) h (tried-at (l .inv) h (at-may .may-have .ensures))
+    all-stop (rightAt (a .fixed .now)) (l .state .place) {n = entryPlace} (λ i. entryPlace) h
+    (tried-at (l .inv) h (at-may .may-have .ensures))
     (c .if2 .taken)
 
 next-requires : tie.Need-next-requires Inv-loop μ-loop

@@ -48,7 +48,14 @@ lay-field-requires c κs =
     let s = turn .before .before .before in
     let t = told turn in (
       row-tells (s .args .fixed .now) (s .pre .its-row) (l .place) (turn .loop-test .taken) .1,
-      omega (arith, t, l .inv .1, s .pre .room, ap length (l .inv .2) ∙ length-laidTo (s .args .fixed .now) (s .args .bytes .now) (l .place)),
+      omega (
+        arith,
+        t,
+        l .inv .1,
+        s .pre .room,
+        ap length (l .inv .2)
+            ∙ length-laidTo (s .args .fixed .now) (s .args .bytes .now) (l .place),
+      ),
     )
 
 add-at : tie.Need-add-at Inv-loop μ-loop
