@@ -157,7 +157,7 @@ fn read_entries<const WIDTH: u32>(
         one(entry, front(&bytes[at / 8..]) << (at % 8));
         at += WIDTH as usize;
     }
-    let padding = if bits % 8 == 0 { 0 } else { bytes[bits / 8] << (bits % 8) };
+    let padding = if bits.is_multiple_of(8) { 0 } else { bytes[bits / 8] << (bits % 8) };
     if broken || bytes.len() != bits.div_ceil(8) || padding != 0 {
         return Err(refusal(11));
     }
