@@ -1,27 +1,19 @@
-//! Frames of each kind, written and read, with their entries in lent slices on both sides.
+//! Frames of each kind, written and read, with their entries in lent slices on every side: the proved crate beside the independent
+//! Rust, and beside a codec that was written for speed.
 
 use crate::clock::{beside, least_of_passes};
-use crate::table::{print, ratio, thousands};
+use crate::fast;
+use crate::table::{print, ratio, thousands, time};
+use ffi::frame::{answer, taken_apart, Parts};
 use ffi::FrameLibrary;
 use frames::lent::{read_lent, write_lent, Fixed};
 use frames::message::to_server;
+use model::Refusal;
 
-const GOAL: f64 = 3.0;
 /// More than any frame has.
 pub const MOST_BYTES: usize = 1500;
-const HEADS: [&str; 9] = [
-    "kind",
-    "entries",
-    "bytes",
-    "proved, written a second",
-    "Rust, written a second",
-    "times as long",
-    "proved, read a second",
-    "Rust, read a second",
-    "times as long",
-];
 /// Each kind, those with a list of entries with few and with the most.
-pub const FRAMES: [(u32, u32); 16] = [
+pub const FRAMES: [(u32, u32); 17] = [
     (1, 0),
     (2, 0),
     (3, 0),
@@ -37,30 +29,141 @@ pub const FRAMES: [(u32, u32); 16] = [
     (10, 256),
     (11, 0),
     (12, 1),
+    (12, 16),
     (12, 256),
 ];
 
-pub fn report(library: FrameLibrary) {
-    let times = least_of_passes(&FRAMES, |&(kind, entries)| one_kind(library, kind, entries));
-    let rows: Vec<Vec<String>> = FRAMES.iter().zip(times).map(|(&frame, times)| row(library, frame, times)).collect();
-    print("Frames", &HEADS, &rows);
+/// A side that is measured. What it answers is taken apart outside of the measurement.
+pub trait Codec: Copy {
+    const NAME: &'static str;
+    type Written;
+    type Read;
+    fn write(self, fixed: &Fixed, keys: &[u32], numbers: &[u32], bytes: &mut [u8]) -> Self::Written;
+    fn read(self, bytes: &[u8], keys: &mut [u32], numbers: &mut [u32]) -> Self::Read;
+    fn length(written: Self::Written) -> Option<usize>;
+    fn message(read: Self::Read) -> Option<Fixed>;
 }
 
-fn row(library: FrameLibrary, (kind, entries): (u32, u32), times: [f64; 4]) -> Vec<String> {
-    let length = Lent::of(library, kind, entries).frame.len();
-    let [written, rust_written, read, rust_read] = times;
+/// The independent implementation.
+#[derive(Clone, Copy)]
+pub struct Rust;
+
+impl Codec for Rust {
+    const NAME: &'static str = "Rust";
+    type Written = Result<usize, Refusal>;
+    type Read = Result<Fixed, Refusal>;
+
+    fn write(self, fixed: &Fixed, keys: &[u32], numbers: &[u32], bytes: &mut [u8]) -> Self::Written {
+        write_lent(fixed, keys, numbers, bytes)
+    }
+
+    fn read(self, bytes: &[u8], keys: &mut [u32], numbers: &mut [u32]) -> Self::Read {
+        read_lent(bytes, keys, numbers)
+    }
+
+    fn length(written: Self::Written) -> Option<usize> {
+        written.ok()
+    }
+
+    fn message(read: Self::Read) -> Option<Fixed> {
+        read.ok()
+    }
+}
+
+/// The codec that was written for speed.
+#[derive(Clone, Copy)]
+pub struct Fast;
+
+impl Codec for Fast {
+    const NAME: &'static str = "fast";
+    type Written = u64;
+    type Read = Parts;
+
+    fn write(self, fixed: &Fixed, keys: &[u32], numbers: &[u32], bytes: &mut [u8]) -> u64 {
+        fast::write(fixed, keys, numbers, bytes)
+    }
+
+    fn read(self, bytes: &[u8], keys: &mut [u32], numbers: &mut [u32]) -> Parts {
+        fast::read(bytes, keys, numbers)
+    }
+
+    fn length(written: u64) -> Option<usize> {
+        answer(written).ok().map(|length| length as usize)
+    }
+
+    fn message(read: Parts) -> Option<Fixed> {
+        taken_apart(read).ok()
+    }
+}
+
+impl Codec for FrameLibrary {
+    const NAME: &'static str = "proved";
+    type Written = u64;
+    type Read = Parts;
+
+    fn write(self, fixed: &Fixed, keys: &[u32], numbers: &[u32], bytes: &mut [u8]) -> u64 {
+        self.number(fixed, keys, numbers, bytes)
+    }
+
+    fn read(self, bytes: &[u8], keys: &mut [u32], numbers: &mut [u32]) -> Parts {
+        self.parts(bytes, keys, numbers)
+    }
+
+    fn length(written: u64) -> Option<usize> {
+        answer(written).ok().map(|length| length as usize)
+    }
+
+    fn message(read: Parts) -> Option<Fixed> {
+        taken_apart(read).ok()
+    }
+}
+
+pub fn report(library: FrameLibrary) {
     let a_second = |nanoseconds: f64| thousands(1e9 / nanoseconds);
-    vec![
-        kind.to_string(),
-        entries.to_string(),
-        thousands(length as f64),
-        a_second(written),
-        a_second(rust_written),
-        ratio(written, rust_written, GOAL),
-        a_second(read),
-        a_second(rust_read),
-        ratio(read, rust_read, GOAL),
-    ]
+    table("Frames", library, Rust, "written a second", "read a second", a_second, |_| 3.0);
+    // A frame with few entries has no goal beside the fast codec.
+    let goal = |entries: u32| match entries {
+        0 => 3.0,
+        1..16 => f64::INFINITY,
+        _ => 4.0,
+    };
+    table("Frames, beside a codec written for speed", library, Fast, "written, ns", "read, ns", time, goal);
+}
+
+/// A row for each frame; `said` is how a time is printed.
+fn table<C: Codec>(
+    title: &str,
+    library: FrameLibrary,
+    other: C,
+    written: &str,
+    read: &str,
+    said: impl Fn(f64) -> String,
+    goal: impl Fn(u32) -> f64,
+) {
+    let of = |name: &str, what: &str| format!("{name}, {what}");
+    let heads: Vec<String> = ["kind", "entries", "bytes"]
+        .map(String::from)
+        .into_iter()
+        .chain([written, read].iter().flat_map(|what| [of(FrameLibrary::NAME, what), of(C::NAME, what), "times as long".into()]))
+        .collect();
+    let heads: Vec<&str> = heads.iter().map(String::as_str).collect();
+    let times = least_of_passes(&FRAMES, |&(kind, entries)| one_kind(library, other, kind, entries));
+    let row = |(&(kind, entries), [written, other_written, read, other_read]): (&(u32, u32), [f64; 4])| {
+        let length = Lent::of(library, kind, entries).frame.len();
+        vec![
+            kind.to_string(),
+            entries.to_string(),
+            thousands(length as f64),
+            said(written),
+            said(other_written),
+            ratio(written, other_written, goal(entries)),
+            said(read),
+            said(other_read),
+            ratio(read, other_read, goal(entries)),
+        ]
+    };
+    let rows: Vec<Vec<String>> = FRAMES.iter().zip(times).map(row).collect();
+    print(title, &heads, &rows);
 }
 
 /// A message, its entries in slices, and its frame.
@@ -74,9 +177,7 @@ pub struct Lent {
 impl Lent {
     pub fn of(library: FrameLibrary, kind: u32, entries: u32) -> Lent {
         let fixed = message(kind, entries);
-        let keys: Vec<u32> = (0..entries).map(|entry| 256 * (1 + entry % 255) + entry % 16).collect();
-        let most = if kind == 6 { 255 } else { 65535 };
-        let numbers: Vec<u32> = (0..entries).map(|entry| 1 + entry * 251 % most).collect();
+        let (keys, numbers) = entries_beside(kind, entries);
         let mut frame = vec![0; MOST_BYTES];
         let length = library.write(&fixed, &keys, &numbers, &mut frame).expect("a good message");
         frame.truncate(length);
@@ -84,24 +185,32 @@ impl Lent {
     }
 }
 
-/// Nanoseconds: written by the proved crate and by Rust, and read by both.
-fn one_kind(library: FrameLibrary, kind: u32, entries: u32) -> [f64; 4] {
+/// Nanoseconds: written by the proved crate and by the other side, and read by both.
+fn one_kind<C: Codec>(library: FrameLibrary, other: C, kind: u32, entries: u32) -> [f64; 4] {
     let Lent { fixed, keys, numbers, frame } = Lent::of(library, kind, entries);
     let (mut keys_read, mut numbers_read) = (vec![0; 256], vec![0; 256]);
-    assert_eq!(read_lent(&frame, &mut keys_read, &mut numbers_read), Ok(fixed));
+    assert_eq!(C::message(other.read(&frame, &mut keys_read, &mut numbers_read)), Some(fixed));
     assert_eq!(library.read(&frame, &mut keys_read, &mut numbers_read), Ok(fixed));
+    let (mut bytes, mut other_bytes) = (vec![0; MOST_BYTES], vec![0; MOST_BYTES]);
+    assert_eq!(C::length(other.write(&fixed, &keys, &numbers, &mut other_bytes)), Some(frame.len()));
+    assert_eq!(other_bytes[..frame.len()], frame);
 
-    let (mut bytes, mut rust_bytes) = (vec![0; MOST_BYTES], vec![0; MOST_BYTES]);
-    let rust_write = || write_lent(&fixed, &keys, &numbers, &mut rust_bytes);
-    let (written, rust_written) = beside(|| library.write(&fixed, &keys, &numbers, &mut bytes), rust_write);
-    let (mut rust_keys, mut rust_numbers) = (vec![0; 256], vec![0; 256]);
-    let rust_reading = || read_lent(&frame, &mut rust_keys, &mut rust_numbers);
-    let (read, rust_read) = beside(|| library.read(&frame, &mut keys_read, &mut numbers_read), rust_reading);
-    [written, rust_written, read, rust_read]
+    let other_write = || other.write(&fixed, &keys, &numbers, &mut other_bytes);
+    let (written, other_written) = beside(|| library.number(&fixed, &keys, &numbers, &mut bytes), other_write);
+    let (mut other_keys, mut other_numbers) = (vec![0; 256], vec![0; 256]);
+    let other_reading = || other.read(&frame, &mut other_keys, &mut other_numbers);
+    let (read, other_read) = beside(|| library.parts(&frame, &mut keys_read, &mut numbers_read), other_reading);
+    [written, other_written, read, other_read]
+}
+
+/// Entries of the kind, as key words and numbers.
+pub fn entries_beside(kind: u32, entries: u32) -> (Vec<u32>, Vec<u32>) {
+    let most = if kind == 6 { 255 } else { 65535 };
+    (0..entries).map(|entry| (256 * (1 + entry % 255) + entry % 16, 1 + entry * 251 % most)).unzip()
 }
 
 /// A good message of the kind.
-fn message(kind: u32, entries: u32) -> Fixed {
+pub fn message(kind: u32, entries: u32) -> Fixed {
     let mut fixed = Fixed { kind, client: 9, entries, ..Fixed::default() };
     if to_server(kind) {
         fixed.server = 13;

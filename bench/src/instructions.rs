@@ -3,14 +3,13 @@
 //! `count` runs under callgrind and has it write a file for each figure; `report` makes tables of the files. `bench/run instructions` does both.
 
 use crate::check;
-use crate::frame_speed::{Lent, FRAMES, MOST_BYTES};
+use crate::frame_speed::{Codec, Fast, Lent, Rust, FRAMES, MOST_BYTES};
 use crate::load_speed::{self, PRESSES as PRESSES_OF_LOADS};
 use crate::plans::{in_turn, Plan};
 use crate::sides::{self, Meter};
 use crate::steps::{kinds, PRESSES};
 use crate::table::{print, ratio, time};
 use ffi::{FrameLibrary, LoadLibrary, StoreLibrary};
-use frames::lent::{read_lent, write_lent};
 use model::{Step, Store};
 use std::arch::asm;
 use std::ffi::CString;
@@ -61,17 +60,31 @@ fn written_of(table: &str, row: &str, side: &str, calls: usize, things: usize) {
 /// The table that has what a call of nothing takes, which is taken off every figure.
 const NOTHING: &str = "nothing";
 
-pub fn count(store: StoreLibrary, frame: FrameLibrary, load: LoadLibrary) {
+/// What a call of nothing takes.
+pub fn count_of_nothing() {
     assert!(ask(RUNNING_ON_VALGRIND, 0) > 0, "the instructions are counted under valgrind: bench/run instructions");
     counted(|| ());
     written(NOTHING, "", "", 1);
+}
+
+/// Steps and checks.
+pub fn count_of_steps(store: StoreLibrary) {
     for (place, &(servers, clients, times, _)) in PRESSES.iter().enumerate() {
         let table = format!("Instructions of steps, {servers} servers and {clients} clients, {times} WRITEs and {times} READs of all servers in turn");
         // A step that checks all tables of the larger press takes so long under valgrind that the first press must do.
         count_steps(&table, store, &[1, 2, 3].map(|method| in_turn(method, servers, clients, times)), place == 0);
     }
     count_checks("Instructions of the check of sound tables", store);
-    count_frames("Instructions of frames", frame);
+}
+
+/// Frames.
+pub fn count_of_frames(frame: FrameLibrary) {
+    count_frames("Instructions of frames", frame, Rust);
+    count_frames("Instructions of frames, beside a codec written for speed", frame, Fast);
+}
+
+/// Loads.
+pub fn count_of_loads(store: StoreLibrary, load: LoadLibrary) {
     count_loads("Instructions of a load's step, of 20,000 from openings", store, load);
 }
 
@@ -130,21 +143,27 @@ fn count_checks(table: &str, library: StoreLibrary) {
     }
 }
 
-fn count_frames(table: &str, library: FrameLibrary) {
-    let (mut keys_read, mut numbers_read) = (vec![0; 256], vec![0; 256]);
-    let mut bytes = vec![0; MOST_BYTES];
+fn count_frames<C: Codec>(table: &str, library: FrameLibrary, other: C) {
     for (kind, entries) in FRAMES {
         let row = format!("kind {kind}, {entries} entries");
-        let Lent { fixed, keys, numbers, frame } = Lent::of(library, kind, entries);
-        counted(|| library.write(&fixed, &keys, &numbers, &mut bytes)).expect("a good message");
-        written(table, &row, "proved, written", 1);
-        counted(|| write_lent(&fixed, &keys, &numbers, &mut bytes)).expect("a good message");
-        written(table, &row, "Rust, written", 1);
-        assert_eq!(counted(|| library.read(&frame, &mut keys_read, &mut numbers_read)), Ok(fixed));
-        written(table, &row, "proved, read", 1);
-        assert_eq!(counted(|| read_lent(&frame, &mut keys_read, &mut numbers_read)), Ok(fixed));
-        written(table, &row, "Rust, read", 1);
+        let lent = Lent::of(library, kind, entries);
+        count_written(table, &row, library, &lent);
+        count_written(table, &row, other, &lent);
+        count_read(table, &row, library, &lent);
+        count_read(table, &row, other, &lent);
     }
+}
+
+fn count_written<C: Codec>(table: &str, row: &str, side: C, Lent { fixed, keys, numbers, .. }: &Lent) {
+    let mut bytes = vec![0; MOST_BYTES];
+    C::length(counted(|| side.write(fixed, keys, numbers, &mut bytes))).expect("a good message");
+    written(table, row, &format!("{}, written", C::NAME), 1);
+}
+
+fn count_read<C: Codec>(table: &str, row: &str, side: C, Lent { fixed, frame, .. }: &Lent) {
+    let (mut keys, mut numbers) = (vec![0; 256], vec![0; 256]);
+    assert_eq!(C::message(counted(|| side.read(frame, &mut keys, &mut numbers))), Some(*fixed));
+    written(table, row, &format!("{}, read", C::NAME), 1);
 }
 
 fn count_loads(table: &str, store: StoreLibrary, library: LoadLibrary) {

@@ -2,6 +2,7 @@
 
 mod check;
 mod clock;
+mod fast;
 mod frame_speed;
 mod growth;
 mod instructions;
@@ -21,11 +22,22 @@ fn main() {
     let [proved, model, parts @ ..] = &given[..] else {
         panic!("bench PROVED-PROGRAM MODEL-PROGRAM [PART...]");
     };
-    let store = StoreLibrary::linked().expect("libstore_exports.a is linked: run bench/run");
-    let frame = FrameLibrary::linked().expect("libframe_exports.a is linked: run bench/run");
-    let load = LoadLibrary::linked().expect("libworkload_exports.a is linked: run bench/run");
+    // Frames need their own library alone.
+    let store = || StoreLibrary::linked().expect("libstore_exports.a is linked: run bench/run");
+    let frame = || FrameLibrary::linked().expect("libframe_exports.a is linked: run bench/run");
+    let load = || LoadLibrary::linked().expect("libworkload_exports.a is linked: run bench/run");
     match parts {
-        [part] if part == "count" => return instructions::count(store, frame, load),
+        [part, rest @ ..] if part == "count" => {
+            instructions::count_of_nothing();
+            if rest.is_empty() {
+                instructions::count_of_steps(store());
+            }
+            instructions::count_of_frames(frame());
+            if rest.is_empty() {
+                instructions::count_of_loads(store(), load());
+            }
+            return;
+        }
         [part, folder] if part == "instructions" => return instructions::report(Path::new(folder)),
         _ => {}
     }
@@ -34,19 +46,19 @@ fn main() {
     assert!(parts.iter().all(|part| PARTS.contains(&part.as_str())), "the parts are {PARTS:?}");
     let wanted = |part: &str| parts.is_empty() || parts.iter().any(|word| word == part);
     if wanted("steps") {
-        steps::report(&clock, store);
+        steps::report(&clock, store());
     }
     if wanted("growth") {
-        growth::report(&clock, store);
+        growth::report(&clock, store());
     }
     if wanted("check") {
-        check::report(store);
+        check::report(store());
     }
     if wanted("frames") {
-        frame_speed::report(frame);
+        frame_speed::report(frame());
     }
     if wanted("load") {
-        load_speed::report(store, load);
+        load_speed::report(store(), load());
     }
     if wanted("program") {
         program::report(proved, model);

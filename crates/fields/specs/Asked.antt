@@ -1,13 +1,19 @@
--- What the two functions ask of a field's place: at most 32 bits, far below where the number of a bit would wrap; and to be written, within the bytes.
-use Prim.Native.Nat.{ℕ, _+_, _*_, _≤_}
+-- What the functions ask of a field: at most 32 bits, within the bytes.
+use Prim.Native.Nat.{ℕ, _+_, _*_, _≤_, _<_}
 use mathlib.Core.List.{List}
 use lib.ListN.{length}
 
-pub record Readable (at width : ℕ) : Type 0 where
+pub record Inside (bytes : List ℕ) (at width : ℕ) : Type 0 where
   pub narrow : width ≤ 32
-  pub near : at ≤ 9223372036854775807
-
-pub record Writable (bytes : List ℕ) (at width : ℕ) : Type 0 where
-  pub narrow : width ≤ 32
-  pub near : at ≤ 9223372036854775807
   pub inside : at + width ≤ 8 * length bytes
+
+-- of a part of a byte
+pub record InByte (bytes : List ℕ) (place width behind : ℕ) : Type 0 where
+  pub narrow : width + behind ≤ 8
+  pub inside : 8 * place + width ≤ 8 * length bytes
+
+-- of a field's first part and the n whole bytes behind it
+pub record Across (bytes : List ℕ) (place free n : ℕ) : Type 0 where
+  pub part : free ≤ 8
+  pub narrow : free + 8 * n ≤ 32
+  pub inside : place + n < length bytes

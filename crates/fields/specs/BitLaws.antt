@@ -4,13 +4,9 @@ use Prim.Native.Nat.{ℕ, zero, suc, _+_, _-_, _*_, _/_, _%_, _^_, _<_}
 use native.Mathlib.Nat.{pow-suc, pow-zero, not-suc-le-zero, div-div-eq-div-mul, mul-comm}
 use native.Mathlib.Omega.{arith}
 use mathlib.Core.List.{List, [], _∷_}
-use lib.Dec.{eqb}
 use lib.ListN.{length, getD, set, length-set}
 use lib.Seq.{getD-set-same, getD-set-other, ext-getD}
-use borrow.Author.Tests.{eqb-true}
 use Rattle.ranges.specs.Tests.{by-equal}
-use Rattle.ranges.specs.All.{allBelow}
-use Rattle.ranges.specs.AllLaws.{all-at}
 use Rattle.fields.specs.Bits.{bitOf, withBit, bitAt, setBit}
 
 -- ---- a number
@@ -60,7 +56,7 @@ unfolding bitOf
 bit-zero zero = refl
 bit-zero (suc t) = bit-zero t
 
--- ---- a number, as the code reaches its bits
+-- ---- a number, by powers
 
 pub bit-is : (t n : ℕ) → bitOf n t ≡ n / 2 ^ t % 2
 unfolding bitOf
@@ -69,41 +65,11 @@ bit-is (suc t) n =
     bit-is t (n / 2)
     ∙ ap (λ (k : ℕ). k % 2) (div-div-eq-div-mul n 2 (2 ^ t) ∙ ap (λ (k : ℕ). n / k) (mul-comm 2 (2 ^ t) ∙ sym (pow-suc 2 t)))
 
-with-is : (t n x : ℕ) → withBit n t x + bitOf n t * 2 ^ t ≡ n + x * 2 ^ t
+-- a bit that is set changes the number by what the bit is worth
+pub with-is : (t n x : ℕ) → withBit n t x + bitOf n t * 2 ^ t ≡ n + x * 2 ^ t
 unfolding bitOf withBit
 with-is zero n x = omega (arith, pow-zero 2)
 with-is (suc t) n x = rw (pow-suc 2 t) (omega (arith, with-is t (n / 2) x))
-
--- what the bits of a byte are worth
-abbrev pub worths : List ℕ
-worths = 1 ∷ 2 ∷ 4 ∷ 8 ∷ 16 ∷ 32 ∷ 64 ∷ 128 ∷ []
-
-pub worth : (t : ℕ) → t < 8 → getD worths t 0 ≡ 2 ^ t
-unfolding allBelow
-worth t h = eqb-true _ _ (all-at (λ i. eqb (getD worths i 0) (2 ^ i)) 8 refl t h)
-
-module _ (n t x : ℕ) where
-  -- the bit is there already
-  pub with-same : n / 2 ^ t % 2 ≡ x → n ≡ withBit n t x
-  with-same e =
-      let h : withBit n t x + x * 2 ^ t ≡ n + x * 2 ^ t = ap (λ (k : ℕ). withBit n t x + k * 2 ^ t) (sym (bit-is t n ∙ e)) ∙ with-is t n x in
-      omega arith
-
-  module _ (ht : t < 8) (d : n / 2 ^ t % 2 ≡ x → ⊥) where
-    -- 1 in place of 0: its worth more
-    pub with-more : x ≡ 1 → n + getD worths t 0 ≡ withBit n t x
-    with-more e =
-        let z : bitOf n t ≡ 0 = bit-is t n ∙ omega arith in
-        let h : withBit n t x + 0 * 2 ^ t ≡ n + x * 2 ^ t = ap (λ (k : ℕ). withBit n t x + k * 2 ^ t) (sym z) ∙ with-is t n x in
-        rw (worth t ht) (omega (arith, rw e at h, ap (withBit n t) e))
-
-    -- 0 in place of 1: its worth less
-    pub with-less : x < 2 → (x ≡ 1 → ⊥) → withBit n t x + getD worths t 0 ≡ n
-    with-less hx f =
-        let o : x ≡ 0 = omega arith in
-        let z : bitOf n t ≡ 1 = bit-is t n ∙ omega arith in
-        let h : withBit n t x + 1 * 2 ^ t ≡ n + x * 2 ^ t = ap (λ (k : ℕ). withBit n t x + k * 2 ^ t) (sym z) ∙ with-is t n x in
-        rw (worth t ht) (omega (arith, rw o at h, ap (withBit n t) o))
 
 -- ---- a row of bytes
 

@@ -1,9 +1,8 @@
 -- Laws of fields, for every width and place.
 use mathlib.Core.Path.{_≡_, refl, sym, ap, ap₂, _∙_}
-use Prim.Native.Nat.{ℕ, zero, suc, _+_, _-_, _*_, _/_, _%_, _^_, _≤_, _<_}
-use native.Mathlib.Nat.{pow-suc, pow-zero, not-suc-le-zero, lt-of-lt-of-le}
+use Prim.Native.Nat.{ℕ, zero, suc, _+_, _*_, _/_, _%_, _^_, _≤_, _<_}
+use native.Mathlib.Nat.{pow-suc, pow-succ', pow-zero, lt-of-lt-of-le, add-zero, add-suc, add-assoc, div-one, div-div-eq-div-mul}
 use native.Mathlib.Omega.{arith}
-use native.Mathlib.Numerals.{add-one}
 use mathlib.Core.List.{List}
 use lib.ListN.{length}
 use lib.Pow.{pow-mono}
@@ -78,21 +77,17 @@ put-bytes bytes at zero v h = h
 put-bytes bytes at (suc w) v h =
     put-bytes (setBit bytes (at + w) (v % 2)) at w (v / 2) (setBit-bytes bytes (at + w) (v % 2) (omega arith) h)
 
--- one bit more, as the loops meet it
-pub field-more : (bytes : List ℕ) (at w : ℕ) → fieldAt bytes at (w + 1) ≡ fieldAt bytes at w * 2 + bitAt bytes (at + w)
+-- two fields side by side are one: the first stands above the second
+pub field-join : (bytes : List ℕ) (at a b : ℕ) → fieldAt bytes at (a + b) ≡ fieldAt bytes at a * 2 ^ b + fieldAt bytes (at + a) b
 unfolding fieldAt
-field-more bytes at w = rw add-one
+field-join bytes at a zero = rw (add-zero a, pow-zero 2) (omega arith)
+field-join bytes at a (suc b) =
+    rw (add-suc a b, field-join bytes at a b, pow-suc 2 b, add-assoc at a b) (omega arith)
 
-pub field-none : (bytes : List ℕ) (at : ℕ) → fieldAt bytes at 0 ≡ 0
-unfolding fieldAt
-field-none bytes at = refl
-
-pub put-last : (bytes : List ℕ) (at i v : ℕ) → 0 < i → putField bytes at i v ≡ putField (setBit bytes (at + (i - 1)) (v % 2)) at (i - 1) (v / 2)
+-- and they are put one by one: the lowest bits go into the second
+pub put-join : (bytes : List ℕ) (at a b v : ℕ) → putField bytes at (a + b) v ≡ putField (putField bytes (at + a) b v) at a (v / 2 ^ b)
 unfolding putField
-put-last bytes at zero v h = absurd (not-suc-le-zero h)
-put-last bytes at (suc i) v h =
-    ap (λ (k : ℕ). putField (setBit bytes (at + k) (v % 2)) at k (v / 2)) (let e : i ≡ suc i - 1 = omega arith in e)
-
-pub put-none : (bytes : List ℕ) (at v : ℕ) → putField bytes at 0 v ≡ bytes
-unfolding putField
-put-none bytes at v = refl
+put-join bytes at a zero v = rw (add-zero a, pow-zero 2, div-one v)
+put-join bytes at a (suc b) v =
+    let rest = put-join (setBit bytes (at + (a + b)) (v % 2)) at a b (v / 2) in
+    rw (add-suc a b, rest, add-assoc at a b, div-div-eq-div-mul v 2 (2 ^ b), pow-succ' 2 b)

@@ -10,10 +10,9 @@ use borrow.Author.Tests.{eq-eqb, ne-eqb, lt-ltb, le-ltb, ltb-true, ltb-false, le
 use Rattle.ranges.specs.Tests.{by-equal, by-test, both-left, both-right}
 use Rattle.formats.specs.declared.state.State.{State}
 use Rattle.formats.specs.Grammar.{Grammar, end}
-use Rattle.formats.specs.Columns.{mostValues}
 use Rattle.formats.specs.Table.{manyPlace, entryPlace, numberPlace, entryFields, sorts, rowOf, sortAt, bitsOf, leastOf, mostOf}
-use Rattle.formats.specs.Table.{mostEntries, entriesIn}
-use Rattle.formats.specs.TableLaws.{sort-small, entries-most, few-entries}
+use Rattle.formats.specs.Table.{entriesIn}
+use Rattle.formats.specs.TableLaws.{sort-small}
 use Rattle.formats.specs.Format.{sortOf, fieldOf, within, allowed, leftAfter, placeAfter, nextOf, one, entries, fixed, start, format}
 
 module _ (place : ℕ) where
@@ -80,19 +79,6 @@ pub record Goes (st : State) : Type 0 where
 pub goes-start : Goes start
 goes-start = record { counted = λ h. refl; inside = omega arith }
 
--- how many fields can be left: until the number of entries is known, the most that there can be
-unfoldable pub room : State → ℕ
-room st = cond (ltb (st .place) entryPlace) (st .left + entryFields * mostEntries) (st .left)
-
-module _ (st : State) where
-  pub room-early : st .place < entryPlace → room st ≡ st .left + entryFields * mostEntries
-  unfolding room
-  room-early h = rw (lt-ltb (st .place) entryPlace h)
-
-  pub room-late : entryPlace ≤ st .place → room st ≡ st .left
-  unfolding room
-  room-late h = rw (le-ltb (st .place) entryPlace h)
-
 -- behind an entry's field stands an entry's field
 pub later : (st : State) (v : ℕ) → entryPlace ≤ st .place → entryPlace ≤ (nextOf st v) .place
 later st v h =
@@ -118,26 +104,6 @@ module _ (st : State) (v : ℕ) (g : Goes st) (some : 0 < st .left) where
         counted = λ h. omega (arith, next-left st v ∙ sym (left-one-less st v (λ e. omega arith)), g .counted (omega arith));
         inside = omega (arith, g .inside);
       })
-
-  -- a field that is read or written leaves less room
-  pub room-next : allowed st v ≡ true → room (nextOf st v) < room st
-  room-next a =
-      by-equal (st .place) manyPlace
-      (λ e.
-      let p : (nextOf st v) .place ≡ entryPlace = next-place st v ∙ place-inner (st .place) (λ d. omega arith) ∙ omega arith in
-      let l : (nextOf st v) .left ≡ entryFields * entriesIn (st .kind) v = next-left st v ∙ sym (left-entries st v e refl) in
-      let m : v < mostEntries = omega (arith, at-most st v a, ap (λ (q : ℕ). mostOf (sortAt (st .kind) q) (st .client) (st .before)) e, few-entries (st .kind) (st .client) (st .before)) in
-      omega (arith, room-early st (omega arith), room-late (nextOf st v) (omega arith), entries-most (st .kind) v))
-      (λ d.
-      let l : (nextOf st v) .left ≡ st .left - 1 = next-left st v ∙ sym (left-one-less st v d) in
-      by-test (ltb (st .place) entryPlace)
-      (λ early.
-      let h : st .place < entryPlace = ltb-true _ _ early in
-      let p : (nextOf st v) .place ≡ st .place + 1 = next-place st v ∙ place-inner (st .place) (λ e. omega arith) in
-      omega (arith, room-early st h, room-early (nextOf st v) (omega arith)))
-      (λ late.
-      let h : entryPlace ≤ st .place = ltb-false _ _ late in
-      omega (arith, room-late st h, room-late (nextOf st v) (later st v h))))
 
 -- ---- the row of the frame's kind
 
@@ -188,7 +154,7 @@ module _ (st : State) where
   unfolding rest
   rest-early h = rw (lt-ltb (st .place) entryPlace h)
 
-  rest-late : entryPlace ≤ st .place → rest st ≡ entries (st .left) st
+  pub rest-late : entryPlace ≤ st .place → rest st ≡ entries (st .left) st
   unfolding rest
   rest-late h = rw (le-ltb (st .place) entryPlace h)
 
@@ -229,16 +195,6 @@ rest-one st g h =
         by-equal (st .place) manyPlace
         (λ e. let z : st .left - 1 ≡ 0 = omega (arith, g .counted early) in ap (λ (n : ℕ). fixed n (nextOf st v)) z ∙ sym (rest-late (nextOf st v) (omega arith)))
         (λ d. sym (rest-early (nextOf st v) (omega arith) ∙ ap (λ (n : ℕ). fixed n (nextOf st v)) (next-left st v ∙ sym (left-one-less st v d))))
-
-pub room-start : room start ≡ mostValues
-unfolding room
-room-start = refl
-
-pub room-left : (st : State) → st .left ≤ room st
-room-left st =
-    by-test (ltb (st .place) entryPlace)
-    (λ b. omega (arith, room-early st (ltb-true _ _ b)))
-    (λ b. omega (arith, room-late st (ltb-false _ _ b)))
 
 -- and no less than the least
 pub at-least : (st : State) (v : ℕ) → allowed st v ≡ true → leastOf (sortOf st) (st .client) ≤ v

@@ -1,6 +1,6 @@
--- What was read stands in the bytes: each value where its field begins, so that the entries stand in the columns that the table gives.
-use mathlib.Core.Path.{_≡_, refl, sym, ap, ap₂, _∙_}
-use Prim.Native.Nat.{ℕ, zero, suc, _+_, _*_, _≤_, _<_}
+-- What was read stands in the bytes: each value where its field begins, so that an entry's key and number stand where the table says.
+use mathlib.Core.Path.{_≡_, sym, ap, ap₂, _∙_}
+use Prim.Native.Nat.{ℕ, zero, suc, _+_, _*_, _/_, _%_, _≤_, _<_}
 use native.Mathlib.Omega.{arith}
 use mathlib.Core.List.{List, _∷_}
 use mathlib.Core.Bool.{true}
@@ -10,13 +10,46 @@ use Rattle.ranges.specs.Sum.{sumBelow}
 use Rattle.ranges.specs.SumLaws.{sum-more}
 use Rattle.fields.specs.Bits.{fieldAt}
 use Rattle.formats.specs.Grammar.{Grammar, got, read, good}
-use Rattle.formats.specs.RoundTrip.{field-got, read-good}
-use Rattle.formats.specs.Table.{entryPlace, entryFields, shapeOf, sortAt, bitsOf, entriesSaid, valuesFor}
+use Rattle.formats.specs.RoundTrip.{field-got, read-good, read-size}
+use Rattle.formats.specs.Table.{manyPlace, entryPlace, ownerPlace, numberPlace, entryFields, kinds}
+use Rattle.formats.specs.Table.{headerBits, shapeOf, sortAt, bitsOf}
+use Rattle.formats.specs.Table.{mostOf, entriesIn, entriesSaid, valuesFor}
+use Rattle.formats.specs.TableLaws.{row-right, bitsFrom, columns-small, entries-fit, bits-most, sort-small}
 use Rattle.formats.specs.Format.{widthOf, nextOf, format}
-use Rattle.formats.specs.FormatLaws.{rest, rest-start, rest-one}
+use Rattle.formats.specs.FormatLaws.{rest, rest-start, rest-one, at-most}
 use Rattle.formats.specs.Entries.{keyIn, numberIn}
-use Rattle.formats.specs.Columns.{columnOf, columnAt, keyAt}
-use Rattle.formats.specs.Walk.{stateAt, firstBit, place-late, walk, some-left, values-length, value-width, entry-first}
+use Rattle.formats.specs.Columns.{mostBits}
+use Rattle.formats.specs.Entry.{countBits, ownerBits, keyBits, numberBits, Keyed, keyed-some}
+use Rattle.formats.specs.Judging.{key-parts}
+use Rattle.formats.specs.Walk.{stateAt, firstBit, place-early, place-late, walk, walk-place, walk-kind, some-left, values-length}
+use Rattle.formats.specs.Walk.{value-width, value-allowed, entry-first, entries-few, kind-below, frame-bits}
+
+-- ---- definitions
+
+-- where the entries of a kind begin
+abbrev pub entriesBit : ℕ → ℕ
+entriesBit kind = headerBits + shapeOf kind .body
+
+-- the key of entry i as a number, and its number, of entries that begin at a bit and have a key and a number of so many bits each
+abbrev pub keyAt : List ℕ → ℕ → ℕ → ℕ → ℕ
+keyAt bytes first width i =
+    fieldAt bytes (first + i * (keyBits + width)) keyBits / 16 * 256 + fieldAt bytes (first + i * (keyBits + width)) keyBits % 16
+
+abbrev pub numberAt : List ℕ → ℕ → ℕ → ℕ → ℕ
+numberAt bytes first width i = fieldAt bytes (first + i * (keyBits + width) + keyBits) width
+
+-- what unpacking n of them asks
+pub record Unpackable (bytes : List ℕ) (first width n : ℕ) : Type 0 where
+  pub narrow : width ≤ 32
+  pub near : first + n * (keyBits + width) ≤ mostBits
+  pub inside : first + n * (keyBits + width) ≤ 8 * length bytes
+
+-- ---- laws
+
+-- an entry's bits, of a keyed kind, are the table's
+entry-bits-are : (kind : ℕ) → kind < kinds → Keyed kind → shapeOf kind .entry ≡ keyBits + numberBits kind
+unfolding bitsFrom bitsOf
+entry-bits-are kind h k = omega (arith, row-right kind h .entry, ap bitsOf (k .counts), ap bitsOf (k .owners))
 
 module _ (bytes vs : List ℕ) (r : read format bytes 0 ≡ got vs) where
   right : good format vs ≡ true
@@ -53,48 +86,99 @@ module _ (bytes vs : List ℕ) (r : read format bytes 0 ≡ got vs) where
   value-stands : (i : ℕ) → i < length vs → getD vs i 0 ≡ fieldAt bytes (firstBit vs i) (widthOf (stateAt vs i))
   value-stands i h = stands i h (read-from i (omega arith)) .value
 
-  -- ---- columns
+  -- where entry m begins, and that it lies within the bytes
+  module _ (k : Keyed (getD vs 0 0)) (m : ℕ) (l : m < entriesSaid vs) where
+    abbrev kind : ℕ
+    kind = getD vs 0 0
 
-  module _ (m : ℕ) where
-    width-of : (d : ℕ) → d < entryFields → widthOf (stateAt vs (valuesFor m + d)) ≡ bitsOf (sortAt (getD vs 0 0) (entryPlace + d))
+    abbrev begin : ℕ
+    begin = entriesBit kind + m * (keyBits + numberBits kind)
+
+    begins : firstBit vs (valuesFor m) ≡ begin
+    begins = entry-first vs right m ∙ ap (λ (n : ℕ). entriesBit kind + m * n) (entry-bits-are kind (kind-below vs right) k)
+
+    inside : (d : ℕ) → d < entryFields → valuesFor m + d < length vs
+    inside d h = omega (arith, values-length vs right)
+
+    width-of : (d : ℕ) → d < entryFields → widthOf (stateAt vs (valuesFor m + d)) ≡ bitsOf (sortAt kind (entryPlace + d))
     width-of d h =
         value-width vs right (valuesFor m + d) (omega arith)
-        ∙ ap (λ (p : ℕ). bitsOf (sortAt (getD vs 0 0) p)) (place-late (valuesFor m + d) (omega arith) ∙ omega arith)
+        ∙ ap (λ (p : ℕ). bitsOf (sortAt kind p)) (place-late (valuesFor m + d) (omega arith) ∙ omega arith)
 
-    -- where field d of entry m begins
-    column-bit : (d : ℕ) → d < entryFields →
-        let c = columnOf (getD vs 0 0) d in
-        (firstBit vs (valuesFor m + d) ≡ c .first + m * c .stride) × (c .stride ≡ shapeOf (getD vs 0 0) .entry)
-        × (c .width ≡ bitsOf (sortAt (getD vs 0 0) (entryPlace + d)))
-    unfolding columnOf
-    column-bit zero h =
-        let e : firstBit vs (valuesFor m + 0) ≡ firstBit vs (valuesFor m) = ap (firstBit vs) (omega arith) in
-        (omega (arith, entry-first vs right m), refl, refl)
-    column-bit (suc d) h =
-        let b = column-bit d (omega arith) in
-        let f : ℕ → ℕ = λ j. widthOf (stateAt vs j) in
-        let e : firstBit vs (valuesFor m + suc d) ≡ firstBit vs (valuesFor m + d + 1) = ap (firstBit vs) (omega arith) in
-        (omega (arith, b .0, b .2, width-of d (omega arith), sum-more f (valuesFor m + d)), b .1, refl)
+    next-bit : (d : ℕ) → firstBit vs (valuesFor m + d + 1) ≡ firstBit vs (valuesFor m + d) + widthOf (stateAt vs (valuesFor m + d))
+    next-bit d = sum-more (λ j. widthOf (stateAt vs j)) (valuesFor m + d)
 
-    column-value :
-        (d : ℕ)
-        → d < entryFields
-        → m < entriesSaid vs
-        → columnAt bytes (columnOf (getD vs 0 0) d) m ≡ getD vs (valuesFor m + d) 0
-    column-value d h l =
-        let b = column-bit d h in
-        sym (value-stands (valuesFor m + d) (omega (arith, values-length vs right))
-        ∙ ap₂ (fieldAt bytes) (b .0) (width-of d h ∙ sym (b .2)))
+    -- its three values
+    value-at : (d p w : ℕ) → d < entryFields → firstBit vs (valuesFor m + d) ≡ p → widthOf (stateAt vs (valuesFor m + d)) ≡ w
+        → getD vs (valuesFor m + d) 0 ≡ fieldAt bytes p w
+    value-at d p w h e f = value-stands (valuesFor m + d) (inside d h) ∙ ap₂ (fieldAt bytes) e f
 
-  -- the entries, as the columns give them
-  pub key-found : (m : ℕ) → m < entriesSaid vs → keyAt bytes (columnOf (getD vs 0 0) 0) (columnOf (getD vs 0 0) 1) m ≡ keyIn vs m
-  key-found m l =
-      let e : valuesFor m + 0 ≡ entryPlace + entryFields * m = omega arith in
-      let f : valuesFor m + 1 ≡ 9 + entryFields * m = omega arith in
-      ap₂ (λ (x y : ℕ). x * 256 + y) (column-value m 0 (omega arith) l ∙ ap (λ (k : ℕ). getD vs k 0) e)
-      (column-value m 1 (omega arith) l ∙ ap (λ (k : ℕ). getD vs k 0) f)
+    w₀ : widthOf (stateAt vs (valuesFor m + 0)) ≡ countBits
+    unfolding bitsOf
+    w₀ = width-of 0 (omega arith) ∙ ap bitsOf (k .counts)
 
-  pub number-found : (m : ℕ) → m < entriesSaid vs → columnAt bytes (columnOf (getD vs 0 0) 2) m ≡ numberIn vs m
-  number-found m l =
-      let e : valuesFor m + 2 ≡ 10 + entryFields * m = omega arith in
-      column-value m 2 (omega arith) l ∙ ap (λ (k : ℕ). getD vs k 0) e
+    w₁ : widthOf (stateAt vs (valuesFor m + 1)) ≡ ownerBits
+    unfolding bitsOf
+    w₁ = width-of 1 (omega arith) ∙ ap bitsOf (k .owners)
+
+    b₀ : firstBit vs (valuesFor m + 0) ≡ begin
+    b₀ = ap (firstBit vs) (omega arith) ∙ begins
+
+    b₁ : firstBit vs (valuesFor m + 1) ≡ begin + countBits
+    b₁ =
+        let e : firstBit vs (valuesFor m + 1) ≡ firstBit vs (valuesFor m + 0 + 1) = ap (firstBit vs) (omega arith) in
+        omega (arith, next-bit 0, b₀, w₀)
+
+    b₂ : firstBit vs (valuesFor m + 2) ≡ begin + keyBits
+    b₂ =
+        let e : firstBit vs (valuesFor m + 2) ≡ firstBit vs (valuesFor m + 1 + 1) = ap (firstBit vs) (omega arith) in
+        omega (arith, next-bit 1, b₁, w₁)
+
+    pub key-found : keyAt bytes (entriesBit kind) (numberBits kind) m ≡ keyIn vs m
+    key-found =
+        let e : valuesFor m + 0 ≡ entryPlace + entryFields * m = omega arith in
+        let f : valuesFor m + 1 ≡ ownerPlace + entryFields * m = omega arith in
+        let c : getD vs (entryPlace + entryFields * m) 0 ≡ fieldAt bytes begin countBits =
+        ap (λ (j : ℕ). getD vs j 0) (sym e) ∙ value-at 0 _ _ (omega arith) b₀ w₀ in
+        let o : getD vs (ownerPlace + entryFields * m) 0 ≡ fieldAt bytes (begin + countBits) ownerBits =
+        ap (λ (j : ℕ). getD vs j 0) (sym f) ∙ value-at 1 _ _ (omega arith) b₁ w₁ in
+        omega (arith, c, o, key-parts bytes begin)
+
+    pub number-found : numberAt bytes (entriesBit kind) (numberBits kind) m ≡ numberIn vs m
+    number-found =
+        let e : valuesFor m + 2 ≡ numberPlace + entryFields * m = omega arith in
+        sym (ap (λ (j : ℕ). getD vs j 0) (sym e) ∙ value-at 2 _ _ (omega arith) b₂ (width-of 2 (omega arith)))
+
+  -- a frame with entries is of a keyed kind
+  pub found-keyed : 0 < entriesSaid vs → Keyed (getD vs 0 0)
+  unfolding entriesIn mostOf
+  found-keyed h =
+      keyed-some (getD vs 0 0)
+      (λ e.
+      let v = getD vs manyPlace 0 in
+      let st = stateAt vs manyPlace in
+      let a : v ≤ mostOf (sortAt (getD vs 0 0) manyPlace) (st .client) (st .before) =
+      omega (
+        arith,
+        at-most st v (value-allowed vs right manyPlace (omega (arith, values-length vs right))),
+        ap₂ (λ (k p : ℕ). mostOf (sortAt k p) (st .client) (st .before)) (walk-kind vs manyPlace (omega arith))
+            (walk-place vs manyPlace ∙ place-early manyPlace (omega arith)),
+      ) in
+      let z : v ≤ 0 = rw e at a in
+      let m : 0 < v = rw e at h in
+      omega arith)
+
+  -- and its entries lie within the bytes
+  pub found-unpackable : Keyed (getD vs 0 0) → {n : ℕ} → n ≡ entriesSaid vs
+      → Unpackable bytes (entriesBit (getD vs 0 0)) (numberBits (getD vs 0 0)) n
+  found-unpackable k {n} en =
+      let kind = getD vs 0 0 in
+      let h = kind-below vs right in
+      let s : n * (keyBits + numberBits kind) ≡ entriesSaid vs * shapeOf kind .entry =
+      ap₂ (λ (i j : ℕ). i * j) en (sym (entry-bits-are kind h k)) in
+      let w = bits-most (sortAt kind numberPlace) (sort-small kind numberPlace) in
+      record {
+        narrow = w;
+        near = omega (arith, s, columns-small kind h, entries-fit kind (entriesSaid vs) h (entries-few vs right));
+        inside = omega (arith, s, frame-bits vs right, read-size format bytes 0 vs r (omega arith));
+      }

@@ -1,36 +1,24 @@
 -- How the writer lays the fields of a frame's values, one behind the other.
-use mathlib.Core.Path.{_≡_, refl, sym, ap, ap₂, _∙_}
+use mathlib.Core.Path.{_≡_, sym, ap, ap₂, _∙_}
 use Prim.Native.Nat.{ℕ, _+_, _*_, _≤_, _<_}
 use native.Mathlib.Omega.{arith}
-use native.Mathlib.Numerals.{add-one}
-use mathlib.Core.List.{List, [], _++_}
+use mathlib.Core.List.{List, _++_}
 use mathlib.Core.Bool.{true, false}
 use lib.ListN.{length, getD, drop}
-use lib.Seq.{drop-cons, drop-length}
 use borrow.Author.Tests.{le-leb, lt-leb}
-use Rattle.ranges.specs.SumLaws.{sum-none, sum-more}
-use Rattle.fields.specs.Bits.{putField}
-use Rattle.fields.specs.FieldLaws.{length-putField}
-use Rattle.formats.specs.declared.state.Field.{Field}
-use Rattle.formats.specs.declared.state.State.{State}
+use Rattle.ranges.specs.Tests.{by-test}
 use Rattle.formats.specs.declared.table.Shape.{Shape}
-use Rattle.formats.specs.Grammar.{Grammar, end, field, good, size, lay, zeros, frame}
+use Rattle.formats.specs.Grammar.{good, size, lay, zeros, frame}
 use Rattle.formats.specs.RoundTrip.{length-frame}
-use Rattle.formats.specs.Table.{numberPlace, sorts, headerBits, mostEntries, shapeOf, rowOf, limitsOf, bitsOf, entriesSaid}
-use Rattle.formats.specs.TableLaws.{limits-width, bits-most, mostColumn, columns-small, entries-fit}
-use Rattle.formats.specs.Format.{sortOf, widthOf, placeAfter, nextOf, format}
+use Rattle.formats.specs.Table.{headerBits, mostEntries, shapeOf, rowOf, entriesSaid}
+use Rattle.formats.specs.TableLaws.{mostColumn, columns-small, entries-fit}
+use Rattle.formats.specs.Format.{format}
 use Rattle.formats.specs.Entries.{valuesBy}
 use Rattle.formats.specs.Columns.{lengthBy, Packable}
 use Rattle.formats.specs.EntryLaws.{values-many, values-kind}
-use Rattle.formats.specs.FormatLaws.{Goes, next-place, rowed-tells, rest, rest-start, rest-one}
 use Rattle.formats.specs.Writing.{wroteOf, bytesAfter}
-use Rattle.formats.specs.Walk.{stateAt, firstBit, walk, walk-rowed, some-left, values-length, sized, frame-bits, frame-length}
+use Rattle.formats.specs.Walk.{values-length, frame-bits, frame-length}
 use Rattle.formats.specs.Walk.{kind-below, entries-few}
-
-lay-nothing : (g : Grammar) (bytes : List ℕ) (at : ℕ) → lay g [] bytes at ≡ bytes
-unfolding lay
-lay-nothing end bytes at = refl
-lay-nothing (field w ok r) bytes at = refl
 
 -- What laying asks: the row of the kind, values of a frame, and room for it.
 pub record Layable (row fixed keys numbers : List ℕ) (entries bytes : ℕ) : Type 0 where
@@ -39,25 +27,6 @@ pub record Layable (row fixed keys numbers : List ℕ) (entries bytes : ℕ) : T
   pub right : good format (valuesBy fixed keys numbers entries) ≡ true
   pub fits : size format (valuesBy fixed keys numbers entries) ≤ 8 * bytes
 
--- How far a writer has come: what is left of the values, laid into the bytes as they are, gives the frame.
-pub record Laid (vs before bytes : List ℕ) (i at place : ℕ) : Type 0 where
-  pub inside : i ≤ length vs
-  pub bit : at ≡ firstBit vs i
-  pub its-place : place ≡ (stateAt vs i) .place
-  pub same : length bytes ≡ length before
-  pub found : lay (rest (stateAt vs i)) (drop i vs) bytes at ≡ lay format vs before 0
-
-pub laid-start : (vs bytes : List ℕ) → Laid vs bytes bytes 0 0 0
-unfolding stateAt
-laid-start vs bytes =
-    record {
-      inside = omega arith;
-      bit = sym (sum-none (λ j. widthOf (stateAt vs j)));
-      its-place = refl;
-      same = refl;
-      found = ap (λ (g : Grammar). lay g vs bytes 0) (sym rest-start);
-    }
-
 module _ (vs : List ℕ) (g : good format vs ≡ true) where
   -- a frame has few bits
   pub size-small : size format vs ≤ headerBits + mostColumn + mostEntries * mostColumn
@@ -65,70 +34,12 @@ module _ (vs : List ℕ) (g : good format vs ≡ true) where
       let k = getD vs 0 0 in
       omega (arith, frame-bits vs g, columns-small k (kind-below vs g), entries-fit k (entriesSaid vs) (kind-below vs g) (entries-few vs g))
 
-  module _ {before bytes : List ℕ} {i at place : ℕ} (c : Laid vs before bytes i at place) where
-    -- the row of the kind tells what the next field holds
-    pub laid-sort : {row : List ℕ} → row ≡ rowOf (getD vs 0 0) → (getD row place 0 ≡ sortOf (stateAt vs i)) × (getD row place 0 < sorts)
-    laid-sort er = rw (c .its-place) (rowed-tells (getD vs 0 0) i (stateAt vs i) (walk-rowed vs g i) er)
-
-    -- and so how wide it is
-    pub laid-width :
-        {row : List ℕ} {f : Field}
-        → row ≡ rowOf (getD vs 0 0)
-        → f ≡ limitsOf (getD row place 0)
-        → (f .width ≡ widthOf (stateAt vs i)) × (f .width ≤ 32)
-    laid-width {row} er ef =
-        let t = laid-sort er in
-        let w = limits-width (getD row place 0) ef in
-        (w ∙ ap bitsOf (t .0), omega (arith, w, bits-most (getD row place 0) (t .1)))
-
-    -- all is laid
-    pub laid-end : length vs ≤ i → bytes ≡ lay format vs before 0
-    laid-end h =
-        let e : i ≡ length vs = omega (arith, c .inside) in
-        let r = rest (stateAt vs i) in
-        sym (ap (λ (us : List ℕ). lay r us bytes at) (ap (λ (k : ℕ). drop k vs) e ∙ drop-length vs) ∙ lay-nothing r bytes at) ∙ c .found
-
-    module _ (h : i < length vs) where
-      goes : Goes (stateAt vs i)
-      goes = walk vs g i (omega arith) .goes
-
-      some : 0 < (stateAt vs i) .left
-      some = some-left vs g i (stateAt vs i) (walk vs g i (omega arith)) h
-
-      -- the place is one of the table
-      pub laid-place : place ≤ numberPlace
-      laid-place = omega (arith, c .its-place, goes .inside)
-
-      -- the field lies within the frame
-      pub laid-fits : at + widthOf (stateAt vs i) ≤ size format vs
-      laid-fits =
-          let f : ℕ → ℕ = λ j. widthOf (stateAt vs j) in
-          omega (arith, c .bit, sum-more f i, sized vs g (i + 1) (omega arith))
-
-      pub laid-on :
-          {after : List ℕ} {w v next : ℕ}
-          → w ≡ widthOf (stateAt vs i)
-          → v ≡ getD vs i 0
-          → after ≡ putField bytes at w v
-          → next ≡ placeAfter place
-          → Laid vs before after (i + 1) (at + w) next
-      unfolding stateAt lay
-      laid-on {after} {w} {v} {next} ew ev ea en =
-          let f : ℕ → ℕ = λ j. widthOf (stateAt vs j) in
-          let st = stateAt vs i in
-          let e : stateAt vs (i + 1) ≡ nextOf st (getD vs i 0) = ap (stateAt vs) (add-one i) in
-          record {
-            inside = omega arith;
-            bit = omega (arith, c .bit, sum-more f i, ew);
-            its-place = en ∙ ap placeAfter (c .its-place) ∙ sym (ap (λ (s : State). s .place) e ∙ next-place st (getD vs i 0));
-            same = ap length ea ∙ length-putField bytes at w v ∙ c .same;
-            found =
-                (λ j. lay (rest (e j)) (drop (add-one i j) vs) ((ea ∙ ap₂ (putField bytes at) ew ev) j) (at + ew j))
-                ∙ sym (ap₂ (λ (r : Grammar) (us : List ℕ). lay r us bytes at) (rest-one st goes some) (drop-cons vs i 0 h))
-                ∙ c .found;
-          }
-
 -- ---- the cases of the answer
+
+-- a frame's kind has a row
+pub kind-unknown : (vs : List ℕ) → 12 < getD vs 0 0 → good format vs ≡ false
+kind-unknown vs h =
+    by-test (good format vs) (λ g. let z : ⊥ = omega (arith, kind-below vs g) in absurd z) (λ g. g)
 
 module _ (vs bytes : List ℕ) where
   pub write-bad : good format vs ≡ false → (record { fault = 11; length = 0 } ≡ wroteOf vs bytes) × (bytes ≡ bytesAfter vs bytes)

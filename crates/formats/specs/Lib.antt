@@ -8,8 +8,11 @@ pub mod RoundTrip
 pub mod TableLaws
 pub mod FormatLaws
 pub mod EntryLaws
+pub mod Entry
 pub mod Reading
+pub mod Judging
 pub mod Writing
 pub mod Walk
 pub mod Laying
+pub mod Packing
 pub mod Found

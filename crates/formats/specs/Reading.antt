@@ -2,24 +2,25 @@
 use mathlib.Core.Path.{_≡_, refl, sym, ap, ap₂, _∙_}
 use Prim.Native.Nat.{ℕ, _+_, _-_, _*_, _/_, _≤_, _<_}
 use native.Mathlib.Omega.{arith}
-use mathlib.Core.List.{List, [], _∷_, _++_, append-assoc, append-nil}
+use mathlib.Core.List.{List, [], _∷_, _++_, append-assoc}
 use mathlib.Core.Bool.{Bool, true, false, cond, _&&_}
-use lib.Dec.{leb, ltb, eqb}
+use lib.Dec.{leb, eqb}
 use lib.ListN.{length, getD, take, set, length-append, length-set, List·getD-append}
-use lib.Seq.{ext-getD, getD-take, getD-set-same, getD-set-other, getD-append-seam, length-take-le}
-use borrow.Author.Tests.{le-leb, lt-leb, leb-true, lt-ltb, ltb-true, ltb-false, eq-eqb, ne-eqb}
-use Rattle.ranges.specs.Tests.{either, by-equal, by-test}
+use lib.Seq.{getD-set-same, getD-set-other, getD-append-seam}
+use borrow.Author.Tests.{le-leb, lt-leb, leb-true, eq-eqb, ne-eqb}
+use Rattle.ranges.specs.Tests.{by-equal}
 use Rattle.fields.specs.Bits.{fieldAt}
 use Rattle.formats.specs.declared.state.Field.{Field}
 use Rattle.formats.specs.declared.state.State.{State}
 use Rattle.formats.specs.declared.reading.Took.{Took}
 use Rattle.formats.specs.declared.reading.Scan.{Scan}
 use Rattle.formats.specs.Grammar.{Grammar, end, field, Outcome, got, fault, ahead, judged, ended, read, zeros}
-use Rattle.formats.specs.Table.{entryPlace, fixedFields, sortAt, bitsOf}
+use Rattle.formats.specs.Table.{none, manyPlace, entryPlace, fixedFields, entryFields, sortAt, bitsOf, leastOf, mostOf, entriesIn}
 use Rattle.formats.specs.TableLaws.{kindBits}
-use Rattle.formats.specs.Format.{widthOf, fieldOf, within, allowed, nextOf, one, start, format}
-use Rattle.formats.specs.FormatLaws.{Goes, goes-start, goes-next, later, next-place, place-inner, Rowed, rowed-next, rest}
-use Rattle.formats.specs.FormatLaws.{rest-start, rest-one, rest-end}
+use Rattle.formats.specs.Format.{sortOf, widthOf, fieldOf, within, allowed, nextOf, one, fixed, start, format}
+use Rattle.formats.specs.FormatLaws.{Goes, goes-start, goes-next, next-place, next-left, place-inner}
+use Rattle.formats.specs.FormatLaws.{left-entries, at-most, Rowed, rowed-next, rest}
+use Rattle.formats.specs.FormatLaws.{rest-start, rest-one, field-is}
 
 -- ---- definitions
 
@@ -27,8 +28,14 @@ unfoldable pub faultAt : List ℕ → ℕ → Field → ℕ
 faultAt bytes at f =
     cond (leb (at + f .width) (8 * length bytes)) (cond (within f (fieldAt bytes at (f .width))) 0 11) 10
 
+-- a field as it is taken: a value is told of one that is not cut short
 abbrev pub tookAt : List ℕ → ℕ → Field → Took
-tookAt bytes at f = record { fault = faultAt bytes at f; value = fieldAt bytes at (f .width) }
+tookAt bytes at f =
+    record {
+      fault = faultAt bytes at f;
+      width = f .width;
+      value = cond (leb (at + f .width) (8 * length bytes)) (fieldAt bytes at (f .width)) 0;
+    }
 
 unfoldable pub endFault : List ℕ → ℕ → ℕ
 endFault bytes at = cond (leb (8 * length bytes) (at + 7) && eqb (fieldAt bytes at (8 * length bytes - at)) 0) 0 11
@@ -41,13 +48,22 @@ scanOf (fault n) = record { fault = n; fields = 0; fixed = zeros fixedFields }
 -- ---- the cases, as the code meets them
 
 module _ (bytes : List ℕ) (at : ℕ) (f : Field) where
-  pub fault-cut : length bytes < (at + f .width + 7) / 8 → 10 ≡ faultAt bytes at f
+  pub took-cut : length bytes < (at + f .width + 7) / 8 → record { fault = 10; width = f .width; value = 0 } ≡ tookAt bytes at f
   unfolding faultAt
-  fault-cut h = rw (lt-leb (at + f .width) (8 * length bytes) (omega arith))
+  took-cut h = rw (lt-leb (at + f .width) (8 * length bytes) (omega arith))
 
   module _ (h : (at + f .width + 7) / 8 ≤ length bytes) where
     whole : leb (at + f .width) (8 * length bytes) ≡ true
     whole = le-leb (at + f .width) (8 * length bytes) (omega arith)
+
+    pub took-is :
+        {n v : ℕ}
+        → v ≡ fieldAt bytes at (f .width)
+        → n ≡ faultAt bytes at f
+        → record { fault = n; width = f .width; value = v } ≡ tookAt bytes at f
+    took-is d e =
+        rw whole
+        (λ i. record { fault = e i; width = f .width; value = d i })
 
     pub fault-low : fieldAt bytes at (f .width) < f .least → 11 ≡ faultAt bytes at f
     unfolding faultAt within
@@ -62,6 +78,17 @@ module _ (bytes : List ℕ) (at : ℕ) (f : Field) where
       unfolding faultAt within
       fault-none u = rw (whole, le-leb (f .least) (fieldAt bytes at (f .width)) l, le-leb (fieldAt bytes at (f .width)) (f .most) u)
 
+-- a field that the kind lacks has no bits
+pub took-nothing :
+    (bytes : List ℕ) (at : ℕ) (st : State)
+    → sortOf st ≡ none
+    → at ≤ 8 * length bytes
+    → record { fault = 0; width = 0; value = 0 } ≡ tookAt bytes at (fieldOf st)
+unfolding faultAt within fieldAt bitsOf leastOf mostOf
+took-nothing bytes at st e h =
+    rw
+    (sym (field-is st {s = none} {w = 0} {lo = 0} {hi = 0} (sym e) refl refl refl), le-leb (at + 0) (8 * length bytes) (omega arith))
+
 module _ (bytes : List ℕ) (at : ℕ) where
   pub end-long : (at + 7) / 8 < length bytes → 11 ≡ endFault bytes at
   unfolding endFault
@@ -75,7 +102,7 @@ module _ (bytes : List ℕ) (at : ℕ) where
   unfolding endFault
   end-some h d = rw (le-leb (8 * length bytes) (at + 7) (omega arith), ne-eqb _ 0 d)
 
-  end-reads : {n : ℕ} → n ≡ endFault bytes at → (n ≡ 0 → ended bytes at ≡ got []) × ((n ≡ 0 → ⊥) → ended bytes at ≡ fault n)
+  pub end-reads : {n : ℕ} → n ≡ endFault bytes at → (n ≡ 0 → ended bytes at ≡ got []) × ((n ≡ 0 → ⊥) → ended bytes at ≡ fault n)
   unfolding ended endFault judged
   end-reads {n} e = go (leb (8 * length bytes) (at + 7) && eqb (fieldAt bytes at (8 * length bytes - at)) 0) e
     where
@@ -94,24 +121,26 @@ unfoldable pub after : List ℕ → Outcome → Outcome
 after us (got vs) = got (us ++ vs)
 after us (fault n) = fault n
 
-after-ahead : (us : List ℕ) (v : ℕ) (o : Outcome) → after us (ahead v o) ≡ after (us ++ (v ∷ [])) o
+pub after-ahead : (us : List ℕ) (v : ℕ) (o : Outcome) → after us (ahead v o) ≡ after (us ++ (v ∷ [])) o
 unfolding after ahead
 after-ahead us v (got vs) = ap got (sym (append-assoc us (v ∷ []) vs))
 after-ahead us v (fault n) = refl
 
-after-nothing : (o : Outcome) → after [] o ≡ o
+pub after-nothing : (o : Outcome) → after [] o ≡ o
 unfolding after
 after-nothing (got vs) = refl
 after-nothing (fault n) = refl
 
 -- what one field's fault makes of reading
-fault-reads : (whole right : Bool) (o : Outcome) {n : ℕ} → n ≡ cond whole (cond right 0 11) 10 → (n ≡ 0 → ⊥) → judged whole right o ≡ fault n
+pub fault-reads : (whole right : Bool) (o : Outcome) {n : ℕ} → n ≡ cond whole (cond right 0 11) 10 → (n ≡ 0 → ⊥)
+    → judged whole right o ≡ fault n
 unfolding judged
 fault-reads true true o e d = absurd (d e)
 fault-reads true false o e d = ap fault (sym e)
 fault-reads false right o e d = ap fault (sym e)
 
-none-reads : (whole right : Bool) (o : Outcome) {n : ℕ} → n ≡ cond whole (cond right 0 11) 10 → n ≡ 0 → (whole ≡ true) × (right ≡ true) × (judged whole right o ≡ o)
+pub none-reads : (whole right : Bool) (o : Outcome) {n : ℕ} → n ≡ cond whole (cond right 0 11) 10 → n ≡ 0
+    → (whole ≡ true) × (right ≡ true) × (judged whole right o ≡ o)
 unfolding judged
 none-reads true true o e z = (refl, refl, refl)
 none-reads true false o e d = let z : ⊥ = omega arith in absurd z
@@ -135,161 +164,131 @@ pub record Got (o : Outcome) (fields : ℕ) (fixed : List ℕ) : Type 0 where
   pub many : fields ≡ length values
   pub front : fixed ≡ take fixedFields values
 
--- the row of fixed values with value i, where it is one
-abbrev pub keptIn : List ℕ → ℕ → ℕ → List ℕ
-keptIn row i v = cond (ltb i fixedFields) (set row i v) row
+-- A value that may say how many entries a frame of the kind has, and so how many fields are left behind it.
+pub record Said (kind v left : ℕ) : Type 0 where
+  pub client : ℕ
+  pub before : ℕ
+  pub right : v ≤ mostOf (sortAt kind manyPlace) client before
+  pub many : left ≡ entryFields * entriesIn kind v
 
--- How far a reader has come: i values so far, the fixed ones of them in the row, and what is left is read from `at` on.
-pub record Come (bytes row : List ℕ) (i at : ℕ) (st : State) : Type 0 where
+-- How far a reader has come among the fixed fields: a value for each place so far, in the row too, and what is left is read from `at` on.
+pub record Come (bytes row : List ℕ) (at : ℕ) (st : State) : Type 0 where
   pub values : List ℕ
   pub goes : Goes st
-  pub near : at ≤ 32 * i
+  pub early : st .place ≤ entryPlace
+  pub near : at ≤ 32 * st .place
   pub inside : at ≤ 8 * length bytes
   pub found : read format bytes 0 ≡ after values (read (rest st) bytes at)
-  pub many : length values ≡ i
-  pub early : st .place < entryPlace → i ≡ st .place
-  pub late : entryPlace ≤ st .place → fixedFields ≤ i
+  pub many : length values ≡ st .place
   pub eight : length row ≡ fixedFields
-  pub kept : (j : ℕ) → j < fixedFields → j < i → getD row j 0 ≡ getD values j 0
+  pub kept : (j : ℕ) → j < st .place → getD row j 0 ≡ getD values j 0
 
-pub come-start : (bytes : List ℕ) {row : List ℕ} → length row ≡ fixedFields → Come bytes row 0 0 start
+-- no bytes at all
+pub come-none : (bytes : List ℕ) → length bytes ≡ 0 → fault 10 ≡ read format bytes 0
+unfolding format fixed bitsOf sortAt read judged
+come-none bytes z = rw (lt-leb 4 (8 * length bytes) (omega arith))
+
+-- no kind
+pub come-unknown : (bytes : List ℕ) {kind : ℕ} → (length bytes ≡ 0 → ⊥) → kind ≡ fieldAt bytes 0 kindBits → 12 < kind
+    → fault 11 ≡ read format bytes 0
+unfolding format fixed bitsOf sortAt read judged within fieldOf leastOf mostOf
+come-unknown bytes {kind} some e h =
+    let v = fieldAt bytes 0 kindBits in
+    let l : 12 < v = omega arith in
+    rw (le-leb 4 (8 * length bytes) (omega arith), le-leb 1 v (omega arith), lt-leb v 12 l)
+
+pub come-start : (bytes : List ℕ) {row : List ℕ} → length row ≡ fixedFields → Come bytes row 0 start
 come-start bytes l =
     record {
       values = [];
       goes = goes-start;
+      early = omega arith;
       near = omega arith;
       inside = omega arith;
       found = ap (λ (g : Grammar). read g bytes 0) rest-start ∙ sym (after-nothing (read (rest start) bytes 0));
       many = refl;
-      early = λ h. refl;
-      late = λ h. let z : ⊥ = omega arith in absurd z;
       eight = l;
-      kept = λ j h k. let z : ⊥ = omega arith in absurd z;
+      kept = λ j h. let z : ⊥ = omega arith in absurd z;
     }
 
-module _ {bytes row : List ℕ} {i at : ℕ} {st : State} (c : Come bytes row i at st) where
-  -- no field is left
-  module _ (z : st .left ≡ 0) {n : ℕ} (e : n ≡ endFault bytes at) where
-    ends : read format bytes 0 ≡ after (c .values) (ended bytes at)
-    unfolding read
-    ends = c .found ∙ ap (λ (g : Grammar). after (c .values) (read g bytes at)) (rest-end st (c .goes) z)
+-- A turn of the reader: the field of the state is taken as t.
+module _ {bytes row : List ℕ} {at : ℕ} {st : State} (c : Come bytes row at st) (h : st .place < entryPlace) {t : Took}
+    (et : t ≡ tookAt bytes at (fieldOf st)) where
+  some : 0 < st .left
+  some = omega (arith, c .goes .counted h)
 
-    pub come-refused : (n ≡ 0 → ⊥) → fault n ≡ read format bytes 0
-    unfolding after
-    come-refused d = sym (ends ∙ ap (after (c .values)) (end-reads bytes at e .1 d))
+  opened : read format bytes 0 ≡ after (c .values) (read (one st (λ v. rest (nextOf st v))) bytes at)
+  opened = c .found ∙ ap (λ (g : Grammar). after (c .values) (read g bytes at)) (rest-one st (c .goes) some)
 
-    -- all eight are kept
-    row-whole : fixedFields ≤ i → row ≡ take fixedFields (c .values)
-    row-whole h =
-        let l : fixedFields ≤ length (c .values) = omega (arith, c .many) in
-        ext-getD 0 row (take fixedFields (c .values)) (c .eight ∙ sym (length-take-le fixedFields (c .values) l))
-        (λ j k.
-        let m : j < fixedFields = omega (arith, c .eight) in
-        c .kept j m (omega arith) ∙ sym (getD-take fixedFields (c .values) j 0 m))
-
-    pub come-done : n ≡ 0 → record { fault = 0; fields = i; fixed = row } ≡ scanOf (read format bytes 0)
-    unfolding after scanOf
-    come-done o =
-        let late : entryPlace ≤ st .place =
-        by-test (ltb (st .place) entryPlace) (λ b. omega (arith, c .goes .counted (ltb-true _ _ b))) (λ b. ltb-false _ _ b) in
-        let all : read format bytes 0 ≡ got (c .values) =
-        ends ∙ ap (after (c .values)) (end-reads bytes at e .0 o) ∙ ap got (append-nil (c .values)) in
-        (λ j. record { fault = 0; fields = sym (c .many) j; fixed = row-whole (c .late late) j }) ∙ ap scanOf (sym all)
-
-  module _ (some : 0 < st .left) where
-    opened : read format bytes 0 ≡ after (c .values) (read (one st (λ v. rest (nextOf st v))) bytes at)
-    opened = c .found ∙ ap (λ (g : Grammar). after (c .values) (read g bytes at)) (rest-one st (c .goes) some)
-
-    -- a field with a fault
-    come-fault : {f : ℕ} → f ≡ faultAt bytes at (fieldOf st) → (f ≡ 0 → ⊥) → fault f ≡ read format bytes 0
-    unfolding read faultAt fieldOf after
-    come-fault e d = sym (opened ∙ ap (after (c .values)) (fault-reads _ _ _ e d))
-
-    -- a field without
-    module _ {f : ℕ} (e : f ≡ faultAt bytes at (fieldOf st)) (none : f ≡ 0) where
-      come-field :
-          let w = widthOf st in
-          let v = fieldAt bytes at w in
-          (leb (at + w) (8 * length bytes) ≡ true) × (allowed st v ≡ true)
-          × (read (one st (λ u. rest (nextOf st u))) bytes at ≡ ahead v (read (rest (nextOf st v)) bytes (at + w)))
-      unfolding read faultAt fieldOf
-      come-field = none-reads _ _ _ e none
-
-      come-allowed : allowed st (fieldAt bytes at (widthOf st)) ≡ true
-      come-allowed = come-field .1
-
-      come-on :
-          widthOf st ≤ 32
-          → (let v = fieldAt bytes at (widthOf st) in Come bytes (keptIn row i v) (i + 1) (at + widthOf st) (nextOf st v))
-      come-on w =
-          let v = fieldAt bytes at (widthOf st) in
-          let next = nextOf st v in
-          let us = c .values ++ (v ∷ []) in
-          let n : length us ≡ i + 1 = length-append (c .values) (v ∷ []) ∙ omega (arith, c .many) in
-          record {
-            values = us;
-            goes = goes-next st v (c .goes) some;
-            near = omega (arith, c .near);
-            inside = leb-true _ _ (come-field .0);
-            found = opened ∙ ap (after (c .values)) (come-field .2) ∙ after-ahead (c .values) v (read (rest next) bytes (at + widthOf st));
-            many = n;
-            early = λ h. by-test (ltb (st .place) entryPlace)
-                (λ b.
-                let l : st .place < entryPlace = ltb-true _ _ b in
-                omega (arith, c .early l, next-place st v ∙ place-inner (st .place) (λ q. omega arith)))
-                (λ b. let z : ⊥ = omega (arith, later st v (ltb-false _ _ b)) in absurd z);
-            late = λ h. by-test (ltb (st .place) entryPlace)
-                (λ b.
-                let l : st .place < entryPlace = ltb-true _ _ b in
-                omega (arith, c .early l, next-place st v ∙ place-inner (st .place) (λ q. omega arith)))
-                (λ b. omega (arith, c .late (ltb-false _ _ b)));
-            eight = either (λ r. length r ≡ fixedFields) (ltb i fixedFields) (length-set row i v ∙ c .eight) (c .eight);
-            kept = kept-on v;
-          }
-        where
-          kept-on : (v j : ℕ) → j < fixedFields → j < i + 1 → getD (keptIn row i v) j 0 ≡ getD (c .values ++ (v ∷ [])) j 0
-          kept-on v j h k =
-              by-equal j i
-              (λ q.
-              rw (lt-ltb i fixedFields (omega arith))
-              (ap (λ (m : ℕ). getD (set row i v) m 0) q ∙ getD-set-same row i v 0 (omega (arith, c .eight))
-              ∙ sym (ap (λ (m : ℕ). getD (c .values ++ (v ∷ [])) m 0) (q ∙ sym (c .many)) ∙ getD-append-seam (c .values) v [] 0)))
-              (λ d.
-              by-test (ltb i fixedFields) (λ b. rw b (getD-set-other row i j v 0 d)) (λ b. rw b)
-              ∙ c .kept j h (omega arith)
-              ∙ sym (List·getD-append (c .values) (v ∷ []) 0 j (omega (arith, c .many))))
-
--- a field as the code takes it
-pub took-is : (bytes : List ℕ) (at : ℕ) (f : Field) {n v : ℕ} → v ≡ fieldAt bytes at (f .width) → n ≡ faultAt bytes at f → record { fault = n; value = v } ≡ tookAt bytes at f
-took-is bytes at f d e i = record { fault = e i; value = d i }
-
--- A turn of the reader: the field f of the state is taken as t.
-module _ {bytes row : List ℕ} {i at : ℕ} {st : State} (c : Come bytes row i at st) (some : 0 < st .left) {f : Field} {t : Took}
-    (ef : f ≡ fieldOf st) (et : t ≡ tookAt bytes at f) where
   is-fault : t .fault ≡ faultAt bytes at (fieldOf st)
-  is-fault = ap (λ (u : Took). u .fault) et ∙ ap (faultAt bytes at) ef
+  is-fault = ap (λ (u : Took). u .fault) et
 
-  is-width : f .width ≡ widthOf st
+  is-width : t .width ≡ widthOf st
   unfolding fieldOf
-  is-width = ap (λ (g : Field). g .width) ef
+  is-width = ap (λ (u : Took). u .width) et
 
-  is-value : t .value ≡ fieldAt bytes at (widthOf st)
-  is-value = ap (λ (u : Took). u .value) et ∙ ap (fieldAt bytes at) is-width
-
+  -- a field with a fault
   pub turn-fault : (t .fault ≡ 0 → ⊥) → fault (t .fault) ≡ read format bytes 0
-  turn-fault d = come-fault c some is-fault d
+  unfolding read faultAt fieldOf after
+  turn-fault d = sym (opened ∙ ap (after (c .values)) (fault-reads _ _ _ is-fault d))
 
+  -- a field without
   module _ (none : t .fault ≡ 0) where
-    pub turn-allowed : allowed st (t .value) ≡ true
-    turn-allowed = ap (allowed st) is-value ∙ come-allowed c some is-fault none
+    field-read :
+        let w = widthOf st in
+        let v = fieldAt bytes at w in
+        (leb (at + w) (8 * length bytes) ≡ true) × (allowed st v ≡ true)
+        × (read (one st (λ u. rest (nextOf st u))) bytes at ≡ ahead v (read (rest (nextOf st v)) bytes (at + w)))
+    unfolding read faultAt fieldOf
+    field-read = none-reads _ _ _ is-fault none
 
-    pub turn-on :
-        {next : State} {row′ : List ℕ}
-        → f .width ≤ 32
-        → row′ ≡ keptIn row i (t .value)
-        → next ≡ nextOf st (t .value)
-        → Come bytes row′ (i + 1) (at + f .width) next
-    turn-on w er en = rw (er, en, is-value, is-width) (come-on c some is-fault none (omega (arith, is-width)))
+    is-value : t .value ≡ fieldAt bytes at (widthOf st)
+    unfolding fieldOf
+    is-value = ap (λ (u : Took). u .value) et ∙ rw (field-read .0)
+
+    turn-allowed : allowed st (t .value) ≡ true
+    turn-allowed = ap (allowed st) is-value ∙ field-read .1
+
+    next-here : (v : ℕ) → (nextOf st v) .place ≡ st .place + 1
+    next-here v = next-place st v ∙ place-inner (st .place) (λ q. omega arith)
+
+    kept-on : (v j : ℕ) → j < st .place + 1 → getD (set row (st .place) v) j 0 ≡ getD (c .values ++ (v ∷ [])) j 0
+    kept-on v j k =
+        by-equal j (st .place)
+        (λ q.
+        ap (λ (m : ℕ). getD (set row (st .place) v) m 0) q
+        ∙ getD-set-same row (st .place) v 0 (omega (arith, c .eight))
+        ∙ sym (ap (λ (m : ℕ). getD (c .values ++ (v ∷ [])) m 0) (q ∙ sym (c .many)) ∙ getD-append-seam (c .values) v [] 0))
+        (λ d.
+        getD-set-other row (st .place) j v 0 d
+        ∙ c .kept j (omega arith)
+        ∙ sym (List·getD-append (c .values) (v ∷ []) 0 j (omega (arith, c .many))))
+
+    come-on :
+        widthOf st ≤ 32
+        → (let v = fieldAt bytes at (widthOf st) in Come bytes (set row (st .place) v) (at + widthOf st) (nextOf st v))
+    come-on w =
+        let v = fieldAt bytes at (widthOf st) in
+        let us = c .values ++ (v ∷ []) in
+        let n : length us ≡ st .place + 1 = length-append (c .values) (v ∷ []) ∙ omega (arith, c .many) in
+        record {
+          values = us;
+          goes = goes-next st v (c .goes) some;
+          early = omega (arith, next-here v);
+          near = omega (arith, c .near, next-here v);
+          inside = leb-true _ _ (field-read .0);
+          found =
+              opened
+              ∙ ap (after (c .values)) (field-read .2)
+              ∙ after-ahead (c .values) v (read (rest (nextOf st v)) bytes (at + widthOf st));
+          many = omega (arith, n, next-here v);
+          eight = length-set row (st .place) v ∙ c .eight;
+          kept = λ j k. kept-on v j (omega (arith, next-here v));
+        }
+
+    pub turn-on : {next : State} → t .width ≤ 32 → next ≡ nextOf st (t .value)
+        → Come bytes (set row (st .place) (t .value)) (at + t .width) next
+    turn-on w en = rw (en, is-value, is-width) (come-on (omega (arith, is-width)))
 
     -- with the row of the kind that the first field has
     pub turn-rowed : {next : State} (kind m : ℕ) → Rowed kind at st → kind ≡ fieldAt bytes 0 kindBits → next ≡ nextOf st (t .value) → Rowed kind m next
@@ -298,6 +297,30 @@ module _ {bytes row : List ℕ} {i at : ℕ} {st : State} (c : Come bytes row i 
         rw en
         (rowed-next kind at st r m (t .value)
         (λ e. is-value ∙ ap₂ (fieldAt bytes) (r .first e) (ap (λ (p : ℕ). bitsOf (sortAt (st .kind) p)) e) ∙ sym ek))
+
+    -- the last fixed field says how many entries there are
+    pub turn-said :
+        {next : State} {kind : ℕ}
+        → Rowed kind at st
+        → next ≡ nextOf st (t .value)
+        → next .place ≡ entryPlace
+        → Said kind (getD (set row (st .place) (t .value)) manyPlace 0) (next .left)
+    turn-said {next} {kind} r en e =
+        let v = t .value in
+        let p : st .place ≡ manyPlace = omega (arith, ap (λ (s : State). s .place) en ∙ next-here v) in
+        let q : st .kind ≡ kind = r .later (λ z. omega arith) in
+        let here : getD (set row (st .place) v) manyPlace 0 ≡ v =
+        ap (λ (m : ℕ). getD (set row (st .place) v) m 0) (sym p) ∙ getD-set-same row (st .place) v 0 (omega (arith, c .eight)) in
+        let m : mostOf (sortOf st) (st .client) (st .before) ≡ mostOf (sortAt kind manyPlace) (st .client) (st .before) =
+        ap₂ (λ (k place : ℕ). mostOf (sortAt k place) (st .client) (st .before)) q p in
+        rw here
+        (record {
+          client = st .client;
+          before = st .before;
+          right = omega (arith, at-most st v turn-allowed, m);
+          many = ap (λ (s : State). s .left) en ∙ next-left st v ∙ sym (left-entries st v p refl)
+              ∙ ap (λ (k : ℕ). entryFields * entriesIn k v) q;
+        })
 
 -- no fault is number 0
 pub fault-some : (g : Grammar) (bytes : List ℕ) (at : ℕ) → read g bytes at ≡ fault 0 → ⊥

@@ -122,7 +122,8 @@ read-good (field w ok rest) bytes at vs e =
     rw (f .values) (both _ _ (both _ _ (lt-ltb _ _ (field-below bytes at w)) (f .is-right)) (read-good (rest (fieldAt bytes at w)) bytes (at + w) (f .others) (f .rest-got)))
 
 -- bytes that are read have the size of the values
-read-size : (g : Grammar) (bytes : List ℕ) (at : ℕ) (vs : List ℕ) → read g bytes at ≡ got vs → at ≤ 8 * length bytes → (at + size g vs ≤ 8 * length bytes) × (8 * length bytes ≤ at + size g vs + 7)
+pub read-size : (g : Grammar) (bytes : List ℕ) (at : ℕ) (vs : List ℕ) → read g bytes at ≡ got vs → at ≤ 8 * length bytes
+    → (at + size g vs ≤ 8 * length bytes) × (8 * length bytes ≤ at + size g vs + 7)
 unfolding read ended size
 read-size end bytes at vs e h = let p : 8 * length bytes ≤ at + 7 = leb-true _ _ (both-left _ _ (end-got _ vs e .0)) in omega arith
 read-size (field w ok rest) bytes at vs e h =

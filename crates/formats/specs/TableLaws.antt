@@ -1,7 +1,7 @@
 -- The rule of the table, proved at each of its entries by one computed test.
 use Prim.Native.Nat.{ℕ, zero, suc, _+_, _*_, _≤_, _<_}
 use mathlib.Core.Path.{_≡_, refl, sym, ap, _∙_}
-use mathlib.Core.Bool.{Bool, true, false, cond, not, _&&_}
+use mathlib.Core.Bool.{Bool, true, false, cond, not, _&&_, _||_}
 use mathlib.Core.List.{List, [], _∷_}
 use native.Mathlib.Nat.{mul-le-mul}
 use native.Mathlib.Omega.{arith}
@@ -13,7 +13,8 @@ use Rattle.ranges.specs.All.{allBelow}
 use Rattle.ranges.specs.AllLaws.{all-at}
 use Rattle.formats.specs.declared.state.Field.{Field}
 use Rattle.formats.specs.declared.table.Shape.{Shape}
-use Rattle.formats.specs.Table.{none, own, of, less, bodyPlace, manyPlace, entryPlace, rowPlaces, bodyFields, entryFields, kinds}
+use Rattle.formats.specs.Table.{none, server, coord, own, of, less, bodyPlace, manyPlace, entryPlace}
+use Rattle.formats.specs.Table.{rowPlaces, bodyFields, entryFields, kinds}
 use Rattle.formats.specs.Table.{sorts, headerBits, mostEntries}
 use Rattle.formats.specs.Table.{shape, byKind, shapeOf, bare, bodies, rowOf, sortAt, bitsOf, leastOf, mostOf, limitsOf, entriesIn}
 
@@ -140,6 +141,19 @@ columns-small kind h =
     let e = all-at (λ k. leb (shapeOf k .body) mostColumn && leb (shapeOf k .entry) mostColumn) kinds refl kind h in
     (leb-true _ _ (both-left _ _ e), leb-true _ _ (both-right (leb (shapeOf kind .body) mostColumn) _ e))
 
+-- a target is one of two
+pub target-is : (kind : ℕ) {s : Shape} → kind < kinds → s ≡ shapeOf kind → (s .target ≡ coord → ⊥) → s .target ≡ server
+unfolding allBelow
+target-is kind {s} h e d =
+    let t = shapeOf kind .target in
+    let a = all-at (λ k. eqb (shapeOf k .target) coord || eqb (shapeOf k .target) server) kinds refl kind h in
+    let q = ap (λ (u : Shape). u .target) e in
+    q ∙ eqb-true t server (rw (ne-eqb t coord (λ z. d (q ∙ z))) at a)
+
+-- beyond the table there are no entries
+pub many-none : (kind : ℕ) → kinds ≤ kind → sortAt kind manyPlace ≡ none
+many-none kind h = sym (row-at kind manyPlace) ∙ ap (λ (r : List ℕ). getD r manyPlace none) (sym (row-none kind h))
+
 -- a value that says how many entries there are is below the most
 pub few-entries : (kind client before : ℕ) → mostOf (sortAt kind manyPlace) client before < mostEntries
 unfolding mostOf
@@ -148,10 +162,7 @@ few-entries kind client before =
     (λ e.
     let r = row-right kind (ltb-true _ _ e) in
     rw (r .plain) (either (λ n. n < mostEntries) (eqb (sortAt kind manyPlace) of && eqb before 0) (omega arith) (r .few)))
-    (λ e.
-    let z : sortAt kind manyPlace ≡ none =
-    sym (row-at kind manyPlace) ∙ ap (λ (r : List ℕ). getD r manyPlace none) (sym (row-none kind (ltb-false _ _ e))) in
-    rw z (omega arith))
+    (λ e. rw (many-none kind (ltb-false _ _ e)) (omega arith))
 
 -- the cases of the limits, as the code meets them: `plain` is the one that stands for the sort
 module _ (sort client before : ℕ) where

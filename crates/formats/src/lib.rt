@@ -2,6 +2,6 @@
 // Its functions are for `frames`, which proves what they ask; what the world calls is `frames::read_frame` and `frames::write_frame`.
 pub mod table; // table.rt: which fields a kind of frame has
 pub mod state; // state.rt: which field comes next
-pub mod entries; // entries.rt: the entries beside the fixed values, to a frame and from it
+pub mod entries; // entries.rt: a good frame's entries, from bytes to the lent slices
 pub mod reading; // reading.rt: from bytes to values
 pub mod writing; // writing.rt: from values to bytes

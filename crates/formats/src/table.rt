@@ -4,8 +4,9 @@ ghost use mathlib.Core.Path.{_≡_};
 ghost use Prim.Native.Nat.{_+_, _<_, _≤_};
 ghost use mathlib.Core.Bool.{cond};
 ghost use lib.Dec.{eqb};
-ghost use Rattle.formats.specs.Table.{sorts, less, limitsOf, mostEntries, shapeOf, rowOf, leastOf, mostOf, hasNumbers};
-ghost use Rattle.formats.specs.Columns.{lengthBy, mostBits, firstColumn, nextColumn};
+ghost use Rattle.formats.specs.Table.{server, coord, sorts, less, headerBits, limitsOf, mostEntries};
+ghost use Rattle.formats.specs.Table.{shapeOf, rowOf, leastOf, mostOf, hasNumbers};
+ghost use Rattle.formats.specs.Columns.{lengthBy};
 
 // What a field holds. NO: the kind has no such field; it then has no bits and the value 0.
 pub const NO: u8 = 0;
@@ -56,13 +57,23 @@ pub const FIXED_FIELDS: usize = ENTRY;
 
 pub const ENTRY_FIELDS: usize = 3;
 
-// How many kinds there are, with 0, and the bits of the header.
+// How many kinds there are, with 0, the last of them, and the bits of the header.
 const KINDS: usize = 13;
+
+pub const LAST_KIND: u32 = 12;
 
 const HEADER_BITS: usize = 13;
 
-// The bits of the first field, which is the kind.
+// The bits of the first field, which is the kind, of a key's count and client, of both, and of a mask.
 pub const KIND_BITS: usize = 4;
+
+pub const COUNT_BITS: usize = 8;
+
+pub const OWNER_BITS: usize = 4;
+
+pub const KEY_BITS: usize = COUNT_BITS + OWNER_BITS;
+
+pub const MASK_BITS: usize = 16;
 
 // The table by kind, from 0: station or head target, fixed body bits, bits per entry.
 // A constant array is built on the stack where it is used, so it is small and looked at once for a frame.
@@ -109,6 +120,17 @@ pub fn shape_of(kind: u32) -> Shape
     }
     let cells = BY_KIND[row];
     columns(cells[0], cells[1], cells[2])
+}
+
+// The target of a kind as one of the two sorts that it can be, so that the compiled code of each knows how wide it is.
+pub fn target_of(shape: Shape) -> u8
+    requires { ⌜ ((shape .target ≡ coord → ⊥) → shape .target ≡ server) ⌝ }
+    ensures { λ r. ⌜ r ≡ shape .target ⌝ }
+{
+    if shape.target == COORD {
+        return COORD;
+    }
+    SERVER
 }
 
 // What the fields of a frame of this kind hold, place by place: kind, client, and target, which is the table's. Then, beside the table,
@@ -166,7 +188,7 @@ pub fn limits_of(sort: u8) -> Field
         OF => limits(4, 0, 15),
         OWN => limits(4, 0, 15),
         VALUE => limits(32, 0, 4294967295),
-        MASK => limits(16, 1, 65535),
+        MASK => limits(MASK_BITS, 1, 65535),
         KEYS => limits(5, 1, 16),
         _ => limits(8, 0, 255),
     }
@@ -230,33 +252,9 @@ pub fn frame_length(shape: Shape, entries: usize) -> usize
     (HEADER_BITS + shape.body as usize + entries * shape.entry as usize + 7) / 8
 }
 
-// Where a field of the entries stands: its bit in the first entry, the bits from entry to entry, and its own.
-pub struct Column {
-    pub first: usize,
-    pub stride: usize,
-    pub width: usize,
-}
-
-// Ahead of the first field of the entries; no field yet.
-pub fn first_column(shape: Shape) -> Column
-    ensures { λ r. ⌜ r ≡ firstColumn shape ⌝ }
+// The bit where the entries of a kind of this shape begin.
+pub fn entries_at(shape: Shape) -> usize
+    ensures { λ r. ⌜ r ≡ headerBits + shape .body ⌝ }
 {
-    Column {
-        first: HEADER_BITS + shape.body as usize,
-        stride: shape.entry as usize,
-        width: 0,
-    }
-}
-
-// The field behind a field of the entries; `sort` is what it holds.
-pub fn next_column(before: Column, sort: u8) -> Column
-    requires { ⌜ (sort < sorts) × (before .first ≤ mostBits) × (before .width ≤ 32) ⌝ }
-    ensures { λ r. ⌜ r ≡ nextColumn before sort ⌝ }
-{
-    let limits = limits_of(sort);
-    Column {
-        first: before.first + before.width,
-        stride: before.stride,
-        width: limits.width,
-    }
+    HEADER_BITS + shape.body as usize
 }

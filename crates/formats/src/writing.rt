@@ -1,23 +1,34 @@
 // From values to bytes: all values are tested before the first byte is written.
-use crate::entries;
 use crate::state;
 use crate::state::Field;
+use crate::state::State;
 use crate::table;
-use crate::table::ENTRY_FIELDS;
+use crate::table::COUNT_BITS;
 use crate::table::FIXED_FIELDS;
+use crate::table::KEY_BITS;
+use crate::table::LAST_KIND;
+use crate::table::MANY;
+use crate::table::NUMBER;
+use crate::table::OWNER_BITS;
 use crate::table::PLACES;
 ghost use mathlib.Core.Path.{_≡_};
-ghost use Prim.Native.Nat.{_^_, _≤_};
+ghost use Prim.Native.Nat.{_+_, _*_, _^_, _≤_, _<_};
 ghost use mathlib.Core.Bool.{_&&_};
 ghost use lib.Dec.{ltb};
 ghost use lib.ListN.{length, getD};
 ghost use Rattle.formats.specs.Grammar.{good, lay, zeros};
-ghost use Rattle.formats.specs.Table.{rowOf};
-ghost use Rattle.formats.specs.Format.{within, format};
+ghost use Rattle.ranges.specs.All.{allBelow};
+ghost use Rattle.fields.specs.Bits.{putField};
+ghost use Rattle.formats.specs.Table.{sorts, fixedFields, rowOf, bitsOf};
+ghost use Rattle.formats.specs.Format.{sortOf, widthOf, within, allowed, format};
 ghost use Rattle.formats.specs.Entries.{valuesBy};
-ghost use Rattle.formats.specs.Columns.{Packable};
+ghost use Rattle.formats.specs.Columns.{mostBits, Packable};
+ghost use Rattle.formats.specs.Entry.{keyBits};
 ghost use Rattle.formats.specs.Writing.{wroteOf, bytesAfter};
+ghost use Rattle.formats.specs.Walk.{firstBit};
 ghost use Rattle.formats.specs.Laying.{Layable};
+ghost use Rattle.formats.specs.Packing.{rightAt, keyRight, numberRight, entriesRight, laidTo};
+ghost use Rattle.formats.specs.Packing.{entryLaid, entriesLaid, FixedIn, EntriesIn};
 
 // Whether a value fits a width.
 fn fits_in(value: u32, width: usize) -> bool
@@ -44,6 +55,83 @@ fn allows(field: Field, value: u32) -> bool
     value <= field.most
 }
 
+// Whether the next field may have a value; `sort` is what it holds. One that the kind lacks has the value 0.
+fn may_have(sort: u8, state: State, value: u32) -> bool
+    requires { ⌜ (sort ≡ sortOf state) × (sort < sorts) ⌝ }
+    ensures { λ r. ⌜ r ≡ (ltb value (2 ^ widthOf state) && allowed state value) ⌝ }
+{
+    if sort == table::NO {
+        return value == 0;
+    }
+    let field = state::field_at(sort, state);
+    allows(field, value)
+}
+
+// Whether the fixed values are those of a frame; `row` is what the fields of their kind hold.
+fn fixed_right(row: &[u8; PLACES], fixed: &[u32; FIXED_FIELDS]) -> bool
+    requires { ⌜ now row ≡ rowOf (getD (now fixed) 0 0) ⌝ }
+    ensures { λ r. ⌜ r ≡ allBelow (rightAt (now (fixed .entry))) fixedFields ⌝ }
+{
+    let mut state = state::first();
+    while state.place < FIXED_FIELDS {
+        let place = state.place;
+        let sort = row[place];
+        let value = fixed[place];
+        if !may_have(sort, state, value) {
+            return false;
+        }
+        state = state::next(sort, state, value);
+    }
+    true
+}
+
+// Whether an entry may have a key, as a number.
+fn key_right(key: u32) -> bool
+    ensures { λ r. ⌜ r ≡ keyRight key ⌝ }
+{
+    let count = key / 256;
+    let owner = key % 256;
+    if 255 < count {
+        return false;
+    }
+    if 15 < owner {
+        return false;
+    }
+    if count != 0 {
+        return true;
+    }
+    owner == 0
+}
+
+// Whether an entry may have a number of so many bits.
+fn number_right(number: u32, width: usize, least: u32) -> bool
+    requires { ⌜ width ≤ 32 ⌝ }
+    ensures { λ r. ⌜ r ≡ numberRight width least number ⌝ }
+{
+    if number < least {
+        return false;
+    }
+    fits_in(number, width)
+}
+
+// Whether so many entries are those of a frame.
+fn entries_right(keys: &[u32], numbers: &[u32], width: usize, least: u32, entries: usize) -> bool
+    requires { ⌜ (width ≤ 32) × (entries ≤ length (now keys)) × (entries ≤ length (now numbers)) ⌝ }
+    ensures { λ r. ⌜ r ≡ entriesRight width least (now (keys .entry)) (now (numbers .entry)) 0 entries ⌝ }
+{
+    let mut i: usize = 0;
+    while i < entries {
+        if !key_right(keys[i]) {
+            return false;
+        }
+        if !number_right(numbers[i], width, least) {
+            return false;
+        }
+        i += 1;
+    }
+    true
+}
+
 // Whether the values are those of a frame; `row` is what the fields of their kind hold.
 fn writable(
     row: &[u8; PLACES],
@@ -55,25 +143,14 @@ fn writable(
     requires { ⌜ (now row ≡ rowOf (getD (now fixed) 0 0)) × Packable (now fixed) (now keys) (now numbers) entries ⌝ }
     ensures { λ r. ⌜ r ≡ good format (valuesBy (now (fixed .entry)) (now (keys .entry)) (now (numbers .entry)) entries) ⌝ }
 {
-    let numbered = row[table::NUMBER] != table::NO;
-    let count = FIXED_FIELDS + ENTRY_FIELDS * entries;
-    let mut state = state::first();
-    let mut i: usize = 0;
-    while 0 < state.left {
-        if count <= i {
-            return false;
-        }
-        let value = entries::value_at(fixed, numbered, keys, numbers, i);
-        let place = state.place;
-        let sort = row[place];
-        let field = state::field_at(sort, state);
-        if !allows(field, value) {
-            return false;
-        }
-        state = state::next(sort, state, value);
-        i += 1;
+    if !fixed_right(row, fixed) {
+        return false;
     }
-    i == count
+    if entries != table::entries_in(row[MANY], fixed[MANY]) {
+        return false;
+    }
+    let limits = table::limits_of(row[NUMBER]);
+    entries_right(keys, numbers, limits.width, limits.least, entries)
 }
 
 fn clear(bytes: &mut [u8])
@@ -86,33 +163,64 @@ fn clear(bytes: &mut [u8])
     }
 }
 
-// The fields of a frame's values, one behind the other.
-fn lay_fields(
-    row: &[u8; PLACES],
-    fixed: &[u32; FIXED_FIELDS],
+// A value in the field at a bit: how many bits that has; `sort` is what it holds. One that the kind lacks has none.
+fn lay_field(sort: u8, at: usize, value: u32, bytes: &mut [u8]) -> usize
+    requires { ⌜ (sort < sorts) × (at + bitsOf sort ≤ 8 * length (now bytes)) ⌝ }
+    ensures { λ r. ⌜ (r ≡ bitsOf sort) × (now (bytes .exit) ≡ putField (now (bytes .entry)) at (bitsOf sort) value) ⌝ }
+{
+    if sort == table::NO {
+        return 0;
+    }
+    let limits = table::limits_of(sort);
+    let width = limits.width;
+    fields::write_field(bytes, at, width, value);
+    width
+}
+
+// The fixed fields, one behind the other: the bit behind them.
+fn lay_fixed(row: &[u8; PLACES], fixed: &[u32; FIXED_FIELDS], bytes: &mut [u8]) -> usize
+    requires { ⌜ FixedIn (now row) (now fixed) (length (now bytes)) ⌝ }
+    ensures { λ r. ⌜ (r ≡ firstBit (now (fixed .entry)) fixedFields)
+        × (now (bytes .exit) ≡ laidTo (now (fixed .entry)) (now (bytes .entry)) fixedFields) ⌝ }
+{
+    let mut at: usize = 0;
+    let mut place: usize = 0;
+    while place < FIXED_FIELDS {
+        at += lay_field(row[place], at, fixed[place], bytes);
+        place += 1;
+    }
+    at
+}
+
+// An entry at a bit: its key's count and client, and its number.
+fn lay_entry(at: usize, width: usize, key: u32, number: u32, bytes: &mut [u8])
+    requires { ⌜ (width ≤ 32) × (at + (keyBits + width) ≤ mostBits) × (at + (keyBits + width) ≤ 8 * length (now bytes)) ⌝ }
+    ensures { λ _. ⌜ now (bytes .exit) ≡ entryLaid width key number (now (bytes .entry)) at ⌝ }
+{
+    fields::write_field(bytes, at, COUNT_BITS, key / 256);
+    fields::write_field(bytes, at + COUNT_BITS, OWNER_BITS, key % 256);
+    fields::write_field(bytes, at + KEY_BITS, width, number);
+}
+
+// So many entries, one behind the other, from a bit on.
+fn lay_entries(
+    first: usize,
+    width: usize,
     keys: &[u32],
     numbers: &[u32],
     entries: usize,
     bytes: &mut [u8],
 )
-    requires { ⌜ Layable (now row) (now fixed) (now keys) (now numbers) entries (length (now bytes)) ⌝ }
+    requires { ⌜ EntriesIn first width entries (length (now keys)) (length (now numbers)) (length (now bytes)) ⌝ }
     ensures { λ _. ⌜ now (bytes .exit)
-        ≡ lay format (valuesBy (now (fixed .entry)) (now (keys .entry)) (now (numbers .entry)) entries) (now (bytes .entry)) 0 ⌝ }
+        ≡ entriesLaid width (now (keys .entry)) (now (numbers .entry)) 0 entries (now (bytes .entry)) first ⌝ }
 {
-    let numbered = row[table::NUMBER] != table::NO;
-    let count = FIXED_FIELDS + ENTRY_FIELDS * entries;
-    let mut place: usize = 0;
-    let mut at: usize = 0;
+    let mut at = first;
     let mut i: usize = 0;
-    while i < count {
-        let value = entries::value_at(fixed, numbered, keys, numbers, i);
-        let sort = row[place];
-        let limits = table::limits_of(sort);
-        let width = limits.width;
-        fields::write_field(bytes, at, width, value);
-        at += width;
+    while i < entries {
+        lay_entry(at, width, keys[i], numbers[i], bytes);
+        at += KEY_BITS + width;
         i += 1;
-        place = state::place_after(place);
     }
 }
 
@@ -131,7 +239,9 @@ fn fill(
         (zeros (length (now (bytes .entry)))) 0 ⌝ }
 {
     clear(bytes);
-    lay_fields(row, fixed, keys, numbers, entries, bytes);
+    let first = lay_fixed(row, fixed, bytes);
+    let limits = table::limits_of(row[NUMBER]);
+    lay_entries(first, limits.width, keys, numbers, entries, bytes);
 }
 
 // What writing did: the number that refuses it, or 0 and the frame's length in bytes.
@@ -155,8 +265,14 @@ pub fn write_values(
         ≡ bytesAfter (valuesBy (now (fixed .entry)) (now (keys .entry)) (now (numbers .entry)) entries) (now (bytes .entry))) ⌝ }
 {
     let kind = fixed[0];
+    if LAST_KIND < kind {
+        return Wrote {
+            fault: 11,
+            length: 0,
+        };
+    }
     let shape = table::shape_of(kind);
-    let row = table::row_of(kind, shape.target);
+    let row = table::row_of(kind, table::target_of(shape));
     if !writable(&row, fixed, keys, numbers, entries) {
         return Wrote {
             fault: 11,

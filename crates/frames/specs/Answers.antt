@@ -15,14 +15,15 @@ use Rattle.formats.specs.declared.reading.Scan.{Scan}
 use Rattle.formats.specs.declared.writing.Wrote.{Wrote}
 use Rattle.formats.specs.Grammar.{Outcome, got, fault, good, frame}
 use Rattle.formats.specs.RoundTrip.{read-good}
-use Rattle.formats.specs.Table.{kinds, mostEntries, fixedFields, entriesSaid, hasNumbers}
+use Rattle.formats.specs.Table.{mostEntries, fixedFields, entriesSaid, hasNumbers}
 use Rattle.formats.specs.Format.{format}
 use Rattle.formats.specs.Entries.{keyIn, numberIn, valuesBy}
-use Rattle.formats.specs.Columns.{columnOf, columnAt, keyAt, Places, Packable}
+use Rattle.formats.specs.Columns.{Places, Packable}
+use Rattle.formats.specs.Entry.{Keyed, numberBits}
 use Rattle.formats.specs.Reading.{scanOf, Got, scan-got, fault-some}
 use Rattle.formats.specs.Writing.{wroteOf, bytesAfter}
-use Rattle.formats.specs.Walk.{kind-below, entries-few}
-use Rattle.formats.specs.Found.{key-found, number-found}
+use Rattle.formats.specs.Walk.{entries-few}
+use Rattle.formats.specs.Found.{entriesBit, keyAt, numberAt, Unpackable, key-found, number-found, found-keyed, found-unpackable}
 use Rattle.frames.specs.declared.Message.{Message}
 use Rattle.frames.specs.declared.Reading.{Reading}
 use Rattle.frames.specs.declared.Reading.the-variants as reading
@@ -41,10 +42,10 @@ use Rattle.frames.specs.RoundTrip.{fixed-length, said, are-enough}
 abbrev pub writtenBy : Wrote → Written
 writtenBy w = cond (eqb (w .fault) 0) (Length (w .length)) (Refused (w .fault))
 
--- What storing asks: a kind, no more entries than a frame can have, and places for them.
-pub record Storable (kind entries keys numbers : ℕ) : Type 0 where
-  pub known : kind < kinds
-  pub few : entries ≤ mostEntries
+-- What storing asks: a kind that has entries, so many of them in the bytes, and places for them.
+pub record Storable (kind : ℕ) (bytes : List ℕ) (entries keys numbers : ℕ) : Type 0 where
+  pub keyed : Keyed kind
+  pub held : Unpackable bytes (entriesBit kind) (numberBits kind) entries
   pub places : Places kind entries keys numbers
 
 -- ---- the cases, as the code meets them
@@ -135,14 +136,18 @@ module _ (bytes : List ℕ) {fixed : List ℕ} {fields : ℕ} (s : Got (found by
     found-places =
         ap₂ (λ (k e : ℕ). enough k e (length keys) (length numbers)) (kind-back (s .values) good-values ∙ sym its-kind) (sym its-entries)
 
+    is-keyed : (n ≡ 0 → ⊥) → Keyed (getD fixed 0 0)
+    is-keyed some = rw its-kind (found-keyed bytes (s .values) (s .is-got) (omega (arith, said-entries)))
+
     -- the entries can be stored
     pub are-storable :
-        enough (getD fixed 0 0) n (length keys) (length numbers) ≡ true
-        → Storable (getD fixed 0 0) n (length keys) (length numbers)
-    are-storable e =
+        (n ≡ 0 → ⊥)
+        → enough (getD fixed 0 0) n (length keys) (length numbers) ≡ true
+        → Storable (getD fixed 0 0) bytes n (length keys) (length numbers)
+    are-storable some e =
         record {
-          known = omega (arith, its-kind, kind-below (s .values) good-values);
-          few = omega (arith, said-entries, entries-few (s .values) good-values);
+          keyed = is-keyed some;
+          held = rw its-kind (found-unpackable bytes (s .values) (s .is-got) (rw its-kind at (is-keyed some)) said-entries);
           places = are-enough (getD fixed 0 0) n (length keys) (length numbers) e;
         }
 
@@ -174,18 +179,20 @@ module _ (bytes : List ℕ) {fixed : List ℕ} {fields : ℕ} (s : Got (found by
     -- as they stand in the bytes
     pub read-stored :
         {k x : List ℕ}
+        → (n ≡ 0 → ⊥)
         → enough (getD fixed 0 0) n (length keys) (length numbers) ≡ true
-        → let kind = getD fixed 0 0 in k ≡ laid (keyAt bytes (columnOf kind 0) (columnOf kind 1)) n keys
-        → x ≡ cond (hasNumbers kind) (laid (columnAt bytes (columnOf kind 2)) n numbers) numbers
+        → let kind = getD fixed 0 0 in k ≡ laid (keyAt bytes (entriesBit kind) (numberBits kind)) n keys
+        → x ≡ laid (numberAt bytes (entriesBit kind) (numberBits kind)) n numbers
         → Answered (found bytes) keys numbers (reading.Read m) k x
-    read-stored e dk dx =
+    read-stored some e dk dx =
         let vs = s .values in
+        let keyed = rw its-kind at (is-keyed some) in
         let same : (f g : ℕ → ℕ) (row : List ℕ) → ((i : ℕ) → i < n → f i ≡ g i) → laid f n row ≡ laid g n row =
         λ f g row h. ap (λ (l : List ℕ). l ++ drop n row) (built-same f g n h) in
         read-done e
-        (dk ∙ same _ _ keys (λ i h. rw its-kind (key-found bytes vs (s .is-got) i (omega (arith, said-entries)))))
-        (dx ∙ ap (λ (l : List ℕ). cond (hasNumbers (getD fixed 0 0)) l numbers)
-        (same _ _ numbers (λ i h. rw its-kind (number-found bytes vs (s .is-got) i (omega (arith, said-entries))))))
+        (dk ∙ same _ _ keys (λ i h. rw its-kind (key-found bytes vs (s .is-got) keyed i (omega (arith, said-entries)))))
+        (rw (is-keyed some .numbered)
+        (dx ∙ same _ _ numbers (λ i h. rw its-kind (number-found bytes vs (s .is-got) keyed i (omega (arith, said-entries))))))
 
     -- there are none
     pub read-bare : n ≡ 0 → Answered (found bytes) keys numbers (reading.Read m) keys numbers

@@ -1,55 +1,50 @@
--- The last bit is put first: what is left to put, into the bytes as they are, gives the same in each turn.
-use mathlib.Core.Path.{_≡_, _∙_, sym, ap, refl}
-use Prim.Native.Nat.{ℕ, _-_, _≤_, _/_}
-use native.Mathlib.Omega.{arith}
-use mathlib.Core.List.{List}
-use lib.ListN.{length}
+-- Each number of the match is the width.
 use borrow.Author.Needs.{needs}
-use Rattle.fields.specs.Bits.{putField}
-use Rattle.fields.specs.BitLaws.{length-setBit}
-use Rattle.fields.specs.FieldLaws.{put-last, put-none}
+use mathlib.Core.Path.{sym, ap, _∙_}
+use Prim.Native.Nat.{ℕ}
+use Rattle.fields.specs.Parts.{putByBytes}
 use Rattle.fields.proofs.write_field.Statement.{statement}
 use Rattle.fields.proofs.write_field.Tie as tie
-
-abbrev Inv-loop : tie.InvT-loop
-Inv-loop bytes₀ at width value rest₀ i₀ bytes rest i =
-    (i ≤ width) × (length bytes ≡ length bytes₀) × (putField bytes at i rest ≡ putField bytes₀ at width value)
-
-abbrev μ-loop : tie.MeasureT-loop
-μ-loop bytes₀ at width value rest₀ i₀ bytes rest i = i
-
-loop-holds : tie.Need-loop-holds Inv-loop μ-loop
-loop-holds c = (search needs, refl, refl)
-
-loop-again : tie.Need-loop-again Inv-loop μ-loop
-loop-again c =
-    let l = c .before .before .before .before .before .loop in
-    let a = c .before .before .before .before .before .before .before .args in
-    let e = c .before .before .put-bit .ensures in (
-      omega arith,
-      ap length e ∙ length-setBit _ _ _ ∙ l .inv .1,
-      ap (λ (b : List ℕ). putField b (a .at) (l .i - 1) (l .rest / 2)) e ∙ sym (put-last (l .bytes) (a .at) (l .i) (l .rest) (omega arith)) ∙ l .inv .2,
-    )
-
-returns : tie.Need-returns Inv-loop μ-loop
-returns c =
-    let l = c .before .loop in
-    let a = c .before .before .before .args in
-    let z : l .i ≡ 0 = omega arith in
-    sym (put-none (l .bytes) (a .at) (l .rest)) ∙ sym (ap (λ (k : ℕ). putField (l .bytes) (a .at) k (l .rest)) z) ∙ l .inv .2
 
 pub write-field-spec : {M : Type 1} → statement M
 write-field-spec =
     tie.close
     (tie.spec
-    Inv-loop
-    μ-loop
-    loop-holds
-    (λ c. search needs)
-    (λ c. search needs)
-    (λ c. search needs)
+    (λ c κs. search needs)
+    (λ c κs. search needs)
+    (λ c κs. search needs)
+    (λ c κs. search needs)
+    (λ c κs. search needs)
     (λ c κs. search needs)
     (λ c. search needs)
-    loop-again
+    (λ c.
+    let put = c .before .before in
+    let a = put .before .before .before .before .args in
+    put .put-by-bytes .ensures
+    ∙ ap (λ (w : ℕ). putByBytes (a .bytes .now) (a .at) w (a .value)) (sym (put .before .before .match .keys1)))
     (λ c. search needs)
-    returns)
+    (λ c.
+    let put = c .before .before in
+    let a = put .before .before .before .before .args in
+    put .put-by-bytes2 .ensures
+    ∙ ap (λ (w : ℕ). putByBytes (a .bytes .now) (a .at) w (a .value)) (sym (put .before .before .match .keys2)))
+    (λ c. search needs)
+    (λ c.
+    let put = c .before .before in
+    let a = put .before .before .before .before .args in
+    put .put-by-bytes3 .ensures
+    ∙ ap (λ (w : ℕ). putByBytes (a .bytes .now) (a .at) w (a .value)) (sym (put .before .before .match .keys3)))
+    (λ c. search needs)
+    (λ c.
+    let put = c .before .before in
+    let a = put .before .before .before .before .args in
+    put .put-by-bytes4 .ensures
+    ∙ ap (λ (w : ℕ). putByBytes (a .bytes .now) (a .at) w (a .value)) (sym (put .before .before .match .keys4)))
+    (λ c. search needs)
+    (λ c.
+    let put = c .before .before in
+    let a = put .before .before .before .before .args in
+    put .put-by-bytes5 .ensures
+    ∙ ap (λ (w : ℕ). putByBytes (a .bytes .now) (a .at) w (a .value)) (sym (put .before .before .match .keys5)))
+    (λ c. search needs)
+    (λ c. c .before .before .put-by-bytes6 .ensures))

@@ -39,6 +39,7 @@ store-requires c κs =
     let a = s .args in
     are-storable (a .bytes .now) (s .pre) (a .keys .now) (a .numbers .now) (at-message .message-of .ensures)
     (at-entries .entries-of .ensures)
+    (at-enough .before .before .if1 .left)
     (holds (at-enough .enough-places .ensures) (at-if2 .if2 .left))
 
 returns-3 : tie.Need-returns-3
@@ -53,6 +54,7 @@ returns-3 c =
     let t = at-store .store .ensures in
     read-stored (a .bytes .now) (s .pre) (a .keys .now) (a .numbers .now) (at-message .message-of .ensures)
     (at-entries .entries-of .ensures)
+    (at-enough .before .before .if1 .left)
     (holds (at-enough .enough-places .ensures) (at-if2 .if2 .left)) (t .0) (t .1)
 
 pub deliver-spec : {M : Type 1} → statement M

@@ -20,6 +20,14 @@ impl FrameLibrary {
     pub fn write(self, _fixed: &Fixed, _keys: &[u32], _numbers: &[u32], _bytes: &mut [u8]) -> Result<usize, Refusal> {
         unreachable!("no handle without the library")
     }
+
+    pub fn parts(self, _bytes: &[u8], _keys: &mut [u32], _numbers: &mut [u32]) -> Parts {
+        unreachable!("no handle without the library")
+    }
+
+    pub fn number(self, _fixed: &Fixed, _keys: &[u32], _numbers: &[u32], _bytes: &mut [u8]) -> u64 {
+        unreachable!("no handle without the library")
+    }
 }
 
 #[cfg(frame_exports)]
@@ -30,26 +38,58 @@ impl FrameLibrary {
 
     /// Reads a frame; its entries go to the front of the slices.
     pub fn read(self, bytes: &[u8], keys: &mut [u32], numbers: &mut [u32]) -> Result<Fixed, Refusal> {
-        linked::read(bytes, keys, numbers)
+        taken_apart(linked::read(bytes, keys, numbers))
     }
 
     /// Writes a message to the front of the bytes: its length.
     pub fn write(self, fixed: &Fixed, keys: &[u32], numbers: &[u32], bytes: &mut [u8]) -> Result<usize, Refusal> {
+        answer(linked::write(fixed, keys, numbers, bytes)).map(|length| length as usize)
+    }
+
+    /// Reads a frame: the numbers as they cross, for measurements.
+    pub fn parts(self, bytes: &[u8], keys: &mut [u32], numbers: &mut [u32]) -> Parts {
+        linked::read(bytes, keys, numbers)
+    }
+
+    /// Writes a message: the number as it crosses, for measurements.
+    pub fn number(self, fixed: &Fixed, keys: &[u32], numbers: &[u32], bytes: &mut [u8]) -> u64 {
         linked::write(fixed, keys, numbers, bytes)
     }
 }
 
+/// A message as it crosses; where it is refused, both are the refusal.
+#[repr(C)]
+pub struct Parts {
+    pub head: u64,
+    pub tail: u64,
+}
+
+/// A refusal is 2^64 - 1 less its number; any other number is the answer.
+pub fn answer(number: u64) -> Result<u64, Refusal> {
+    let refusal = u32::try_from(u64::MAX - number).ok().and_then(Refusal::from_number);
+    refusal.map_or(Ok(number), Err)
+}
+
+/// The message of what crossed.
+pub fn taken_apart(Parts { head, tail }: Parts) -> Result<Fixed, Refusal> {
+    assert_eq!(answer(tail).err(), answer(head).err(), "where it is refused, both are the refusal");
+    let head = answer(head)?;
+    let digit = |place: u32| (head >> (8 * place)) as u8;
+    Ok(Fixed {
+        kind: (head >> 40) as u32,
+        client: digit(4),
+        server: digit(3),
+        tag: digit(2),
+        key: (digit(1), digit(0)),
+        number: tail as u32,
+        entries: (tail >> 32) as u32,
+    })
+}
+
 #[cfg(frame_exports)]
 mod linked {
+    use super::Parts;
     use frames::lent::Fixed;
-    use model::Refusal;
-
-    /// A message as it crosses; where it is refused, both are the refusal.
-    #[repr(C)]
-    struct Parts {
-        head: u64,
-        tail: u64,
-    }
 
     // Nothing checks these declarations against crates/frame_exports/src/lib.rt.
     #[rustfmt::skip]
@@ -65,35 +105,15 @@ mod linked {
         ) -> u64;
     }
 
-    /// A refusal is 2^64 - 1 less its number; any other number is the answer.
-    fn answer(number: u64) -> Result<u64, Refusal> {
-        let refusal = u32::try_from(u64::MAX - number).ok().and_then(Refusal::from_number);
-        refusal.map_or(Ok(number), Err)
-    }
-
-    pub fn read(bytes: &[u8], keys: &mut [u32], numbers: &mut [u32]) -> Result<Fixed, Refusal> {
+    pub fn read(bytes: &[u8], keys: &mut [u32], numbers: &mut [u32]) -> Parts {
         // The library was proved to stay within the slices that it is lent.
-        let Parts { head, tail } = unsafe {
-            frame_read(bytes.as_ptr(), bytes.len(), keys.as_mut_ptr(), keys.len(), numbers.as_mut_ptr(), numbers.len())
-        };
-        assert_eq!(answer(tail).err(), answer(head).err(), "where it is refused, both are the refusal");
-        let head = answer(head)?;
-        let digit = |place: u32| (head >> (8 * place)) as u8;
-        Ok(Fixed {
-            kind: (head >> 40) as u32,
-            client: digit(4),
-            server: digit(3),
-            tag: digit(2),
-            key: (digit(1), digit(0)),
-            number: tail as u32,
-            entries: (tail >> 32) as u32,
-        })
+        unsafe { frame_read(bytes.as_ptr(), bytes.len(), keys.as_mut_ptr(), keys.len(), numbers.as_mut_ptr(), numbers.len()) }
     }
 
-    pub fn write(fixed: &Fixed, keys: &[u32], numbers: &[u32], bytes: &mut [u8]) -> Result<usize, Refusal> {
+    pub fn write(fixed: &Fixed, keys: &[u32], numbers: &[u32], bytes: &mut [u8]) -> u64 {
         let Fixed { kind, client, server, key: (count, owner), number, tag, entries } = *fixed;
         // The library was proved to stay within the slices that it is lent.
-        let written = unsafe {
+        unsafe {
             frame_write(
                 kind,
                 client,
@@ -110,7 +130,6 @@ mod linked {
                 bytes.as_mut_ptr(),
                 bytes.len(),
             )
-        };
-        answer(written).map(|length| length as usize)
+        }
     }
 }

@@ -4,7 +4,7 @@
 
 #[cfg(any(store_exports, wire_exports, workload_exports))]
 mod exported;
-mod frame;
+pub mod frame;
 mod load;
 mod store;
 mod wire;

@@ -1,6 +1,7 @@
 -- Each way out is a case of the definition: more than padding is left, the padding is zero, or it is not.
 use borrow.Author.Needs.{needs}
 use mathlib.Core.Path.{sym, _∙_}
+use Rattle.fields.specs.ByBytes.{field-by-bytes}
 use Rattle.formats.specs.Reading.{end-long, end-zero, end-some}
 use Rattle.formats.proofs.reading.finish.Statement.{statement}
 use Rattle.formats.proofs.reading.finish.Tie as tie
@@ -11,12 +12,14 @@ returns c = let a = c .before .before .args in end-long (a .bytes .now) (a .at) 
 returns-2 : tie.Need-returns-2
 returns-2 c =
     let a = c .before .before .before .before .args in
-    end-zero (a .bytes .now) (a .at) (c .before .before .if1 .left) (sym (c .before .read-field .ensures) ∙ c .if2 .taken)
+    let bits = c .before .read-field .ensures ∙ field-by-bytes _ _ _ in
+    end-zero (a .bytes .now) (a .at) (c .before .before .if1 .left) (sym bits ∙ c .if2 .taken)
 
 returns-3 : tie.Need-returns-3
 returns-3 c =
     let a = c .before .before .before .before .args in
-    end-some (a .bytes .now) (a .at) (c .before .before .if1 .left) (λ e. c .if2 .left (c .before .read-field .ensures ∙ e))
+    let bits = c .before .read-field .ensures ∙ field-by-bytes _ _ _ in
+    end-some (a .bytes .now) (a .at) (c .before .before .if1 .left) (λ e. c .if2 .left (bits ∙ e))
 
 pub finish-spec : {M : Type 1} → statement M
 finish-spec =

@@ -1,128 +1,215 @@
--- The row holds the fixed values so far, and what is left of the format is read from the next bit on, with the row of the kind; each
--- field leaves less room.
+-- The row holds the fixed values so far, and what is left of the format is read from the next bit on, with the row of the kind; behind them
+-- the entries decide, as many as the last of them says.
 use borrow.Author.Needs.{needs}
-use mathlib.Core.Path.{ap, _∙_}
-use Prim.Native.Nat.{ℕ, _+_, _≤_}
+use mathlib.Core.Path.{_≡_, ap, _∙_}
+use Prim.Native.Nat.{ℕ, _+_, _-_}
 use native.Mathlib.Omega.{arith}
-use lib.ListN.{length-replicate}
+use lib.ListN.{getD, length-replicate}
+use Rattle.fields.specs.ByBytes.{field-by-bytes}
+use Rattle.formats.specs.declared.state.State.{State}
 use Rattle.formats.specs.declared.table.Shape.{Shape}
-use Rattle.formats.specs.FormatLaws.{room, room-next, room-start, Rowed, rowed-start, rowed-tells}
-use Rattle.formats.specs.Columns.{mostValues}
-use Rattle.formats.specs.Reading.{scanOf, Come, come-start, come-refused, come-done, turn-fault, turn-allowed, turn-on, turn-rowed}
+use Rattle.formats.specs.Table.{manyPlace, entryPlace, numberPlace, entriesIn}
+use Rattle.formats.specs.TableLaws.{target-is}
+use Rattle.formats.specs.FormatLaws.{Rowed, rowed-start, rowed-tells, next-place, place-inner}
+use Rattle.formats.specs.Entry.{Ahead}
+use Rattle.formats.specs.EntryLaws.{sort-known}
+use Rattle.formats.specs.Reading.{scanOf, Come, Said, come-none, come-unknown, come-start, turn-fault, turn-on, turn-rowed, turn-said}
+use Rattle.formats.specs.Judging.{entries-said, number-limits, said-few, rest-asked, rest-refused, rest-read}
 use Rattle.formats.proofs.reading.scan_frame.Statement.{statement}
 use Rattle.formats.proofs.reading.scan_frame.Tie as tie
 
 abbrev Inv-loop : tie.InvT-loop
-Inv-loop bytes kind row fixed₀ state₀ at₀ i₀ fixed state at i =
-    (Come bytes fixed i at state) × (i + room state ≤ mostValues) × (Rowed kind at state)
+Inv-loop bytes kind row fixed₀ state₀ at₀ fixed state at =
+    (Come bytes fixed at state) × (Rowed kind at state) × (state .place ≡ entryPlace → Said kind (getD fixed manyPlace 0) (state .left))
 
 abbrev μ-loop : tie.MeasureT-loop
-μ-loop bytes kind row fixed₀ state₀ at₀ i₀ fixed state at i = room state
-
-row-of-requires : tie.Need-row-of-requires Inv-loop μ-loop
-row-of-requires c κs = ap (λ (s : Shape). s .target) (c .shape-of .ensures)
-
-loop-holds : tie.Need-loop-holds Inv-loop μ-loop
-loop-holds c =
-    let at-read-field = c .before .before .before in
-    let start = at-read-field .before .before in
-    let e = c .first .ensures in (
-      rw e (come-start (start .args .bytes .now) (length-replicate {A = ℕ} 8 0)),
-      rw e (omega (arith, room-start)),
-      rw e (rowed-start (at-read-field .read-field .result)),
-    )
-
-array-read-sort : tie.Need-array-read-sort Inv-loop μ-loop
-array-read-sort c = omega (arith, c .before .before .loop .inv .0 .goes .inside)
-
-field-at-requires : tie.Need-field-at-requires Inv-loop μ-loop
-field-at-requires c κs =
-    let at-loop = c .before .before in
-    let at-row-of = at-loop .before .before in
-    let l = at-loop .loop in
-    rowed-tells (at-row-of .before .before .read-field .result) (l .at) (l .state) (l .inv .2) (at-row-of .row-of .ensures)
-
-take-requires : tie.Need-take-requires Inv-loop μ-loop
-take-requires c κs = let l = c .before .before .before .loop in (omega (arith, l .inv .0 .near), c .field-at .ensures .1)
+μ-loop bytes kind row fixed₀ state₀ at₀ fixed state at = entryPlace - state .place
 
 returns : tie.Need-returns Inv-loop μ-loop
-returns c =
-    let at-take = c .before .before in
-    let at-field-at = at-take .before in
-    let at-if1 = at-field-at .before in
-    let l = at-if1 .before .before .loop in
-    c .refused .ensures
-    ∙ ap scanOf (turn-fault (l .inv .0) (at-if1 .if1 .taken) (at-field-at .field-at .ensures .0) (at-take .take .ensures)
-    (c .before .if2 .taken))
-
-add-at : tie.Need-add-at Inv-loop μ-loop
-add-at c =
-    let at-field-at = c .before .before .before .before .before in
-    let l = at-field-at .before .before .before .loop in
-    omega (arith, l .inv .0 .near, l .inv .1, at-field-at .field-at .ensures .1)
-
-add-i : tie.Need-add-i Inv-loop μ-loop
-add-i c = let l = c .before .before .before .before .before .before .before .before .loop in omega (arith, l .inv .1)
-
-next-requires : tie.Need-next-requires Inv-loop μ-loop
-next-requires c κs =
-    let at-if1 = c .before .before .before .before .before .before in
-    let at-loop = at-if1 .before .before in
-    let at-row-of = at-loop .before .before in
-    let l = at-loop .loop in
-    let t = rowed-tells (at-row-of .before .before .read-field .result) (l .at) (l .state) (l .inv .2) (at-row-of .row-of .ensures) in
-    (at-if1 .if1 .taken, l .inv .0 .goes .inside, t .0)
-
-loop-less : tie.Need-loop-less Inv-loop μ-loop
-loop-less c =
-    let at-if2 = c .before .before .before .before in
-    let at-take = at-if2 .before in
-    let at-field-at = at-take .before in
-    let at-if1 = at-field-at .before in
-    let l = at-if1 .before .before .loop in
-    let some = at-if1 .if1 .taken in
-    let t = at-take .take in
-    rw (c .next .ensures)
-    (room-next (l .state) (t .result .value) (l .inv .0 .goes) some
-    (turn-allowed (l .inv .0) some (at-field-at .field-at .ensures .0) (t .ensures) (at-if2 .if2 .left)))
-
-loop-again : tie.Need-loop-again Inv-loop μ-loop
-loop-again c =
-    let at-keep = c .before .before in
-    let at-if2 = at-keep .before .before in
-    let at-take = at-if2 .before in
-    let at-field-at = at-take .before in
-    let at-if1 = at-field-at .before in
-    let at-loop = at-if1 .before .before in
-    let at-read-field = at-loop .before .before .before .before in
-    let l = at-loop .loop in
-    let some = at-if1 .if1 .taken in
-    let f = at-field-at .field-at in
-    let t = at-take .take in
-    let k = at-read-field .read-field in
-    let none = at-if2 .if2 .left in (
-      turn-on (l .inv .0) some (f .ensures .0) (t .ensures) none (f .ensures .1) (at-keep .keep .ensures) (c .next .ensures),
-      omega (arith, loop-less c, l .inv .1),
-      turn-rowed (l .inv .0) some (f .ensures .0) (t .ensures) none (k .result) _ (l .inv .2) (k .ensures) (c .next .ensures),
-    )
-
-finish-requires : tie.Need-finish-requires Inv-loop μ-loop
-finish-requires c κs = let l = c .before .before .loop in (omega (arith, l .inv .0 .near, l .inv .1), l .inv .0 .inside)
+returns c = c .refused .ensures ∙ ap scanOf (come-none (c .before .before .before .args .bytes .now) (c .before .if1 .taken))
 
 returns-2 : tie.Need-returns-2 Inv-loop μ-loop
 returns-2 c =
-    let at-finish = c .before .before in
-    let at-if1 = at-finish .before in
-    let l = at-if1 .before .before .loop in
+    let at-read = c .before .before in
+    let at-if1 = at-read .before in
+    let a = at-if1 .before .before .args in
     c .refused2 .ensures
-    ∙ ap scanOf (come-refused (l .inv .0) (omega (arith, at-if1 .if1 .left)) (at-finish .finish .ensures) (c .before .if3 .taken))
+    ∙ ap scanOf (come-unknown (a .bytes .now) (at-if1 .if1 .left) (at-read .read-field .ensures ∙ field-by-bytes _ _ _)
+    (c .before .if2 .taken))
+
+target-of-requires : tie.Need-target-of-requires Inv-loop μ-loop
+target-of-requires c κs =
+    let at-if2 = c .before in
+    target-is (at-if2 .before .read-field .result) (omega (arith, at-if2 .if2 .left)) (c .shape-of .ensures)
+
+row-of-requires : tie.Need-row-of-requires Inv-loop μ-loop
+row-of-requires c κs = c .target-of .ensures ∙ ap (λ (s : Shape). s .target) (c .before .shape-of .ensures)
+
+loop-holds : tie.Need-loop-holds Inv-loop μ-loop
+loop-holds c =
+    let at-read = c .before .before .before .before .before in
+    let a = at-read .before .before .before .args in
+    let e = c .first .ensures in (
+      rw e (come-start (a .bytes .now) (length-replicate {A = ℕ} 8 0)),
+      rw e (rowed-start (at-read .read-field .result)),
+      rw e (λ h. let z : ⊥ = omega arith in absurd z),
+    )
+
+array-read-sort : tie.Need-array-read-sort Inv-loop μ-loop
+array-read-sort c = omega (arith, c .if3 .taken)
+
+taken-requires : tie.Need-taken-requires Inv-loop μ-loop
+taken-requires c κs =
+    let at-loop = c .before .before in
+    let at-row = at-loop .before .before in
+    let l = at-loop .loop in
+    let t = rowed-tells (at-row .before .before .before .before .read-field .result) (l .at) (l .state) (l .inv .1)
+    (at-row .row-of .ensures) in
+    (omega (arith, l .inv .0 .near, c .if3 .taken), l .inv .0 .inside, t .0, t .1)
 
 returns-3 : tie.Need-returns-3 Inv-loop μ-loop
 returns-3 c =
-    let at-finish = c .before in
-    let at-if1 = at-finish .before in
-    let l = at-if1 .before .before .loop in
-    come-done (l .inv .0) (omega (arith, at-if1 .if1 .left)) (at-finish .finish .ensures) (c .if3 .left)
+    let at-taken = c .before .before in
+    let at-if3 = at-taken .before in
+    let l = at-if3 .before .before .loop in
+    c .refused3 .ensures
+    ∙ ap scanOf (turn-fault (l .inv .0) (at-if3 .if3 .taken) (at-taken .taken .ensures .0) (c .before .if4 .taken))
+
+array-write-fixed : tie.Need-array-write-fixed Inv-loop μ-loop
+array-write-fixed c = omega (arith, c .before .before .if3 .taken)
+
+add-at : tie.Need-add-at Inv-loop μ-loop
+add-at c =
+    let at-taken = c .before .before in
+    let at-if3 = at-taken .before in
+    omega (arith, at-if3 .before .before .loop .inv .0 .near, at-if3 .if3 .taken, at-taken .taken .ensures .1)
+
+next-requires : tie.Need-next-requires Inv-loop μ-loop
+next-requires c κs =
+    let at-if3 = c .before .before .before in
+    let at-loop = at-if3 .before .before in
+    let at-row = at-loop .before .before in
+    let l = at-loop .loop in
+    let t = rowed-tells (at-row .before .before .before .before .read-field .result) (l .at) (l .state) (l .inv .1)
+    (at-row .row-of .ensures) in
+    (omega (arith, l .inv .0 .goes .counted (at-if3 .if3 .taken)), l .inv .0 .goes .inside, t .0)
+
+-- the next state is one place further
+module _ (c : tie.After-next Inv-loop μ-loop) where
+  further : c .next .result .place ≡ c .before .before .before .before .before .before .loop .state .place + 1
+  further =
+      let at-taken = c .before .before .before in
+      let at-if3 = at-taken .before in
+      let st = at-if3 .before .before .loop .state in
+      ap (λ (s : State). s .place) (c .next .ensures)
+      ∙ next-place st (at-taken .taken .result .value)
+      ∙ place-inner (st .place) (λ e. omega (arith, at-if3 .if3 .taken))
+
+loop-less : tie.Need-loop-less Inv-loop μ-loop
+loop-less c = omega (arith, further c, c .before .before .before .before .if3 .taken)
+
+loop-again : tie.Need-loop-again Inv-loop μ-loop
+loop-again c =
+    let at-if4 = c .before .before in
+    let at-taken = at-if4 .before in
+    let at-if3 = at-taken .before in
+    let at-loop = at-if3 .before .before in
+    let at-read = at-loop .before .before .before .before .before .before in
+    let l = at-loop .loop in
+    let h = at-if3 .if3 .taken in
+    let t = at-taken .taken .ensures in
+    let none = at-if4 .if4 .left in
+    let k = at-read .read-field in
+    let en = c .next .ensures in (
+      turn-on (l .inv .0) h (t .0) none (t .1) en,
+      turn-rowed (l .inv .0) h (t .0) none (k .result) _ (l .inv .1) (k .ensures ∙ field-by-bytes _ _ _) en,
+      λ e. turn-said (l .inv .0) h (t .0) none (l .inv .1) en e,
+    )
+
+-- all fixed fields are read: the next is an entry's first, and how many entries there are is said
+module _ (c : tie.Else3 Inv-loop μ-loop) where
+  behind : c .before .before .loop .state .place ≡ entryPlace
+  behind = let l = c .before .before .loop in omega (arith, c .if3 .left, l .inv .0 .early)
+
+  ahead : Ahead (c .before .before .before .before .before .before .before .before .read-field .result) entryPlace
+      (c .before .before .loop .state)
+  ahead =
+      let l = c .before .before .loop in
+      record { its-kind = l .inv .1 .later (λ z. omega (arith, behind)); its-place = behind }
+
+  said :
+      let l = c .before .before .loop in
+      Said (c .before .before .before .before .before .before .before .before .read-field .result) (getD (l .fixed) manyPlace 0)
+      (l .state .left)
+  said = c .before .before .loop .inv .2 behind
+
+module _ (c : tie.After-entries-in Inv-loop μ-loop) where
+  many :
+      let at-loop = c .before .before .before in
+      c .entries-in .result ≡ entriesIn (at-loop .before .before .before .before .before .before .read-field .result)
+      (getD (at-loop .loop .fixed) manyPlace 0)
+  many =
+      let at-loop = c .before .before .before in
+      let at-row = at-loop .before .before in
+      entries-said (at-row .before .before .before .before .read-field .result) (at-row .row-of .ensures)
+      (getD (at-loop .loop .fixed) manyPlace 0)
+      (c .entries-in .ensures)
+
+array-read-entries-in-2 : tie.Need-array-read-entries-in-2 Inv-loop μ-loop
+array-read-entries-in-2 c = search needs
+
+limits-of-requires : tie.Need-limits-of-requires Inv-loop μ-loop
+limits-of-requires c κs =
+    let at-row = c .before .before .before .before .before in
+    sort-known (at-row .before .before .before .before .read-field .result) (at-row .row-of .ensures) numberPlace
+
+rest-fault-requires : tie.Need-rest-fault-requires Inv-loop μ-loop
+rest-fault-requires c κs =
+    let at-entries = c .before in
+    let at-if3 = at-entries .before in
+    let at-loop = at-if3 .before .before in
+    let at-row = at-loop .before .before in
+    let l = at-loop .loop in
+    let n = number-limits (at-row .before .before .before .before .read-field .result) (at-row .row-of .ensures) (c .limits-of .ensures) in
+    (rest-asked (l .inv .0) (ahead at-if3) (said at-if3) (many at-entries) (n .0) (n .1) (n .2), l .inv .0 .inside)
+
+returns-4 : tie.Need-returns-4 Inv-loop μ-loop
+returns-4 c =
+    let at-rest = c .before .before in
+    let at-limits = at-rest .before in
+    let at-entries = at-limits .before in
+    let at-if3 = at-entries .before in
+    let at-loop = at-if3 .before .before in
+    let at-row = at-loop .before .before in
+    let n = number-limits (at-row .before .before .before .before .read-field .result) (at-row .row-of .ensures)
+    (at-limits .limits-of .ensures) in
+    c .refused4 .ensures
+    ∙ ap scanOf
+    (rest-refused (at-loop .loop .inv .0) (ahead at-if3) (said at-if3) (many at-entries) (n .0) (n .1) (at-rest .rest-fault .ensures)
+    (c .before .if5 .taken))
+
+mul-t16 : tie.Need-mul-t16 Inv-loop μ-loop
+mul-t16 c =
+    let at-entries = c .before .before .before in
+    omega (arith, many at-entries, said-few (said (at-entries .before)))
+
+add-t34 : tie.Need-add-t34 Inv-loop μ-loop
+add-t34 c =
+    let at-entries = c .before .before .before in
+    omega (arith, many at-entries, said-few (said (at-entries .before)))
+
+returns-5 : tie.Need-returns-5 Inv-loop μ-loop
+returns-5 c =
+    let at-rest = c .before in
+    let at-limits = at-rest .before in
+    let at-entries = at-limits .before in
+    let at-if3 = at-entries .before in
+    let at-loop = at-if3 .before .before in
+    let at-row = at-loop .before .before in
+    let n = number-limits (at-row .before .before .before .before .read-field .result) (at-row .row-of .ensures)
+    (at-limits .limits-of .ensures) in
+    rest-read (at-loop .loop .inv .0) (ahead at-if3) (said at-if3) (many at-entries) (n .0) (n .1) (at-rest .rest-fault .ensures)
+    (c .if5 .left)
 
 pub scan-frame-spec : {M : Type 1} → statement M
 scan-frame-spec =
@@ -131,22 +218,33 @@ scan-frame-spec =
     Inv-loop
     μ-loop
     (λ c κs. search needs)
+    returns
     (λ c κs. search needs)
+    (λ c κs. search needs)
+    returns-2
+    (λ c κs. search needs)
+    target-of-requires
     row-of-requires
     (λ c κs. search needs)
     loop-holds
     array-read-sort
-    field-at-requires
-    take-requires
+    taken-requires
     (λ c κs. search needs)
-    returns
-    (λ c κs. search needs)
+    returns-3
+    (λ c. search needs)
+    array-write-fixed
     add-at
-    add-i
     next-requires
     loop-less
     loop-again
-    finish-requires
+    (λ c. search needs)
+    array-read-entries-in-2
     (λ c κs. search needs)
-    returns-2
-    returns-3)
+    (λ c. search needs)
+    limits-of-requires
+    rest-fault-requires
+    (λ c κs. search needs)
+    returns-4
+    mul-t16
+    add-t34
+    returns-5)

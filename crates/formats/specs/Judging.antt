@@ -1,0 +1,572 @@
+-- The entries of a frame as the reader judges them where they stand, one behind the other, and that the grammar says the same.
+use mathlib.Core.Path.{_≡_, refl, sym, ap, ap₂, _∙_}
+use Prim.Native.Nat.{ℕ, zero, suc, _+_, _-_, _*_, _/_, _≤_, _<_}
+use native.Mathlib.Nat.{suc-mul, mul-le-mul}
+use native.Mathlib.Omega.{arith}
+use mathlib.Core.List.{List, [], _∷_, _++_}
+use mathlib.Core.Bool.{true, cond}
+use lib.Dec.{leb, eqb}
+use lib.ListN.{length, getD, take, length-append}
+use lib.Seq.{ext-getD, getD-take, length-take-le, take-append-le}
+use borrow.Author.Tests.{le-leb, lt-leb, leb-true, leb-false, eq-eqb, ne-eqb}
+use Rattle.ranges.specs.Tests.{by-test, by-equal}
+use Rattle.fields.specs.Bits.{fieldAt}
+use Rattle.fields.specs.FieldLaws.{field-below, field-join}
+use Rattle.formats.specs.declared.state.Field.{Field}
+use Rattle.formats.specs.declared.state.State.{State}
+use Rattle.formats.specs.Grammar.{Grammar, Outcome, got, fault, ahead, ended, read}
+use Rattle.formats.specs.Table.{manyPlace, entryPlace, ownerPlace, numberPlace, fixedFields}
+use Rattle.formats.specs.Table.{entryFields, mostEntries, sortAt, bitsOf, mostOf}
+use Rattle.formats.specs.Table.{less, limitsOf, limitRow, rowOf, entriesIn}
+use Rattle.formats.specs.TableLaws.{few-entries, entries-most, entries-by, row-at, limits-width, bits-most, sort-small}
+use Rattle.formats.specs.Format.{widthOf, fieldOf, within, nextOf, one, entries, format}
+use Rattle.formats.specs.FormatLaws.{rest-late}
+use Rattle.formats.specs.Columns.{mostBits}
+use Rattle.formats.specs.Entry.{countBits, ownerBits, keyBits, maskBits, numberBits, numberLeast, Keyed}
+use Rattle.formats.specs.Entry.{ownerField, Ahead, ahead-next, ahead-again}
+use Rattle.formats.specs.Entry.{count-field, owner-field, number-field, keyed-some}
+use Rattle.formats.specs.Reading.{faultAt, endFault, end-reads, scanOf, after, fault-reads, none-reads, Come, Said}
+
+-- ---- definitions
+
+-- 10 where a key is cut short, 11 where its count is 0 and its client is not; count and client are one number of 12 bits
+unfoldable pub keyFault : List ℕ → ℕ → ℕ
+keyFault bytes at =
+    let key = fieldAt bytes at keyBits in
+    cond (leb (at + keyBits) (8 * length bytes)) (cond (leb 16 key) 0 (cond (eqb key 0) 0 11)) 10
+
+-- 10 where a number is cut short, 11 where it is below its least
+unfoldable pub numberFault : List ℕ → ℕ → ℕ → ℕ → ℕ
+numberFault bytes at width least = cond (leb (at + width) (8 * length bytes)) (cond (leb least (fieldAt bytes at width)) 0 11) 10
+
+-- the first of two faults, and of those of n entries; 0 where there is none
+abbrev pub first : ℕ → ℕ → ℕ
+first a b = cond (eqb a 0) b a
+
+unfoldable pub entryFault : List ℕ → ℕ → ℕ → ℕ → ℕ
+entryFault bytes at width least = first (keyFault bytes at) (numberFault bytes (at + keyBits) width least)
+
+unfoldable pub entriesFault : List ℕ → ℕ → ℕ → ℕ → ℕ → ℕ
+entriesFault bytes at width least zero = 0
+entriesFault bytes at width least (suc n) =
+    first (entryFault bytes at width least) (entriesFault bytes (at + (keyBits + width)) width least n)
+
+-- and of what stands behind them
+unfoldable pub restFault : List ℕ → ℕ → ℕ → ℕ → ℕ → ℕ
+restFault bytes at width least n =
+    first (entriesFault bytes at width least n) (endFault bytes (at + n * (keyBits + width)))
+
+-- ---- what the functions ask
+
+-- a number of an entry at a bit: one with a least above 0 is a mask
+pub record Number (at width least : ℕ) : Type 0 where
+  pub near : at ≤ mostBits
+  pub narrow : width ≤ 32
+  pub masked : (least ≡ 0 → ⊥) → width ≡ maskBits
+
+-- so many entries from a bit on
+pub record EntriesAt (at width least n : ℕ) : Type 0 where
+  pub near : at + n * (keyBits + width) ≤ mostBits
+  pub narrow : width ≤ 32
+  pub masked : 0 < n → (least ≡ 0 → ⊥) → width ≡ maskBits
+
+-- ---- the cases, as the code meets them
+
+module _ (bytes : List ℕ) (at : ℕ) where
+  pub key-cut : length bytes < (at + keyBits + 7) / 8 → 10 ≡ keyFault bytes at
+  unfolding keyFault
+  key-cut h = rw (lt-leb (at + keyBits) (8 * length bytes) (omega arith))
+
+  module _ (h : (at + keyBits + 7) / 8 ≤ length bytes) where
+    key-whole : leb (at + keyBits) (8 * length bytes) ≡ true
+    key-whole = le-leb (at + keyBits) (8 * length bytes) (omega arith)
+
+    pub key-counted : 16 ≤ fieldAt bytes at keyBits → 0 ≡ keyFault bytes at
+    unfolding keyFault
+    key-counted l = rw (key-whole, le-leb 16 (fieldAt bytes at keyBits) l)
+
+    module _ (l : fieldAt bytes at keyBits < 16) where
+      pub key-none : fieldAt bytes at keyBits ≡ 0 → 0 ≡ keyFault bytes at
+      unfolding keyFault
+      key-none e = rw (key-whole, lt-leb 16 (fieldAt bytes at keyBits) l, eq-eqb (fieldAt bytes at keyBits) 0 e)
+
+      pub key-broken : (fieldAt bytes at keyBits ≡ 0 → ⊥) → 11 ≡ keyFault bytes at
+      unfolding keyFault
+      key-broken d = rw (key-whole, lt-leb 16 (fieldAt bytes at keyBits) l, ne-eqb (fieldAt bytes at keyBits) 0 d)
+
+  module _ (width least : ℕ) where
+    pub number-cut : length bytes < (at + width + 7) / 8 → 10 ≡ numberFault bytes at width least
+    unfolding numberFault
+    number-cut h = rw (lt-leb (at + width) (8 * length bytes) (omega arith))
+
+    module _ (h : (at + width + 7) / 8 ≤ length bytes) where
+      number-whole : leb (at + width) (8 * length bytes) ≡ true
+      number-whole = le-leb (at + width) (8 * length bytes) (omega arith)
+
+      pub number-low : fieldAt bytes at width < least → 11 ≡ numberFault bytes at width least
+      unfolding numberFault
+      number-low l = rw (number-whole, lt-leb least (fieldAt bytes at width) l)
+
+      pub number-right : least ≤ fieldAt bytes at width → 0 ≡ numberFault bytes at width least
+      unfolding numberFault
+      number-right l = rw (number-whole, le-leb least (fieldAt bytes at width) l)
+
+    pub entry-first : {f : ℕ} → f ≡ keyFault bytes at → (f ≡ 0 → ⊥) → f ≡ entryFault bytes at width least
+    unfolding entryFault
+    entry-first e d = e ∙ rw (ne-eqb (keyFault bytes at) 0 (λ z. d (e ∙ z)))
+
+    pub entry-second :
+        {f g : ℕ} → f ≡ keyFault bytes at → f ≡ 0 → g ≡ numberFault bytes (at + keyBits) width least → g ≡ entryFault bytes at width least
+    unfolding entryFault
+    entry-second e z q = q ∙ rw (eq-eqb (keyFault bytes at) 0 (sym e ∙ z))
+
+    -- a turn of the loop
+    module _ (n : ℕ) (some : 0 < n) {f : ℕ} (e : f ≡ entryFault bytes at width least) where
+      more : entriesFault bytes at width least n
+          ≡ cond (eqb (entryFault bytes at width least) 0) (entriesFault bytes (at + (keyBits + width)) width least (n - 1))
+          (entryFault bytes at width least)
+      unfolding entriesFault
+      more = go n some
+        where
+          go : (m : ℕ) → 0 < m → entriesFault bytes at width least m
+              ≡ cond (eqb (entryFault bytes at width least) 0) (entriesFault bytes (at + (keyBits + width)) width least (m - 1))
+              (entryFault bytes at width least)
+          go zero h = let z : ⊥ = omega arith in absurd z
+          go (suc m) h = let q : m ≡ suc m - 1 = omega arith in
+              ap (λ (i : ℕ). cond (eqb (entryFault bytes at width least) 0) (entriesFault bytes (at + (keyBits + width)) width least i)
+              (entryFault bytes at width least)) q
+
+      pub entries-stop : (f ≡ 0 → ⊥) → f ≡ entriesFault bytes at width least n
+      entries-stop d = e ∙ sym (more ∙ rw (ne-eqb (entryFault bytes at width least) 0 (λ z. d (e ∙ z))))
+
+      pub entries-on : f ≡ 0 → entriesFault bytes (at + (keyBits + width)) width least (n - 1) ≡ entriesFault bytes at width least n
+      entries-on z = sym (more ∙ rw (eq-eqb (entryFault bytes at width least) 0 (sym e ∙ z)))
+
+    pub entries-end : (n : ℕ) → n ≡ 0 → 0 ≡ entriesFault bytes at width least n
+    unfolding entriesFault
+    entries-end n z = rw z
+
+    pub rest-first : (n : ℕ) {f : ℕ} → f ≡ entriesFault bytes at width least n → (f ≡ 0 → ⊥) → f ≡ restFault bytes at width least n
+    unfolding restFault
+    rest-first n e d = e ∙ rw (ne-eqb (entriesFault bytes at width least n) 0 (λ z. d (e ∙ z)))
+
+    pub rest-second :
+        (n : ℕ) {f g : ℕ}
+        → f ≡ entriesFault bytes at width least n
+        → f ≡ 0
+        → g ≡ endFault bytes (at + n * (keyBits + width))
+        → g ≡ restFault bytes at width least n
+    unfolding restFault
+    rest-second n e z q = q ∙ rw (eq-eqb (entriesFault bytes at width least n) 0 (sym e ∙ z))
+
+-- the bits of one entry more
+pub entry-more : (n w : ℕ) → 0 < n → n * (keyBits + w) ≡ (keyBits + w) + (n - 1) * (keyBits + w)
+entry-more zero w h = let z : ⊥ = omega arith in absurd z
+entry-more (suc n) w h = let q : suc n - 1 ≡ n = omega arith in rw (q, suc-mul n (keyBits + w)) (omega arith)
+
+-- ---- one field
+
+module _ (bytes : List ℕ) (at : ℕ) (st : State) (next : ℕ → Grammar) where
+  one-wrong : {f : ℕ} → f ≡ faultAt bytes at (fieldOf st) → (f ≡ 0 → ⊥) → read (one st next) bytes at ≡ fault f
+  unfolding read faultAt fieldOf
+  one-wrong e d = fault-reads _ _ _ e d
+
+  one-right :
+      faultAt bytes at (fieldOf st) ≡ 0
+      → (let v = fieldAt bytes at (widthOf st) in read (one st next) bytes at ≡ ahead v (read (next v) bytes (at + widthOf st)))
+  unfolding read faultAt fieldOf
+  one-right e = none-reads _ _ _ refl e .2
+
+-- ---- a key is two fields
+
+module _ (bytes : List ℕ) (at : ℕ) where
+  -- its number, by the two
+  pub key-parts :
+      let k = fieldAt bytes at keyBits in
+      (k ≡ fieldAt bytes at countBits * 16 + fieldAt bytes (at + countBits) ownerBits)
+      × (fieldAt bytes at countBits < 256)
+      × (fieldAt bytes (at + countBits) ownerBits < 16)
+  key-parts = (field-join bytes at countBits ownerBits, field-below bytes at countBits, field-below bytes (at + countBits) ownerBits)
+
+  counted : faultAt bytes at (limitRow countBits 0 255) ≡ cond (leb (at + countBits) (8 * length bytes)) 0 10
+  unfolding faultAt within
+  counted =
+      let p = key-parts in
+      rw (le-leb 0 (fieldAt bytes at countBits) (omega arith), le-leb (fieldAt bytes at countBits) 255 (omega (arith, p .1)))
+
+  key-judged :
+      first (faultAt bytes at (limitRow countBits 0 255)) (faultAt bytes (at + countBits) (ownerField (fieldAt bytes at countBits)))
+      ≡ keyFault bytes at
+  unfolding faultAt within keyFault
+  key-judged =
+      let p = key-parts in
+      let L = 8 * length bytes in
+      rw counted
+      (by-test (leb (at + keyBits) L)
+      (λ t.
+      let h = leb-true (at + keyBits) L t in
+      rw (t, le-leb (at + countBits) L (omega arith), le-leb (at + countBits + ownerBits) L (omega arith))
+      (rw (le-leb 0 (fieldAt bytes (at + countBits) ownerBits) (omega arith))
+      (by-equal (fieldAt bytes at countBits) 0
+      (λ z.
+      rw (eq-eqb (fieldAt bytes at countBits) 0 z, lt-leb 16 (fieldAt bytes at keyBits) (omega (arith, p)))
+      (by-equal (fieldAt bytes (at + countBits) ownerBits) 0
+      (λ y. rw (le-leb (fieldAt bytes (at + countBits) ownerBits) 0 (omega arith), eq-eqb (fieldAt bytes at keyBits) 0 (omega (arith, p))))
+      (λ y. rw (
+        lt-leb (fieldAt bytes (at + countBits) ownerBits) 0 (omega arith),
+        ne-eqb (fieldAt bytes at keyBits) 0 (λ q. y (omega (arith, p))),
+      ))))
+      (λ z.
+      rw (
+        ne-eqb (fieldAt bytes at countBits) 0 z,
+        le-leb 16 (fieldAt bytes at keyBits) (omega (arith, p)),
+        le-leb (fieldAt bytes (at + countBits) ownerBits) 15 (omega (arith, p)),
+      )))))
+      (λ t.
+      let h = leb-false (at + keyBits) L t in
+      rw (t, lt-leb (at + countBits + ownerBits) L (omega arith))
+      (by-test (leb (at + countBits) L) (λ s. rw s) (λ s. rw s))))
+
+-- ---- one entry
+
+whole-number : (bytes : List ℕ) (at width least : ℕ) → numberFault bytes at width least ≡ 0 → at + width ≤ 8 * length bytes
+unfolding numberFault
+whole-number bytes at width least e =
+    by-test (leb (at + width) (8 * length bytes))
+    (λ t. leb-true _ _ t)
+    (λ t. let z : _≡_ {A = ℕ} 10 0 = rw t at e in let f : ⊥ = omega arith in absurd f)
+
+first-none : (a b : ℕ) → first a b ≡ 0 → (a ≡ 0) × (b ≡ 0)
+first-none a b e = by-equal a 0 (λ z. (z, rw (eq-eqb a 0 z) at e)) (λ d. absurd (d (rw (ne-eqb a 0 d) at e)))
+
+first-left : (a b : ℕ) → (a ≡ 0 → ⊥) → first a b ≡ a
+first-left a b d = rw (ne-eqb a 0 d)
+
+first-right : (a b : ℕ) → a ≡ 0 → first a b ≡ b
+first-right a b z = rw (eq-eqb a 0 z)
+
+-- what was read of n entries without a fault
+pub record Passed (bytes : List ℕ) (kind n : ℕ) (st : State) (at : ℕ) : Type 0 where
+  pub values : List ℕ
+  pub many : length values ≡ entryFields * n
+  pub found : read (entries (entryFields * n) st) bytes at ≡ after values (ended bytes (at + n * (keyBits + numberBits kind)))
+
+pub none-passed : (bytes : List ℕ) (kind n : ℕ) (st : State) (at : ℕ) → n ≡ 0 → Passed bytes kind n st at
+unfolding entries read after
+none-passed bytes kind n st at z =
+    let e : at ≡ at + 0 * (keyBits + numberBits kind) = omega arith in
+    rw z (record {
+      values = [];
+      many = refl;
+      found = ap (ended bytes) e
+          ∙ sym (nothing-after (ended bytes (at + 0 * (keyBits + numberBits kind))));
+    })
+  where
+    nothing-after : (o : Outcome) → after [] o ≡ o
+    nothing-after (got vs) = refl
+    nothing-after (fault f) = refl
+
+module _ (bytes : List ℕ) {kind : ℕ} (k : Keyed kind) where
+  abbrev w : ℕ
+  w = numberBits kind
+
+  abbrev least : ℕ
+  least = numberLeast kind
+
+  number-judged : (at : ℕ) → faultAt bytes at (limitsOf (sortAt kind numberPlace)) ≡ numberFault bytes at w least
+  unfolding faultAt within numberFault bitsOf
+  number-judged at =
+      let x = fieldAt bytes at w in
+      let b : x < limitsOf (sortAt kind numberPlace) .most + 1 = rw (k .widest) (field-below bytes at w) in
+      rw (le-leb x (limitsOf (sortAt kind numberPlace) .most) (omega arith))
+      (by-test (leb least x) (λ t. rw t) (λ t. rw t))
+
+  module _ (n : ℕ) (st : State) (a : Ahead kind entryPlace st) (at : ℕ) where
+    abbrev c : ℕ
+    c = fieldAt bytes at countBits
+
+    abbrev o : ℕ
+    o = fieldAt bytes (at + countBits) ownerBits
+
+    abbrev x : ℕ
+    x = fieldAt bytes (at + countBits + ownerBits) w
+
+    abbrev second : State
+    second = nextOf st c
+
+    abbrev third : State
+    third = nextOf second o
+
+    -- behind it comes the next entry
+    abbrev fourth : State
+    fourth = nextOf third x
+
+    at-second : Ahead kind ownerPlace second
+    at-second = ahead-next a c (omega arith) (omega arith)
+
+    at-third : Ahead kind numberPlace third
+    at-third = ahead-next at-second o (omega arith) (omega arith)
+
+    at-fourth : Ahead kind entryPlace fourth
+    at-fourth = ahead-again at-third x
+
+    key-faults : first (faultAt bytes at (fieldOf st)) (faultAt bytes (at + countBits) (fieldOf second)) ≡ keyFault bytes at
+    key-faults = rw (count-field k a, owner-field k a c) (key-judged bytes at)
+
+    number-fault : faultAt bytes (at + countBits + ownerBits) (fieldOf third) ≡ numberFault bytes (at + keyBits) w least
+    number-fault =
+        rw (number-field k at-third)
+        (number-judged (at + countBits + ownerBits) ∙ ap (λ (b : ℕ). numberFault bytes b w least) (omega arith))
+
+    -- each field, where it is right
+    module _ (z : faultAt bytes at (fieldOf st) ≡ 0) where
+      count-read : (next : ℕ → Grammar) → read (one st next) bytes at ≡ ahead c (read (next c) bytes (at + countBits))
+      unfolding fieldOf
+      count-read next =
+          one-right bytes at st next z
+          ∙ ap (λ (f : Field). let v = fieldAt bytes at (f .width) in ahead v (read (next v) bytes (at + f .width))) (count-field k a)
+
+    module _ (z : faultAt bytes (at + countBits) (fieldOf second) ≡ 0) where
+      owner-read :
+          (next : ℕ → Grammar)
+          → read (one second next) bytes (at + countBits) ≡ ahead o (read (next o) bytes (at + countBits + ownerBits))
+      unfolding fieldOf
+      owner-read next =
+          one-right bytes (at + countBits) second next z
+          ∙ ap (λ (f : Field). let v = fieldAt bytes (at + countBits) (f .width) in
+          ahead v (read (next v) bytes (at + countBits + f .width)))
+          (owner-field k a c)
+
+    module _ (z : faultAt bytes (at + countBits + ownerBits) (fieldOf third) ≡ 0) where
+      number-read :
+          (next : ℕ → Grammar)
+          → read (one third next) bytes (at + countBits + ownerBits)
+          ≡ ahead x (read (next x) bytes (at + countBits + ownerBits + w))
+      unfolding fieldOf bitsOf
+      number-read next =
+          let at₂ = at + countBits + ownerBits in
+          one-right bytes at₂ third next z
+          ∙ ap (λ (f : Field). let v = fieldAt bytes at₂ (f .width) in ahead v (read (next v) bytes (at₂ + f .width)))
+          (number-field k at-third)
+
+    -- an entry without a fault
+    entry-right :
+        entryFault bytes at w least ≡ 0
+        → read (entries (suc (suc (suc n))) st) bytes at ≡ ahead c (ahead o (ahead x (read (entries n fourth) bytes (at + (keyBits + w)))))
+    unfolding entryFault entries
+    entry-right e =
+        let p = first-none (keyFault bytes at) (numberFault bytes (at + keyBits) w least) e in
+        let q = first-none _ _ (key-faults ∙ p .0) in
+        count-read (q .0) (λ v. entries (suc (suc n)) (nextOf st v))
+        ∙ ap (ahead c) (owner-read (q .1) (λ v. entries (suc n) (nextOf second v)))
+        ∙ ap (λ (r : Outcome). ahead c (ahead o r))
+        (number-read (number-fault ∙ p .1) (λ v. entries n (nextOf third v))
+        ∙ ap (λ (b : ℕ). ahead x (read (entries n fourth) bytes b)) (omega arith))
+
+    -- an entry with one
+    entry-wrong :
+        {f : ℕ} → f ≡ entryFault bytes at w least → (f ≡ 0 → ⊥) → read (entries (suc (suc (suc n))) st) bytes at ≡ fault f
+    unfolding entryFault entries ahead
+    entry-wrong {f} e d =
+        let f₀ = faultAt bytes at (fieldOf st) in
+        let f₁ = faultAt bytes (at + countBits) (fieldOf second) in
+        let f₂ = faultAt bytes (at + countBits + ownerBits) (fieldOf third) in
+        let all : f ≡ first (first f₀ f₁) f₂ = e ∙ sym (ap₂ first key-faults number-fault) in
+        by-equal f₀ 0
+        (λ z₀.
+        count-read z₀ (λ v. entries (suc (suc n)) (nextOf st v))
+        ∙ ap (ahead c)
+        (by-equal f₁ 0
+        (λ z₁.
+        let r : f ≡ f₂ = all ∙ first-right (first f₀ f₁) f₂ (first-right f₀ f₁ z₀ ∙ z₁) in
+        owner-read z₁ (λ v. entries (suc n) (nextOf second v))
+        ∙ ap (ahead o) (one-wrong bytes (at + countBits + ownerBits) third (λ v. entries n (nextOf third v)) r d))
+        (λ d₁.
+        let g : first f₀ f₁ ≡ f₁ = first-right f₀ f₁ z₀ in
+        let r : f ≡ f₁ = all ∙ first-left (first f₀ f₁) f₂ (λ q. d₁ (sym g ∙ q)) ∙ g in
+        one-wrong bytes (at + countBits) second (λ v. entries (suc n) (nextOf second v)) r d)))
+        (λ d₀.
+        let g : first f₀ f₁ ≡ f₀ = first-left f₀ f₁ d₀ in
+        let r : f ≡ f₀ = all ∙ first-left (first f₀ f₁) f₂ (λ q. d₀ (sym g ∙ q)) ∙ g in
+        one-wrong bytes at st (λ v. entries (suc (suc n)) (nextOf st v)) r d)
+
+  -- ---- all entries
+
+  pub entries-passed : (n : ℕ) (st : State) → Ahead kind entryPlace st → (at : ℕ) → entriesFault bytes at w least n ≡ 0
+      → Passed bytes kind n st at
+  unfolding entriesFault entries read after ahead
+  entries-passed zero st a at e = none-passed bytes kind 0 st at refl
+  entries-passed (suc n) st a at e =
+      let p = first-none (entryFault bytes at w least) _ e in
+      let rest = entries-passed n (fourth n st a at) (at-fourth n st a at) (at + (keyBits + w)) (p .1) in
+      let vs = c n st a at ∷ o n st a at ∷ x n st a at ∷ rest .values in
+      let m : entryFields * suc n ≡ suc (suc (suc (entryFields * n))) = omega arith in
+      let q : at + (keyBits + w) + n * (keyBits + w) ≡ at + suc n * (keyBits + w) = rw (suc-mul n (keyBits + w)) (omega arith) in
+      record {
+        values = vs;
+        many = omega (arith, rest .many);
+        found =
+            ap (λ (i : ℕ). read (entries i st) bytes at) m
+            ∙ entry-right (entryFields * n) st a at (p .0)
+            ∙ ap (λ (r : Outcome). ahead (c n st a at) (ahead (o n st a at) (ahead (x n st a at) r)))
+            (rest .found ∙ ap (λ (b : ℕ). after (rest .values) (ended bytes b)) q)
+            ∙ three-after (c n st a at) (o n st a at) (x n st a at) (rest .values) (ended bytes (at + suc n * (keyBits + w)));
+      }
+    where
+      three-after : (u v t : ℕ) (vs : List ℕ) (r : Outcome) → ahead u (ahead v (ahead t (after vs r))) ≡ after (u ∷ v ∷ t ∷ vs) r
+      three-after u v t vs (got us) = refl
+      three-after u v t vs (fault f) = refl
+
+  pub entries-wrong :
+      (n : ℕ) (st : State)
+      → Ahead kind entryPlace st
+      → (at : ℕ) {f : ℕ}
+      → f ≡ entriesFault bytes at w least n
+      → (f ≡ 0 → ⊥)
+      → read (entries (entryFields * n) st) bytes at ≡ fault f
+  unfolding entriesFault ahead
+  entries-wrong zero st a at e d = absurd (d e)
+  entries-wrong (suc n) st a at {f} e d =
+      let m : entryFields * suc n ≡ suc (suc (suc (entryFields * n))) = omega arith in
+      ap (λ (i : ℕ). read (entries i st) bytes at) m
+      ∙ by-equal (entryFault bytes at w least) 0
+      (λ z.
+      let r : f ≡ entriesFault bytes (at + (keyBits + w)) w least n = e ∙ first-right _ _ z in
+      entry-right (entryFields * n) st a at z
+      ∙ ap (λ (q : Outcome). ahead (c n st a at) (ahead (o n st a at) (ahead (x n st a at) q)))
+      (entries-wrong n (fourth n st a at) (at-fourth n st a at) (at + (keyBits + w)) r d))
+      (λ d₀. entry-wrong (entryFields * n) st a at (e ∙ first-left _ _ d₀) d)
+
+-- entries without a fault are not cut short
+pub entries-inside :
+    (bytes : List ℕ) (width least n at : ℕ)
+    → entriesFault bytes at width least n ≡ 0
+    → at ≤ 8 * length bytes
+    → at + n * (keyBits + width) ≤ 8 * length bytes
+unfolding entriesFault entryFault
+entries-inside bytes width least zero at e h = omega arith
+entries-inside bytes width least (suc n) at e h =
+    let p = first-none (entryFault bytes at width least) (entriesFault bytes (at + (keyBits + width)) width least n) e in
+    let q = first-none (keyFault bytes at) (numberFault bytes (at + keyBits) width least) (p .0) in
+    let i = whole-number bytes (at + keyBits) width least (q .1) in
+    rw (suc-mul n (keyBits + width)) (omega (arith, entries-inside bytes width least n (at + (keyBits + width)) (p .1) (omega arith)))
+
+-- ---- the whole frame
+
+-- a frame with entries is of a keyed kind
+pub said-keyed : {kind v left : ℕ} → Said kind v left → 0 < entriesIn kind v → Keyed kind
+unfolding entriesIn mostOf
+said-keyed {kind} {v} s h =
+    keyed-some kind
+    (λ e.
+    let l : v ≤ 0 = rw e at (s .right) in
+    let m : 0 < v = rw e at h in
+    omega arith)
+
+-- no more entries than there can be
+pub said-few : {kind v left : ℕ} → Said kind v left → entriesIn kind v ≤ mostEntries
+said-few {kind} {v} s = omega (arith, s .right, few-entries kind (s .client) (s .before), entries-most kind v)
+
+-- what the table tells of the entries, as the code has it
+module _ (kind : ℕ) {row : List ℕ} (er : row ≡ rowOf kind) where
+  sort-is : (place : ℕ) → getD row place 0 ≡ sortAt kind place
+  sort-is place = ap (λ (r : List ℕ). getD r place 0) er ∙ row-at kind place
+
+  pub entries-said : (v : ℕ) {n : ℕ} → n ≡ cond (eqb (getD row manyPlace 0) less) (v + 1) v → n ≡ entriesIn kind v
+  entries-said v e = entries-by kind v (sort-is manyPlace) e
+
+  pub number-limits :
+      {f : Field}
+      → f ≡ limitsOf (getD row numberPlace 0)
+      → (f .width ≡ numberBits kind) × (f .least ≡ numberLeast kind) × (f .width ≤ 32)
+  number-limits {f} e =
+      let w : f .width ≡ numberBits kind = limits-width (getD row numberPlace 0) e ∙ ap bitsOf (sort-is numberPlace) in (
+        w,
+        ap (λ (g : Field). g .least) e ∙ ap (λ (s : ℕ). limitsOf s .least) (sort-is numberPlace),
+        omega (arith, w, bits-most (sortAt kind numberPlace) (sort-small kind numberPlace)),
+      )
+
+-- All fixed fields are read: the entries and what stands behind them decide.
+module _ {bytes row : List ℕ} {at kind : ℕ} {st : State} (c : Come bytes row at st) (a : Ahead kind entryPlace st) {n : ℕ}
+    (s : Said kind (getD row manyPlace 0) (st .left)) (en : n ≡ entriesIn kind (getD row manyPlace 0)) where
+  left-read : read format bytes 0 ≡ after (c .values) (read (entries (entryFields * n) st) bytes at)
+  left-read =
+      let m : st .left ≡ entryFields * n = s .many ∙ ap (λ (k : ℕ). entryFields * k) (sym en) in
+      c .found
+      ∙ ap (λ (g : Grammar). after (c .values) (read g bytes at))
+      (rest-late st (omega (arith, a .its-place)) ∙ ap (λ (k : ℕ). entries k st) m)
+
+  passed : entriesFault bytes at (numberBits kind) (numberLeast kind) n ≡ 0 → Passed bytes kind n st at
+  passed z =
+      by-equal n 0
+      (none-passed bytes kind n st at)
+      (λ d. entries-passed bytes (said-keyed s (omega (arith, en))) n st a at z)
+
+  wrong :
+      {f : ℕ}
+      → f ≡ entriesFault bytes at (numberBits kind) (numberLeast kind) n
+      → (f ≡ 0 → ⊥)
+      → read (entries (entryFields * n) st) bytes at ≡ fault f
+  wrong e d =
+      by-equal n 0
+      (λ z. absurd (d (e ∙ sym (entries-end bytes at (numberBits kind) (numberLeast kind) n z))))
+      (λ g. entries-wrong bytes (said-keyed s (omega (arith, en))) n st a at e d)
+
+  -- they are few, and near
+  pub rest-asked :
+      {width least : ℕ}
+      → width ≡ numberBits kind
+      → least ≡ numberLeast kind
+      → width ≤ 32
+      → EntriesAt at width least n
+  rest-asked {width} {least} ew el h =
+      let few : n ≤ mostEntries = omega (arith, en, said-few s) in
+      let wide : keyBits + width ≤ 44 = omega arith in
+      record {
+        near = omega (arith, mul-le-mul few wide, c .near, a .its-place);
+        narrow = h;
+        masked = λ k d. ew ∙ said-keyed s (omega (arith, en)) .masked (λ z. d (el ∙ z));
+      }
+
+  module _ {width least f : ℕ} (ew : width ≡ numberBits kind) (el : least ≡ numberLeast kind)
+      (ef : f ≡ restFault bytes at width least n) where
+    e : f ≡ restFault bytes at (numberBits kind) (numberLeast kind) n
+    e = ef ∙ ap₂ (λ (x y : ℕ). restFault bytes at x y n) ew el
+
+    pub rest-refused : (f ≡ 0 → ⊥) → fault f ≡ read format bytes 0
+    unfolding restFault after
+    rest-refused d =
+        sym
+        (left-read
+        ∙ ap (after (c .values))
+        (by-equal (entriesFault bytes at (numberBits kind) (numberLeast kind) n) 0
+        (λ z.
+        let p = passed z in
+        p .found ∙ ap (after (p .values)) (end-reads bytes (at + n * (keyBits + numberBits kind)) (e ∙ first-right _ _ z) .1 d))
+        (λ g. wrong (e ∙ first-left _ _ g) d)))
+
+    -- all eight are kept
+    row-whole : row ≡ take fixedFields (c .values)
+    row-whole =
+        let l : length (c .values) ≡ fixedFields = c .many ∙ a .its-place in
+        ext-getD 0 row (take fixedFields (c .values)) (c .eight ∙ sym (length-take-le fixedFields (c .values) (omega arith)))
+        (λ j k.
+        let m : j < fixedFields = omega (arith, c .eight) in
+        c .kept j (omega (arith, a .its-place)) ∙ sym (getD-take fixedFields (c .values) j 0 m))
+
+    pub rest-read : f ≡ 0 → record { fault = 0; fields = fixedFields + entryFields * n; fixed = row } ≡ scanOf (read format bytes 0)
+    unfolding restFault after scanOf
+    rest-read z =
+        let q = first-none (entriesFault bytes at (numberBits kind) (numberLeast kind) n) _ (sym e ∙ z) in
+        let p = passed (q .0) in
+        let us = p .values ++ [] in
+        let l : length (c .values) ≡ fixedFields = c .many ∙ a .its-place in
+        let m : length (c .values ++ us) ≡ fixedFields + entryFields * n =
+        length-append (c .values) us ∙ omega (arith, l, length-append (p .values) [], p .many) in
+        let t : take fixedFields (c .values ++ us) ≡ take fixedFields (c .values) =
+        take-append-le fixedFields (c .values) us (omega arith) in
+        let all : read format bytes 0 ≡ got (c .values ++ us) =
+        left-read
+        ∙ ap (after (c .values)) (p .found
+        ∙ ap (after (p .values)) (end-reads bytes (at + n * (keyBits + numberBits kind)) refl .0 (q .1))) in
+        (λ j. record { fault = 0; fields = sym m j; fixed = (row-whole ∙ sym t) j }) ∙ ap scanOf (sym all)
