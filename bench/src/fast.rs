@@ -1,5 +1,6 @@
-//! A codec of frames written for speed alone, as what the machine can do: a frame without entries is one 64-bit number, entries are
-//! moved by whole 64-bit words. `frame_speed` holds the proved codec against it; it answers as the exported functions do.
+//! A codec of frames written for speed alone, as what the machine can do: a frame without entries is one 64-bit number (a set has nine bits
+//! more), entries are moved by whole 64-bit words. `frame_speed` holds the proved codec against it; it answers as the exported functions
+//! do.
 
 use ffi::frame::Parts;
 use frames::lent::Fixed;
@@ -14,14 +15,24 @@ const fn refusal(number: u64) -> Parts {
 }
 
 /// Bits ahead of the entries, or of a frame that has none.
-const BITS: [u32; 13] = [0, 57, 13, 41, 21, 13, 26, 25, 45, 13, 21, 13, 21];
+const BITS: [u32; 13] = [0, 73, 13, 41, 21, 13, 26, 25, 61, 13, 21, 13, 21];
 /// Kinds whose target is a server, as bits.
 const TO_SERVER: u32 = 1 << 1 | 1 << 2 | 1 << 7 | 1 << 8 | 1 << 9 | 1 << 10;
-/// Bits of an entry of kinds 6, 10 and 12: a key of 12, and a tag, a setpoint or a mask.
+/// Bits of an entry of kinds 6, 10 and 12: a key of 12, of kind 10 a badge of 16, and a tag, a setpoint or a mask.
 const KEYS: u32 = 20;
-const ALL: u32 = 44;
+const ALL: u32 = 60;
 const LOG: u32 = 28;
 const KEY: u32 = 12;
+/// The bits of a badge in an entry of so many.
+const fn badge_bits(width: u32) -> u32 {
+    if width == ALL {
+        16
+    } else {
+        0
+    }
+}
+/// Bytes of a set: 8, and two with the setpoint's last nine bits.
+const SET: usize = 10;
 
 /// Up to 8 bytes from the front, as the highest bytes of a number.
 #[inline(always)]
@@ -48,9 +59,18 @@ fn field(word: u64, at: u32, width: u32) -> u64 {
     word << at >> (64 - width)
 }
 
+/// 64 bits from a place on; those behind the end are 0.
+#[inline(always)]
+fn bits_at(bytes: &[u8], at: usize) -> u64 {
+    let (rest, within) = (&bytes[at / 8..], at % 8);
+    // The ninth byte has the last bits, where there are any.
+    let ninth = rest.get(8).map_or(0, |&byte| u64::from(byte) << within >> 8);
+    front(rest) << within | ninth
+}
+
 /// Reads a frame; its entries go to the front of the slices.
 #[inline(never)]
-pub fn read(bytes: &[u8], keys: &mut [u32], numbers: &mut [u32]) -> Parts {
+pub fn read(bytes: &[u8], keys: &mut [u32], badges: &mut [u32], numbers: &mut [u32]) -> Parts {
     let word = front(bytes);
     let kind = field(word, 0, 4) as u32;
     let (client, target) = (field(word, 4, 4), field(word, 8, 5));
@@ -62,14 +82,21 @@ pub fn read(bytes: &[u8], keys: &mut [u32], numbers: &mut [u32]) -> Parts {
         return refusal(11);
     }
     let server = if to_server { target } else { 0 };
-    let head =
-        |tag: u64, count: u64, owner: u64| u64::from(kind) << 40 | client << 32 | server << 24 | tag << 16 | count << 8 | owner;
+    let target = u64::from(kind) << 56 | client << 48 | server << 40;
+    let head = |tag: u64, count: u64, owner: u64| target | tag << 32 | count << 24 | owner << 16;
     let (head, tail) = match kind {
         2 | 5 | 9 | 11 => (head(0, 0, 0), 0),
-        1 | 3 => {
-            let (count, owner) = (field(word, 13, 8), field(word, 21, 4));
-            let number = if kind == 1 { field(word, 25, 32) } else { field(word, 25, 16) };
-            if count == 0 || owner != client || (kind == 3 && number == 0) {
+        1 => {
+            let (count, owner, badge) = (field(word, 13, 8), field(word, 21, 4), field(word, 25, 16));
+            let last = u64::from(u16::from_be_bytes([bytes[SET - 2], bytes[SET - 1]]));
+            if count == 0 || owner != client || bytes.len() != SET || last % 128 != 0 {
+                return refusal(11);
+            }
+            return Parts { head: head(0, count, owner) | badge, tail: 512 * field(word, 41, 23) + last / 128 };
+        }
+        3 => {
+            let (count, owner, number) = (field(word, 13, 8), field(word, 21, 4), field(word, 25, 16));
+            if count == 0 || owner != client || number == 0 {
                 return refusal(11);
             }
             (head(0, count, owner), number)
@@ -88,13 +115,13 @@ pub fn read(bytes: &[u8], keys: &mut [u32], numbers: &mut [u32]) -> Parts {
             }
             (head(0, count, owner), 0)
         }
-        8 => (head(0, 0, 0), field(word, 13, 32)),
+        8 => (head(0, 0, 0) | field(word, 13, 16), field(word, 29, 32)),
         6 => {
             let (tag, entries) = (field(word, 13, 8), field(word, 21, 5) as usize);
             if entries.wrapping_sub(1) >= 16 {
                 return refusal(11);
             }
-            return match read_entries::<KEYS>(bytes, 26, entries, keys, numbers) {
+            return match read_entries::<KEYS>(bytes, 26, entries, keys, badges, numbers) {
                 Ok(()) => Parts { head: head(tag, 0, 0), tail: (entries as u64) << 32 },
                 Err(parts) => parts,
             };
@@ -102,9 +129,9 @@ pub fn read(bytes: &[u8], keys: &mut [u32], numbers: &mut [u32]) -> Parts {
         _ => {
             let entries = field(word, 13, 8) as usize + 1;
             let done = if kind == 10 {
-                read_entries::<ALL>(bytes, 21, entries, keys, numbers)
+                read_entries::<ALL>(bytes, 21, entries, keys, badges, numbers)
             } else {
-                read_entries::<LOG>(bytes, 21, entries, keys, numbers)
+                read_entries::<LOG>(bytes, 21, entries, keys, badges, numbers)
             };
             return match done {
                 Ok(()) => Parts { head: head(0, 0, 0), tail: (entries as u64) << 32 },
@@ -119,13 +146,14 @@ pub fn read(bytes: &[u8], keys: &mut [u32], numbers: &mut [u32]) -> Parts {
     Parts { head, tail }
 }
 
-/// Entries of WIDTH bits each: a key, and a number behind it; of a log it is a mask.
+/// Entries of WIDTH bits each: a key, of versions a badge, and a number behind it; of a log it is a mask.
 #[inline(always)]
 fn read_entries<const WIDTH: u32>(
     bytes: &[u8],
     first: u32,
     entries: usize,
     keys: &mut [u32],
+    badges: &mut [u32],
     numbers: &mut [u32],
 ) -> Result<(), Parts> {
     let bits = first as usize + WIDTH as usize * entries;
@@ -133,40 +161,52 @@ fn read_entries<const WIDTH: u32>(
         return Err(fault(bytes));
     }
     // The entries stay here until the whole frame was found good.
-    let (mut found_keys, mut found_numbers) = ([MaybeUninit::<u32>::uninit(); 256], [MaybeUninit::<u32>::uninit(); 256]);
+    let [mut found_keys, mut found_badges, mut found_numbers] = [[MaybeUninit::<u32>::uninit(); 256]; 3];
     let mut broken = false;
+    let badge = badge_bits(WIDTH);
     let mut one = |entry: usize, word: u64| {
         let (count, owner) = (field(word, 0, 8) as u32, field(word, 8, 4) as u32);
-        let number = field(word, KEY, WIDTH - KEY) as u32;
+        let number = field(word, KEY + badge, WIDTH - KEY - badge) as u32;
         broken |= (count == 0 && owner != 0) || (WIDTH == LOG && number == 0);
         found_keys[entry & 255].write(256 * count + owner);
+        if WIDTH == ALL {
+            found_badges[entry & 255].write(field(word, KEY, 16) as u32);
+        }
         found_numbers[entry & 255].write(number);
     };
-    // As many as have eight bytes to load from where they start.
-    let whole = match (bytes.len() * 8).checked_sub(64 + first as usize) {
+    // As many as have eight bytes to load from where they start, or nine where an entry can reach so far.
+    let loaded = if WIDTH > 57 { 72 } else { 64 };
+    let whole = match (bytes.len() * 8).checked_sub(loaded + first as usize) {
         Some(room) => (room / WIDTH as usize + 1).min(entries),
         None => 0,
     };
     let mut at = first as usize;
     for entry in 0..whole {
-        let word = unsafe { bytes.as_ptr().add(at / 8).cast::<[u8; 8]>().read() };
-        one(entry, u64::from_be_bytes(word) << (at % 8));
+        let place = unsafe { bytes.as_ptr().add(at / 8) };
+        let mut word = u64::from_be_bytes(unsafe { place.cast::<[u8; 8]>().read() }) << (at % 8);
+        if WIDTH > 57 {
+            word |= u64::from(unsafe { place.add(8).read() }) << (at % 8) >> 8;
+        }
+        one(entry, word);
         at += WIDTH as usize;
     }
     for entry in whole..entries {
-        one(entry, front(&bytes[at / 8..]) << (at % 8));
+        one(entry, bits_at(bytes, at));
         at += WIDTH as usize;
     }
     let padding = if bits.is_multiple_of(8) { 0 } else { bytes[bits / 8] << (bits % 8) };
     if broken || bytes.len() != bits.div_ceil(8) || padding != 0 {
         return Err(refusal(11));
     }
-    if keys.len() < entries || numbers.len() < entries {
+    if keys.len() < entries || (WIDTH == ALL && badges.len() < entries) || numbers.len() < entries {
         return Err(refusal(12));
     }
     // The first entries were written above.
     unsafe {
         keys.as_mut_ptr().copy_from_nonoverlapping(found_keys.as_ptr().cast(), entries);
+        if WIDTH == ALL {
+            badges.as_mut_ptr().copy_from_nonoverlapping(found_badges.as_ptr().cast(), entries);
+        }
         numbers.as_mut_ptr().copy_from_nonoverlapping(found_numbers.as_ptr().cast(), entries);
     }
     Ok(())
@@ -181,7 +221,7 @@ fn fault(bytes: &[u8]) -> Parts {
         if at + width > 8 * bytes.len() {
             return Err(10);
         }
-        let value = front(&bytes[at / 8..]) << (at % 8) >> (64 - width);
+        let value = field(bits_at(bytes, at), 0, width as u32);
         at += width;
         Ok(value)
     };
@@ -196,7 +236,11 @@ fn fault(bytes: &[u8]) -> Parts {
             1 | 3 => {
                 check(next(8)? >= 1)?;
                 check(next(4)? == client)?;
-                next(if kind == 1 { 32 } else { 16 })?;
+                // A badge and a setpoint, or a mask.
+                next(16)?;
+                if kind == 1 {
+                    next(32)?;
+                }
             }
             4 => check(next(8)? >= 1)?,
             7 => {
@@ -204,6 +248,7 @@ fn fault(bytes: &[u8]) -> Parts {
                 check(count > 0 || owner == 0)?;
             }
             8 => {
+                next(16)?;
                 next(32)?;
             }
             6 | 10 | 12 => {
@@ -217,6 +262,9 @@ fn fault(bytes: &[u8]) -> Parts {
                 for _ in 0..entries {
                     let (count, owner) = (next(8)?, next(4)?);
                     check(count > 0 || owner == 0)?;
+                    if kind == 10 {
+                        next(16)?;
+                    }
                     let number = next(match kind {
                         6 => 8,
                         10 => 32,
@@ -234,8 +282,8 @@ fn fault(bytes: &[u8]) -> Parts {
 
 /// Writes a message to the front of the bytes: its length.
 #[inline(never)]
-pub fn write(fixed: &Fixed, keys: &[u32], numbers: &[u32], bytes: &mut [u8]) -> u64 {
-    let Fixed { kind, client, server, key: (count, owner), number, tag, entries } = *fixed;
+pub fn write(fixed: &Fixed, keys: &[u32], badges: &[u32], numbers: &[u32], bytes: &mut [u8]) -> u64 {
+    let Fixed { kind, client, server, key: (count, owner), badge, number, tag, entries } = *fixed;
     let to_server = TO_SERVER >> (kind & 31) & 1 == 1;
     if kind.wrapping_sub(1) >= 12 || client > 15 || (to_server && server > 15) {
         return refused(11);
@@ -245,28 +293,38 @@ pub fn write(fixed: &Fixed, keys: &[u32], numbers: &[u32], bytes: &mut [u8]) -> 
     let key = u64::from(count) << 43 | u64::from(owner) << 39;
     let word = match kind {
         2 | 5 | 9 | 11 => head,
-        1 | 3 => {
-            if count == 0 || owner != client || (kind == 3 && number.wrapping_sub(1) >= 65535) {
+        1 => {
+            if count == 0 || owner != client {
                 return refused(11);
             }
-            head | key | u64::from(number) << if kind == 1 { 7 } else { 23 }
+            let Some(room) = bytes.first_chunk_mut::<SET>() else { return refused(12) };
+            let word = head | key | u64::from(badge) << 23 | u64::from(number) >> 9;
+            room[..SET - 2].copy_from_slice(&word.to_be_bytes());
+            room[SET - 2..].copy_from_slice(&((number << 7) as u16).to_be_bytes());
+            return SET as u64;
+        }
+        3 => {
+            if count == 0 || owner != client || number.wrapping_sub(1) >= 65535 {
+                return refused(11);
+            }
+            head | key | u64::from(number) << 23
         }
         4 if tag == 0 => return refused(11),
         4 => head | u64::from(tag) << 43,
         7 if owner > 15 || (count == 0 && owner != 0) => return refused(11),
         7 => head | key,
-        8 => head | u64::from(number) << 19,
+        8 => head | u64::from(badge) << 35 | u64::from(number) << 3,
         6 => {
             let head = head | u64::from(tag) << 43 | u64::from(entries) << 38;
-            return write_entries::<KEYS, 16>(head, 26, entries as usize, keys, numbers, bytes);
+            return write_entries::<KEYS, 16>(head, 26, entries as usize, keys, badges, numbers, bytes);
         }
         10 => {
             let head = head | u64::from(entries.wrapping_sub(1) & 255) << 43;
-            return write_entries::<ALL, 256>(head, 21, entries as usize, keys, numbers, bytes);
+            return write_entries::<ALL, 256>(head, 21, entries as usize, keys, badges, numbers, bytes);
         }
         _ => {
             let head = head | u64::from(entries.wrapping_sub(1) & 255) << 43;
-            return write_entries::<LOG, 256>(head, 21, entries as usize, keys, numbers, bytes);
+            return write_entries::<LOG, 256>(head, 21, entries as usize, keys, badges, numbers, bytes);
         }
     };
     let length = BITS[kind as usize].div_ceil(8) as usize;
@@ -304,15 +362,18 @@ fn write_entries<const WIDTH: u32, const MOST: usize>(
     first: u32,
     entries: usize,
     keys: &[u32],
+    badges: &[u32],
     numbers: &[u32],
     bytes: &mut [u8],
 ) -> u64 {
-    if entries.wrapping_sub(1) >= MOST || keys.len() < entries || numbers.len() < entries {
+    let badged = if WIDTH == ALL { entries } else { 0 };
+    if entries.wrapping_sub(1) >= MOST || keys.len() < entries || badges.len() < badged || numbers.len() < entries {
         return refused(11);
     }
-    let (keys, numbers) = (&keys[..entries], &numbers[..entries]);
+    let (keys, badges, numbers) = (&keys[..entries], &badges[..badged], &numbers[..entries]);
     let key_fault = |key: u32| (key >> 16 != 0) | ((key & 255) as i32 > 15) | (key != 0 && (key as i32) < 256);
     let mut broken = keys.iter().fold(false, |broken, &key| broken | key_fault(key));
+    broken |= badges.iter().fold(0, |all, &badge| all | badge) >> 16 != 0;
     if WIDTH != ALL {
         let number_fault = |number: u32| (WIDTH == LOG && number == 0) | (number >> (WIDTH - KEY) != 0);
         broken |= numbers.iter().fold(false, |broken, &number| broken | number_fault(number));
@@ -327,7 +388,19 @@ fn write_entries<const WIDTH: u32, const MOST: usize>(
     let (mut accumulator, mut used, mut at) = (head, first, 0);
     for entry in 0..entries {
         let key = u64::from(keys[entry] >> 8) << 4 | u64::from(keys[entry] & 15);
-        let value = key << (WIDTH - KEY) | u64::from(numbers[entry]);
+        let mut value = key << (WIDTH - KEY) | u64::from(numbers[entry]);
+        if WIDTH == ALL {
+            value |= u64::from(badges[entry]) << 32;
+        }
+        if WIDTH == ALL && used + WIDTH > 64 {
+            // Behind bits that are no whole byte it may not fit: its first bits fill the word up, and the others begin the next.
+            let over = used + WIDTH - 64;
+            room[at..at + 8].copy_from_slice(&(accumulator | value >> over).to_be_bytes());
+            at += 8;
+            accumulator = value << (64 - over);
+            used = over;
+            continue;
+        }
         if used + WIDTH > 64 {
             // More than 64 bits are still to come, so eight bytes fit; those that are not whole yet are stored again.
             room[at..at + 8].copy_from_slice(&accumulator.to_be_bytes());
@@ -351,18 +424,30 @@ mod tests {
     use ffi::frame::{answer, taken_apart};
     use frames::lent::{read_lent, write_lent};
 
-    /// Writes and reads as the independent codec does: each frame that is measured, each of its prefixes, each of its bits turned.
+    /// Writes and reads as the independent codec does: each frame that is measured, each of its prefixes, each of its bits turned; and with
+    /// a place too few in each slice.
     #[test]
     fn as_the_independent_codec() {
         for (kind, entries) in FRAMES {
-            let (fixed, (keys, numbers)) = (message(kind, entries), entries_beside(kind, entries));
+            let (fixed, [keys, badges, numbers]) = (message(kind, entries), entries_beside(kind, entries));
             let (mut bytes, mut other) = (vec![0xA5; MOST_BYTES], vec![0xA5; MOST_BYTES]);
-            let length = write_lent(&fixed, &keys, &numbers, &mut other).expect("a good message");
-            assert_eq!(answer(write(&fixed, &keys, &numbers, &mut bytes)), Ok(length as u64));
+            let length = write_lent(&fixed, &keys, &badges, &numbers, &mut other).expect("a good message");
+            assert_eq!(answer(write(&fixed, &keys, &badges, &numbers, &mut bytes)), Ok(length as u64));
             assert_eq!(bytes, other);
             let frame = &bytes[..length];
             (0..length).for_each(|cut| alike(&frame[..cut]));
             alike(frame);
+            for slice in 0..3 {
+                let mut places = [entries as usize; 3];
+                places[slice] = places[slice].saturating_sub(1);
+                alike_with(frame, places);
+                let short = [&keys, &badges, &numbers].map(|words| &words[..words.len().saturating_sub(1)]);
+                let mut lent = [&keys[..], &badges, &numbers];
+                lent[slice] = short[slice];
+                let [keys, badges, numbers] = lent;
+                let expected = write_lent(&fixed, keys, badges, numbers, &mut other).map(|length| length as u64);
+                assert_eq!(answer(write(&fixed, keys, badges, numbers, &mut vec![0; MOST_BYTES])), expected);
+            }
             for bit in 0..8 * length {
                 let mut turned = frame.to_vec();
                 turned[bit / 8] ^= 128 >> (bit % 8);
@@ -372,9 +457,16 @@ mod tests {
     }
 
     fn alike(bytes: &[u8]) {
-        let [mut keys, mut numbers, mut other_keys, mut other_numbers] = [7, 8, 7, 8].map(|word| vec![word; 256]);
-        let message = taken_apart(read(bytes, &mut keys, &mut numbers));
-        assert_eq!(message, read_lent(bytes, &mut other_keys, &mut other_numbers));
-        assert_eq!((keys, numbers), (other_keys, other_numbers));
+        alike_with(bytes, [256; 3]);
+    }
+
+    fn alike_with(bytes: &[u8], places: [usize; 3]) {
+        let mut lent = places.map(|number| vec![7; number]);
+        let mut other = lent.clone();
+        let [keys, badges, numbers] = &mut lent;
+        let message = taken_apart(read(bytes, keys, badges, numbers));
+        let [keys, badges, numbers] = &mut other;
+        assert_eq!(message, read_lent(bytes, keys, badges, numbers));
+        assert_eq!(lent, other);
     }
 }

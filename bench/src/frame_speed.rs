@@ -11,7 +11,7 @@ use frames::message::to_server;
 use model::Refusal;
 
 /// More than any frame has.
-pub const MOST_BYTES: usize = 1500;
+pub const MOST_BYTES: usize = 2000;
 /// Each kind, those with a list of entries with few and with the most.
 pub const FRAMES: [(u32, u32); 17] = [
     (1, 0),
@@ -38,8 +38,8 @@ pub trait Codec: Copy {
     const NAME: &'static str;
     type Written;
     type Read;
-    fn write(self, fixed: &Fixed, keys: &[u32], numbers: &[u32], bytes: &mut [u8]) -> Self::Written;
-    fn read(self, bytes: &[u8], keys: &mut [u32], numbers: &mut [u32]) -> Self::Read;
+    fn write(self, fixed: &Fixed, keys: &[u32], badges: &[u32], numbers: &[u32], bytes: &mut [u8]) -> Self::Written;
+    fn read(self, bytes: &[u8], keys: &mut [u32], badges: &mut [u32], numbers: &mut [u32]) -> Self::Read;
     fn length(written: Self::Written) -> Option<usize>;
     fn message(read: Self::Read) -> Option<Fixed>;
 }
@@ -53,12 +53,12 @@ impl Codec for Rust {
     type Written = Result<usize, Refusal>;
     type Read = Result<Fixed, Refusal>;
 
-    fn write(self, fixed: &Fixed, keys: &[u32], numbers: &[u32], bytes: &mut [u8]) -> Self::Written {
-        write_lent(fixed, keys, numbers, bytes)
+    fn write(self, fixed: &Fixed, keys: &[u32], badges: &[u32], numbers: &[u32], bytes: &mut [u8]) -> Self::Written {
+        write_lent(fixed, keys, badges, numbers, bytes)
     }
 
-    fn read(self, bytes: &[u8], keys: &mut [u32], numbers: &mut [u32]) -> Self::Read {
-        read_lent(bytes, keys, numbers)
+    fn read(self, bytes: &[u8], keys: &mut [u32], badges: &mut [u32], numbers: &mut [u32]) -> Self::Read {
+        read_lent(bytes, keys, badges, numbers)
     }
 
     fn length(written: Self::Written) -> Option<usize> {
@@ -79,12 +79,12 @@ impl Codec for Fast {
     type Written = u64;
     type Read = Parts;
 
-    fn write(self, fixed: &Fixed, keys: &[u32], numbers: &[u32], bytes: &mut [u8]) -> u64 {
-        fast::write(fixed, keys, numbers, bytes)
+    fn write(self, fixed: &Fixed, keys: &[u32], badges: &[u32], numbers: &[u32], bytes: &mut [u8]) -> u64 {
+        fast::write(fixed, keys, badges, numbers, bytes)
     }
 
-    fn read(self, bytes: &[u8], keys: &mut [u32], numbers: &mut [u32]) -> Parts {
-        fast::read(bytes, keys, numbers)
+    fn read(self, bytes: &[u8], keys: &mut [u32], badges: &mut [u32], numbers: &mut [u32]) -> Parts {
+        fast::read(bytes, keys, badges, numbers)
     }
 
     fn length(written: u64) -> Option<usize> {
@@ -101,12 +101,12 @@ impl Codec for FrameLibrary {
     type Written = u64;
     type Read = Parts;
 
-    fn write(self, fixed: &Fixed, keys: &[u32], numbers: &[u32], bytes: &mut [u8]) -> u64 {
-        self.number(fixed, keys, numbers, bytes)
+    fn write(self, fixed: &Fixed, keys: &[u32], badges: &[u32], numbers: &[u32], bytes: &mut [u8]) -> u64 {
+        self.number(fixed, keys, badges, numbers, bytes)
     }
 
-    fn read(self, bytes: &[u8], keys: &mut [u32], numbers: &mut [u32]) -> Parts {
-        self.parts(bytes, keys, numbers)
+    fn read(self, bytes: &[u8], keys: &mut [u32], badges: &mut [u32], numbers: &mut [u32]) -> Parts {
+        self.parts(bytes, keys, badges, numbers)
     }
 
     fn length(written: u64) -> Option<usize> {
@@ -170,6 +170,7 @@ fn table<C: Codec>(
 pub struct Lent {
     pub fixed: Fixed,
     pub keys: Vec<u32>,
+    pub badges: Vec<u32>,
     pub numbers: Vec<u32>,
     pub frame: Vec<u8>,
 }
@@ -177,36 +178,48 @@ pub struct Lent {
 impl Lent {
     pub fn of(library: FrameLibrary, kind: u32, entries: u32) -> Lent {
         let fixed = message(kind, entries);
-        let (keys, numbers) = entries_beside(kind, entries);
+        let [keys, badges, numbers] = entries_beside(kind, entries);
         let mut frame = vec![0; MOST_BYTES];
-        let length = library.write(&fixed, &keys, &numbers, &mut frame).expect("a good message");
+        let length = library.write(&fixed, &keys, &badges, &numbers, &mut frame).expect("a good message");
         frame.truncate(length);
-        Lent { fixed, keys, numbers, frame }
+        Lent { fixed, keys, badges, numbers, frame }
     }
 }
 
 /// Nanoseconds: written by the proved crate and by the other side, and read by both.
 fn one_kind<C: Codec>(library: FrameLibrary, other: C, kind: u32, entries: u32) -> [f64; 4] {
-    let Lent { fixed, keys, numbers, frame } = Lent::of(library, kind, entries);
-    let (mut keys_read, mut numbers_read) = (vec![0; 256], vec![0; 256]);
-    assert_eq!(C::message(other.read(&frame, &mut keys_read, &mut numbers_read)), Some(fixed));
-    assert_eq!(library.read(&frame, &mut keys_read, &mut numbers_read), Ok(fixed));
+    let Lent { fixed, keys, badges, numbers, frame } = Lent::of(library, kind, entries);
+    let [mut keys_read, mut badges_read, mut numbers_read] = places();
+    let [mut other_keys, mut other_badges, mut other_numbers] = places();
+    let message = C::message(other.read(&frame, &mut other_keys, &mut other_badges, &mut other_numbers));
+    assert_eq!(message, Some(fixed));
+    assert_eq!(library.read(&frame, &mut keys_read, &mut badges_read, &mut numbers_read), Ok(fixed));
     let (mut bytes, mut other_bytes) = (vec![0; MOST_BYTES], vec![0; MOST_BYTES]);
-    assert_eq!(C::length(other.write(&fixed, &keys, &numbers, &mut other_bytes)), Some(frame.len()));
+    assert_eq!(C::length(other.write(&fixed, &keys, &badges, &numbers, &mut other_bytes)), Some(frame.len()));
     assert_eq!(other_bytes[..frame.len()], frame);
 
-    let other_write = || other.write(&fixed, &keys, &numbers, &mut other_bytes);
-    let (written, other_written) = beside(|| library.number(&fixed, &keys, &numbers, &mut bytes), other_write);
-    let (mut other_keys, mut other_numbers) = (vec![0; 256], vec![0; 256]);
-    let other_reading = || other.read(&frame, &mut other_keys, &mut other_numbers);
-    let (read, other_read) = beside(|| library.parts(&frame, &mut keys_read, &mut numbers_read), other_reading);
+    let other_write = || other.write(&fixed, &keys, &badges, &numbers, &mut other_bytes);
+    let (written, other_written) = beside(|| library.number(&fixed, &keys, &badges, &numbers, &mut bytes), other_write);
+    let other_reading = || other.read(&frame, &mut other_keys, &mut other_badges, &mut other_numbers);
+    let reading = || library.parts(&frame, &mut keys_read, &mut badges_read, &mut numbers_read);
+    let (read, other_read) = beside(reading, other_reading);
     [written, other_written, read, other_read]
 }
 
-/// Entries of the kind, as key words and numbers.
-pub fn entries_beside(kind: u32, entries: u32) -> (Vec<u32>, Vec<u32>) {
+/// Places for the entries of any frame: keys, badges and numbers.
+pub fn places() -> [Vec<u32>; 3] {
+    [(); 3].map(|_| vec![0; 256])
+}
+
+/// Entries of the kind, as key words, badges and numbers; only versions have badges.
+pub fn entries_beside(kind: u32, entries: u32) -> [Vec<u32>; 3] {
     let most = if kind == 6 { 255 } else { 65535 };
-    (0..entries).map(|entry| (256 * (1 + entry % 255) + entry % 16, 1 + entry * 251 % most)).unzip()
+    let badges = if kind == 10 { entries } else { 0 };
+    [
+        (0..entries).map(|entry| 256 * (1 + entry % 255) + entry % 16).collect(),
+        (0..badges).map(|entry| 65535 - entry * 257).collect(),
+        (0..entries).map(|entry| 1 + entry * 251 % most).collect(),
+    ]
 }
 
 /// A good message of the kind.
@@ -216,10 +229,11 @@ pub fn message(kind: u32, entries: u32) -> Fixed {
         fixed.server = 13;
     }
     match kind {
-        1 | 3 => (fixed.key, fixed.number) = ((200, 9), 51_234),
+        1 => (fixed.key, fixed.badge, fixed.number) = ((200, 9), 40_961, 51_234),
+        3 => (fixed.key, fixed.number) = ((200, 9), 51_234),
         4 | 6 => fixed.tag = 77,
         7 => fixed.key = (200, 3),
-        8 => fixed.number = 3_000_000_000,
+        8 => (fixed.badge, fixed.number) = (40_961, 3_000_000_000),
         _ => {}
     }
     fixed

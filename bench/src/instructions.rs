@@ -3,7 +3,7 @@
 //! `count` runs under callgrind and has it write a file for each figure; `report` makes tables of the files. `bench/run instructions` does both.
 
 use crate::check;
-use crate::frame_speed::{Codec, Fast, Lent, Rust, FRAMES, MOST_BYTES};
+use crate::frame_speed::{places, Codec, Fast, Lent, Rust, FRAMES, MOST_BYTES};
 use crate::load_speed::{self, PRESSES as PRESSES_OF_LOADS};
 use crate::plans::{in_turn, Plan};
 use crate::sides::{self, Meter};
@@ -154,15 +154,15 @@ fn count_frames<C: Codec>(table: &str, library: FrameLibrary, other: C) {
     }
 }
 
-fn count_written<C: Codec>(table: &str, row: &str, side: C, Lent { fixed, keys, numbers, .. }: &Lent) {
+fn count_written<C: Codec>(table: &str, row: &str, side: C, Lent { fixed, keys, badges, numbers, .. }: &Lent) {
     let mut bytes = vec![0; MOST_BYTES];
-    C::length(counted(|| side.write(fixed, keys, numbers, &mut bytes))).expect("a good message");
+    C::length(counted(|| side.write(fixed, keys, badges, numbers, &mut bytes))).expect("a good message");
     written(table, row, &format!("{}, written", C::NAME), 1);
 }
 
 fn count_read<C: Codec>(table: &str, row: &str, side: C, Lent { fixed, frame, .. }: &Lent) {
-    let (mut keys, mut numbers) = (vec![0; 256], vec![0; 256]);
-    assert_eq!(C::message(counted(|| side.read(frame, &mut keys, &mut numbers))), Some(*fixed));
+    let [mut keys, mut badges, mut numbers] = places();
+    assert_eq!(C::message(counted(|| side.read(frame, &mut keys, &mut badges, &mut numbers))), Some(*fixed));
     written(table, row, &format!("{}, read", C::NAME), 1);
 }
 

@@ -28,9 +28,9 @@ impl Plan {
     }
 
     pub fn begin_write(&mut self, client: usize, mask: u32) {
-        let first = 1000 * self.steps.len() as u32;
+        let (badge, first) = (self.steps.len() as u16, 1000 * self.steps.len() as u32);
         let setpoints = (0..self.store.servers.len() as u32).map(|server| first + server).collect();
-        self.take(Step::BeginWrite { client: client as u32, mask, setpoints });
+        self.take(Step::BeginWrite { client: client as u32, mask, badge, setpoints });
     }
 
     pub fn begin_read(&mut self, client: usize, mask: u32) {

@@ -1,8 +1,8 @@
 """Loads: document 02, E2, worked out from its words on a press of document 01.
 
-The press here knows no setpoints, keys or tags. In a run from an opening they refuse no step: a station gets at most 255 versions behind
-the opening's and the log as many entries, so that none is full; a key that is asked for is held; and the steps do not come near 2^32. So
-what is acceptable goes by who is idle, how many have begun and what is on the links."""
+The press here knows no setpoints, keys, tags or badges. In a run from an opening they refuse no step: a station gets at most 255 versions
+behind the opening's and the log as many entries, so that none is full; a key that is asked for is held; and the steps do not come near
+2^32. So what is acceptable goes by who is idle, how many have begun and what is on the links."""
 
 HEAD = 16
 MOST_BEGUN = 255
@@ -55,8 +55,8 @@ class Press:
             self.counts[panel] += 1
             self.rounds[panel] = [stations, [HEAD]]
             self.send(panel)
-            # "A WRITE's setpoints are all its count."
-            return " ".join(map(str, ["W", panel, everywhere, *[self.counts[panel]] * self.k]))
+            # "A WRITE's setpoints are all its count"; of badges "the load gives 0"
+            return " ".join(map(str, ["W", panel, everywhere, 0, *[self.counts[panel]] * self.k]))
         if letter == "R":
             self.reads += 1
             # A asks the stations; B the head and then the stations; C all together
@@ -83,7 +83,10 @@ def made(seed, length, method, k, p):
 
 
 # The worked example: method B, k 2, p 2, the first twelve steps from seed 0.
-EXAMPLE = ["O 2 2 2 0 0", "W 0 3 1 1", "R 1 3", "> 1 16", "< 1 16", "> 0 1", "> 1 1", "> 1 0", "< 1 0", "< 0 1", "< 1 1", "> 0 0", "< 0 0"]
+EXAMPLE = [
+    "O 2 2 2 0 0", "W 0 3 0 1 1", "R 1 3", "> 1 16", "< 1 16", "> 0 1", "> 1 1",
+    "> 1 0", "< 1 0", "< 0 1", "< 1 1", "> 0 0", "< 0 0",
+]
 
 # The line asked for, and what is printed where it is no load.
 ASKED = {

@@ -19,10 +19,15 @@ def read_mask(turn, panel):
     return (turn + 2 * panel) % 7 + 1
 
 
+def badge(turn):
+    """From the greatest down."""
+    return 65536 - turn
+
+
 def begin_all(script, turn, setpoints):
     """Gives the begin step of the WRITE, and those of the READs by panel."""
     written = " ".join(map(str, setpoints))
-    began = script.say(f"W {WRITER} {write_mask(turn)} {written}", "ok")
+    began = script.say(f"W {WRITER} {write_mask(turn)} {badge(turn)} {written}", "ok")
     return began, [script.say(f"R {panel} {read_mask(turn, panel)}", "ok") for panel in range(READERS)]
 
 
@@ -51,7 +56,7 @@ def refuse_more(script):
     script.say("R 0 0", "no 6")
     script.say("R 0 65537", "no 6")
     script.say("R 6 1", "no 3")
-    began = script.say("W 0 1 9 9 9", "ok")
+    began = script.say("W 0 1 0 9 9 9", "ok")
     script.say("R 0 1", "no 5")
     script.say("> 0 0", "ok")
     script.say("< 0 0", "next")
@@ -61,13 +66,14 @@ def refuse_more(script):
 
 def made():
     script = Script()
-    before = [(10, 0), (20, 0), (30, 0)]
+    before = [(10, 0, 0), (20, 0, 0), (30, 0, 0)]
     script.say("O 2 3 6 10 20 30", "ok")
     writes, reads = [], []
     for turn in range(1, ROUNDS + 1):
         setpoints = [1000 * turn + station for station in range(3)]
         # round r's WRITE is tag r
-        after = [(setpoints[station], turn) if station in stations(write_mask(turn)) else before[station] for station in range(3)]
+        written = [(setpoint, turn, badge(turn)) for setpoint in setpoints]
+        after = [written[station] if station in stations(write_mask(turn)) else before[station] for station in range(3)]
         write_began, began = begin_all(script, turn, setpoints)
         for panel in EARLY:
             script.say(f"> {panel} 16", "ok")
@@ -98,8 +104,8 @@ def made():
 def register(writes, reads, last):
     """By tag, its WRITE first, then its READs by begin step."""
     spans = writes + [last]
-    rows = [(tag, 0, f"W {tag} {WRITER} {tag} {began} {ended}") for tag, (began, ended) in enumerate(writes, 1)]
-    rows.append((ROUNDS + 1, 0, f"W {ROUNDS + 1} 0 1 {last[0]} {last[1]}"))
+    rows = [(tag, 0, f"W {tag} {WRITER} {tag} {began} {ended} {badge(tag)}") for tag, (began, ended) in enumerate(writes, 1)]
+    rows.append((ROUNDS + 1, 0, f"W {ROUNDS + 1} 0 1 {last[0]} {last[1]} 0"))
     for tag, ended, panel, began in reads:
         assert overlap(began, ended, spans) == 1
         rows.append((tag, began, f"R {tag} {panel} {began} {ended} 1"))

@@ -36,8 +36,9 @@ def stations(mask):
 
 
 def shown(tag, mask, values):
-    """A READ's answer: its tag, then station=setpoint@tag, stations rising; values are (setpoint, tag of the WRITE that put it there)"""
-    return f"read {tag} " + " ".join("{}={}@{}".format(station, *values[station]) for station in stations(mask))
+    """A READ's answer: its tag, then station=setpoint@tag#badge, stations rising; values are (setpoint, tag, badge), the last two of the
+    WRITE that put it there, or 0"""
+    return f"read {tag} " + " ".join("{}={}@{}#{}".format(station, *values[station]) for station in stations(mask))
 
 
 def overlap(begin, end, writes):

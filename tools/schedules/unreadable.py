@@ -1,14 +1,15 @@
-"""Every way in which a line is unreadable, among lines that are read though they look odd. A READ is under way all the time: 13 changes nothing.
+"""Every way in which a line is unreadable, among lines that are read though they look odd. A READ is under way all the time: 13 changes
+nothing.
 
-"lines of at most 200 bytes before byte 10", "Decimal to 4,294,967,295, no leading zero but 0 itself, one space between; setpoints are none or more
-numbers", "A line of any other shape, an empty or longer one too, is no step and gives 13."."""
+"lines of at most 200 bytes before byte 10", "Decimal to 4,294,967,295, no leading zero but 0 itself, one space between; setpoints are none
+or more numbers", "A line of any other shape, an empty or longer one too, is no step and gives 13."; of badges, "above 65,535 giving 13"."""
 
 from script import Script
 
 
 def write_of_bytes(count):
     """A readable WRITE by panel 1 of just so many bytes: setpoints of one digit, and a last one that fills up."""
-    line = b"W 1 1" + b" 7" * 96
+    line = b"W 1 1 0" + b" 7" * 95
     return line + b" " + b"1" * (count - len(line) - 1)
 
 
@@ -18,6 +19,8 @@ NOT_READABLE_BEFORE_AN_OPENING = [
     b"O 2",
     b"O 2 2",
     b"R 0 1 5",
+    b"W 1 1",
+    b"W 1 1 65536 1200 30",
 ]
 
 SHAPES = [
@@ -39,7 +42,7 @@ SHAPES = [
     b"1",
     b"1 1",
     b"r 1 1",
-    b"w 1 1 1200 30",
+    b"w 1 1 0 1200 30",
     b"o 2 2 2 1200 30",
     b"X 1 1",
     b"RR 1 1",
@@ -60,6 +63,8 @@ SHAPES = [
     b"W",
     b"W ",
     b"W 1",
+    b"W 1 1",
+    b"W 1 1 ",
     b"R",
     b"R ",
     b"R 1",
@@ -89,7 +94,8 @@ SHAPES = [
     b"R 1 00",
     b"R 00 1",
     b"> 0 016",
-    b"W 1 1 007 30",
+    b"W 1 1 007 1200 30",
+    b"W 1 1 0 007 30",
     b"O 2 2 2 0 00",
     b"R 1 4294967296",
     b"R 1 4294967297",
@@ -98,8 +104,18 @@ SHAPES = [
     b"R 1 9999999999",
     b"R 1 18446744073709551617",
     b"R 1 340282366920938463463374607431768211457",
-    b"W 1 1 4294967296 30",
+    b"W 1 1 0 4294967296 30",
     b"O 2 2 2 1200 4294967296",
+    # badges "above 65,535", whatever the rest of the line would be refused by
+    b"W 1 1 65536 1200 30",
+    b"W 1 1 65543 1200 30",
+    b"W 1 1 131071 1200 30",
+    b"W 1 1 4294901760 1200 30",
+    b"W 1 1 4294967295 1200 30",
+    b"W 1 1 4294967296 1200 30",
+    b"W 1 1 65536",
+    b"W 0 0 65536",
+    b"W 2 1 65536 1200 30",
     # bytes that are no text at all
     b"R 1 1\x00",
     b"R 1 \x001",
@@ -113,7 +129,7 @@ SHAPES = [
 TOO_LONG = [
     write_of_bytes(201),
     write_of_bytes(202),
-    b"W 1 1" + b" 7" * 98,
+    b"W 1 1 0" + b" 7" * 97,
     b"O 2 2 2" + b" 7" * 97,
     b"R 1 1" + b" " * 196,
     b" " * 201,
@@ -135,14 +151,16 @@ ODD_AND_READABLE = [
     (b"R 1 4294967295", "no 6"),
     (b"R 4294967295 1", "no 3"),
     (b"> 4294967295 4294967295", "no 3"),
-    (b"W 1 1", "no 6"),
+    (b"W 1 1 0", "no 6"),
+    (b"W 1 1 65535", "no 6"),
+    (b"W 1 4 65535 1200 30", "no 6"),
     (b"O 2 2 2", "no 1"),
     (b"O 0 0 0", "no 1"),
     (b"O 4294967295 4294967295 4294967295 4294967295", "no 1"),
-    # 197 to 200 bytes: up to 97 setpoints stand behind `W panel mask`, and up to 96 behind `O method k p`
+    # 197 to 200 bytes: up to 96 setpoints stand behind `W panel mask badge`, as behind `O method k p`
     (write_of_bytes(199), "no 6"),
     (write_of_bytes(200), "no 6"),
-    (b"W 1 1" + b" 7" * 97, "no 6"),
+    (b"W 1 1 0" + b" 7" * 96, "no 6"),
     (b"O 2 2 2" + b" 7" * 95, "no 1"),
     (b"O 2 2 2" + b" 7" * 96, "no 1"),
 ]
@@ -152,7 +170,7 @@ def made():
     script = Script()
     for line in NOT_READABLE_BEFORE_AN_OPENING:
         script.say(line, "no 13")
-    script.say(b"W 1 1" + b" 7" * 97, "no 2")
+    script.say(b"W 1 1 0" + b" 7" * 96, "no 2")
     script.say("O 2 2 2 0 4294967295", "ok")  # step 1: 0 itself and the greatest setpoint
     script.say("R 0 3", "ok")  # step 2
     for line in SHAPES:
@@ -169,6 +187,6 @@ def made():
     script.say("> 0 1", "ok")  # step 6
     script.say("< 0 1", "wait")  # step 7
     # "A line ends at byte 10 or at the end of the text"
-    script.say("< 0 0", "read 0 0=0@0 1=4294967295@0")  # step 8
+    script.say("< 0 0", "read 0 0=0@0#0 1=4294967295@0#0")  # step 8
     script.register = ["R 0 0 2 8 0"]
     return script.stdin(last_byte=b""), script.stdout()

@@ -26,8 +26,13 @@ def setpoints_of(number):
     return [4294967295 - STATIONS * number - station for station in range(STATIONS)]
 
 
-def begin(panel, mask, setpoints):
-    return " ".join(str(word) for word in ["W", panel, mask, *setpoints])
+def badge_of(number):
+    """No two alike, and the last is the greatest: 65,535."""
+    return 257 * number
+
+
+def begin(panel, mask, badge, setpoints):
+    return " ".join(str(word) for word in ["W", panel, mask, badge, *setpoints])
 
 
 def deliver_setpoints(script, panel, mask):
@@ -45,17 +50,17 @@ def deliver_acknowledgements(script, panel, mask):
 def refuse_more(script):
     """All 255 have begun, whoever asks; a lower number comes first where there is one."""
     for panel in range(16):
-        script.say(begin(panel, 1, setpoints_of(256)), "no 7")
-    script.say(begin(0, 0, setpoints_of(256)), "no 6")
-    script.say(begin(0, 65537, setpoints_of(256)), "no 6")
-    script.say(begin(0, 1, setpoints_of(256)[1:]), "no 6")
-    script.say(begin(16, 1, setpoints_of(256)), "no 3")
+        script.say(begin(panel, 1, panel, setpoints_of(256)), "no 7")
+    script.say(begin(0, 0, 0, setpoints_of(256)), "no 6")
+    script.say(begin(0, 65537, 0, setpoints_of(256)), "no 6")
+    script.say(begin(0, 1, 0, setpoints_of(256)[1:]), "no 6")
+    script.say(begin(16, 1, 0, setpoints_of(256)), "no 3")
 
 
 def read_all(script, panel, tag, values):
     """A READ of all stations: 7 is not for READs while none has begun. Gives its begin and end step."""
     began = script.say(f"R {panel} {ALL}", "ok")
-    script.say(begin(panel, 1, setpoints_of(256)), "no 5")
+    script.say(begin(panel, 1, 0, setpoints_of(256)), "no 5")
     targets = [*range(STATIONS), 16]
     for target in targets:
         script.say(f"> {panel} {target}", "ok")
@@ -66,13 +71,14 @@ def read_all(script, panel, tag, values):
 
 def made():
     script = Script()
-    values = [(1000 + station, 0) for station in range(STATIONS)]
-    script.say(f"O 3 {STATIONS} 16 " + " ".join(str(setpoint) for setpoint, _ in values), "ok")
+    values = [(1000 + station, 0, 0) for station in range(STATIONS)]
+    script.say(f"O 3 {STATIONS} 16 " + " ".join(str(setpoint) for setpoint, _, _ in values), "ok")
     spans, rows = [], []
     for turn in range(ROUNDS):
         numbers = {panel: AT_ONCE * turn + place + 1 for place, panel in enumerate(PANELS)}
         masks = {panel: mask_of(numbers[panel]) for panel in PANELS}
-        begun = {panel: script.say(begin(panel, masks[panel], setpoints_of(numbers[panel])), "ok") for panel in PANELS}
+        lines = {panel: begin(panel, masks[panel], badge_of(numbers[panel]), setpoints_of(numbers[panel])) for panel in PANELS}
+        begun = {panel: script.say(lines[panel], "ok") for panel in PANELS}
         for panel in PANELS:
             deliver_setpoints(script, panel, masks[panel])
         for panel in reversed(PANELS):
@@ -83,14 +89,14 @@ def made():
             script.say(f"> {panel} 16", "ok")
             # the row: each WRITE in the order of tags sets its stations' values
             for station in stations(masks[panel]):
-                values[station] = (setpoints_of(numbers[panel])[station], tags[panel])
+                values[station] = (setpoints_of(numbers[panel])[station], tags[panel], badge_of(numbers[panel]))
         for panel in PANELS:
             ended = script.say(f"< {panel} 16", f"write {tags[panel]}")
             spans.append((begun[panel], ended))
-            rows.append((tags[panel], f"W {tags[panel]} {panel} {turn + 1} {begun[panel]} {ended}"))
+            rows.append((tags[panel], f"W {tags[panel]} {panel} {turn + 1} {begun[panel]} {ended} {badge_of(numbers[panel])}"))
             if turn == ROUNDS - 1 and panel == PANELS[0]:
                 # this panel has ended, the others have not: begun WRITEs count, and not finished ones
-                script.say(begin(panel, 1, setpoints_of(256)), "no 7")
+                script.say(begin(panel, 1, 0, setpoints_of(256)), "no 7")
     refuse_more(script)
     began, ended = read_all(script, 2, LAST, values)
     # by tag; the READ's tag is the last, so that it stands behind all

@@ -27,15 +27,18 @@ module _ (q mask : ℕ) (t : Tables) where
     pub by-c : (m ≡ 1 → ⊥) → (m ≡ 2 → ⊥) → x ≡ askingByC q mask t → x ≡ askingBy (methodOf t) q mask t
     by-c a b f = rw (← d, ne-eqb m 1 a, ne-eqb m 2 b) f
 
-  pub read-begun : {counts clients links reads : List ℕ} → asking clients links ≡ askingBy (methodOf t) q mask t → counts ≡ begunCounts readsField (t .counts) →
-      reads ≡ begunRecords readsField (t .counts) q mask (t .reads) → tablesOf counts clients links (t .keys) (t .values) (t .log) (t .writes) reads ≡ begunRead q mask t
+  pub read-begun : {counts clients links reads : List ℕ} → asking clients links ≡ askingBy (methodOf t) q mask t →
+      counts ≡ begunCounts readsField (t .counts) → reads ≡ begunRecords readsField (t .counts) q mask 0 (t .reads) →
+      tablesOf counts clients links (t .keys) (t .values) (t .log) (t .writes) reads ≡ begunRead q mask t
   unfolding begunRead
   read-begun e c r = rw (c, r, ← e)
 
 -- a WRITE: count and place are what was read
-pub write-begun : (q mask : ℕ) (setpoints : List ℕ) (t : Tables) {counts clients links writes : List ℕ} {n place : ℕ} {key : Key} → length setpoints ≡ serversOf t → n ≡ countOf t q → place ≡ writesOf t →
-    clients ≡ startedWrite q mask place (n + 1) setpoints (length setpoints) (t .clients) → key ≡ keyOf (n + 1) q → links ≡ sentSets q mask key setpoints (length setpoints) (t .links) →
-    counts ≡ begunCounts writesField (t .counts) → writes ≡ begunRecords writesField (t .counts) q (n + 1) (t .writes) →
-    tablesOf counts clients links (t .keys) (t .values) (t .log) writes (t .reads) ≡ begunWrite q mask setpoints t
+pub write-begun : (q mask badge : ℕ) (setpoints : List ℕ) (t : Tables) {counts clients links writes : List ℕ} {n place : ℕ} {key : Key} →
+    length setpoints ≡ serversOf t → n ≡ countOf t q → place ≡ writesOf t →
+    clients ≡ startedWrite q mask place (n + 1) setpoints (length setpoints) (t .clients) →
+    key ≡ keyOf (n + 1) q → links ≡ sentSets q mask key badge setpoints (length setpoints) (t .links) →
+    counts ≡ begunCounts writesField (t .counts) → writes ≡ begunRecords writesField (t .counts) q (n + 1) badge (t .writes) →
+    tablesOf counts clients links (t .keys) (t .values) (t .log) writes (t .reads) ≡ begunWrite q mask badge setpoints t
 unfolding begunWrite
-write-begun q mask setpoints t k n p c y l s w = rw (c, l, y, s, w, n, p, k)
+write-begun q mask badge setpoints t k n p c y l s w = rw (c, l, y, s, w, n, p, k)

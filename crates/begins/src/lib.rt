@@ -9,7 +9,7 @@ ghost use Rattle.tables.specs.Tables.{tablesOf};
 ghost use Rattle.tables.specs.Rows.{HasRow};
 ghost use Rattle.tables.specs.Layout.{clientWidth, tagsField, countWords, countAt, methodField, serversField, readsField};
 ghost use Rattle.tables.specs.Links.{linkWidth, linkRow, HasLinks, putLink};
-ghost use Rattle.rules.specs.Common.{startedClient, request};
+ghost use Rattle.rules.specs.Common.{startedClient, request, setRequest};
 ghost use Rattle.coordinator.specs.Log.{HasEntry};
 ghost use Rattle.coordinator.specs.Latest.{latestTagAt};
 ghost use Rattle.rules.specs.Words.{keepWord};
@@ -36,14 +36,15 @@ pub fn start_client(clients: &mut [u32], client: usize, state: u32, mask: u32, p
     clients::put_client_word(clients, client, clients::RECORD, place);
 }
 
-// A request with a key and a number.
-pub fn send(links: &mut [u32], client: usize, target: usize, key: Key, number: u32)
+// A request with a key, a badge and a number.
+fn send_badged(links: &mut [u32], client: usize, target: usize, key: Key, badge: u32, number: u32)
     requires { ⌜ HasRow linkWidth (now links) (linkRow client target) ⌝ }
-    ensures { λ _. ⌜ now (links .exit) ≡ putLink (now (links .entry)) client target (request key number) ⌝ }
+    ensures { λ _. ⌜ now (links .exit) ≡ putLink (now (links .entry)) client target (setRequest key badge number) ⌝ }
 {
     let contents = Contents {
         key: key,
         number: number,
+        badge: badge,
     };
     links::put_link(
         links,
@@ -55,24 +56,42 @@ pub fn send(links: &mut [u32], client: usize, target: usize, key: Key, number: u
     );
 }
 
-// A request with a key and a number to a server, if the mask has it.
-fn send_masked(links: &mut [u32], client: usize, mask: u32, key: Key, number: u32, server: usize)
+// A request with a key and a number.
+pub fn send(links: &mut [u32], client: usize, target: usize, key: Key, number: u32)
+    requires { ⌜ HasRow linkWidth (now links) (linkRow client target) ⌝ }
+    ensures { λ _. ⌜ now (links .exit) ≡ putLink (now (links .entry)) client target (request key number) ⌝ }
+{
+    send_badged(links, client, target, key, 0, number);
+}
+
+// A request with a key, a badge and a number to a server, if the mask has it.
+fn send_masked(
+    links: &mut [u32],
+    client: usize,
+    mask: u32,
+    key: Key,
+    badge: u32,
+    number: u32,
+    server: usize,
+)
     requires { ⌜ (HasRow linkWidth (now links) (linkRow client server)) × (server < 16) ⌝ }
-    ensures { λ _. ⌜ now (links .exit) ≡ cond (hasServer mask server) (putLink (now (links .entry)) client server (request key number)) (now (links .entry)) ⌝ }
+    ensures { λ _. ⌜ now (links .exit)
+        ≡ cond (hasServer mask server) (putLink (now (links .entry)) client server (setRequest key badge number)) (now (links .entry)) ⌝ }
 {
     if keys::has_server(mask, server) {
-        send(links, client, server, key, number);
+        send_badged(links, client, server, key, badge, number);
     }
 }
 
 // A set request to each masked server.
-fn send_sets(links: &mut [u32], client: usize, mask: u32, key: Key, setpoints: &[u32])
+fn send_sets(links: &mut [u32], client: usize, mask: u32, key: Key, badge: u32, setpoints: &[u32])
     requires { ⌜ (HasLinks (now links) client) × (length (now setpoints) ≤ 16) ⌝ }
-    ensures { λ _. ⌜ now (links .exit) ≡ sentSets client mask key (now (setpoints .entry)) (length (now (setpoints .entry))) (now (links .entry)) ⌝ }
+    ensures { λ _. ⌜ now (links .exit)
+        ≡ sentSets client mask key badge (now (setpoints .entry)) (length (now (setpoints .entry))) (now (links .entry)) ⌝ }
 {
     let mut server = 0;
     while server < setpoints.len() {
-        send_masked(links, client, mask, key, setpoints[server], server);
+        send_masked(links, client, mask, key, badge, setpoints[server], server);
         server += 1;
     }
 }
@@ -131,7 +150,7 @@ fn send_asks(links: &mut [u32], client: usize, mask: u32, servers: usize)
 {
     let mut server = 0;
     while server < servers {
-        send_masked(links, client, mask, Key::OPENING, 0, server);
+        send_masked(links, client, mask, Key::OPENING, 0, 0, server);
         server += 1;
     }
 }
@@ -168,12 +187,14 @@ pub fn begin_write(
     writes: &mut [u32],
     client: usize,
     mask: u32,
+    badge: u32,
     setpoints: &[u32],
 )
     requires { ⌜ WriteReady (now counts) (now clients) (now links) (now writes) client (now setpoints) ⌝ }
     ensures { λ _. ⌜ ((keys values log reads : List ℕ) →
         tablesOf (now (counts .exit)) (now (clients .exit)) (now (links .exit)) keys values log (now (writes .exit)) reads
-        ≡ begunWrite client mask (now (setpoints .entry)) (tablesOf (now (counts .entry)) (now (clients .entry)) (now (links .entry)) keys values log (now (writes .entry)) reads)) ⌝ }
+        ≡ begunWrite client mask badge (now (setpoints .entry))
+        (tablesOf (now (counts .entry)) (now (clients .entry)) (now (links .entry)) keys values log (now (writes .entry)) reads)) ⌝ }
 {
     let count = clients::client_word(clients, client, clients::COUNT) + 1;
     let place = counts::count_at(counts, counts::WRITES);
@@ -183,9 +204,10 @@ pub fn begin_write(
         client,
         mask,
         Key::new(count as u8, client as u8),
+        badge,
         setpoints,
     );
-    history::begin(counts, writes, counts::WRITES, client as u32, count);
+    history::begin(counts, writes, counts::WRITES, client as u32, count, badge);
 }
 
 // A: takes the last tag and its keys from the log, and asks each masked server for its key.
@@ -298,5 +320,5 @@ pub fn begin_read(
         ≡ begunRead client mask (tablesOf (now (counts .entry)) (now (clients .entry)) (now (links .entry)) keys values (now (log .entry)) writes (now (reads .entry)))) ⌝ }
 {
     ask(&*counts, clients, links, log, client, mask);
-    history::begin(counts, reads, counts::READS, client as u32, mask);
+    history::begin(counts, reads, counts::READS, client as u32, mask, 0);
 }

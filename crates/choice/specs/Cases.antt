@@ -7,7 +7,7 @@ use native.Mathlib.Omega.{arith}
 use lib.ListN.{length, getD, replicate, getD-replicate}
 use borrow.Author.Tests.{ltb-true}
 use Rattle.ranges.specs.AllLaws.{all-at}
-use Rattle.tables.specs.Layout.{setpointsField, receivedField, tagField, putClientWord}
+use Rattle.tables.specs.Layout.{setpointsField, badgesField, receivedField, tagField, putClientWord}
 use Rattle.tables.specs.Links.{targets}
 use Rattle.keys.specs.declared.Key.{Key}
 use Rattle.keys.specs.Masks.{hasServer}
@@ -15,10 +15,8 @@ use Rattle.server.specs.Held.{firstBearing}
 use Rattle.coordinator.specs.Latest.{latestKey}
 use Rattle.rules.specs.Words.{every, keptWords, laidWords}
 use Rattle.rules.specs.WordsLaws.{kept-same, kept-laid, laid-length, has-every}
-use Rattle.rules.specs.Choice.{hasVersion, serves, qualifies, chosenSetpoint}
+use Rattle.rules.specs.Choice.{hasVersion, serves, qualifies}
 use Rattle.rules.specs.Reply.{receivedIn, forgotten, concludedRow}
-use Rattle.choice.specs.declared.Values.{Values}
-use Rattle.choice.specs.Values.{chosenValues}
 
 -- has is what was asked of the mask, b what was asked of the versions
 module _ (keys log : List ℕ) (mask : ℕ) (received : ℕ → ℕ) (t i : ℕ) {has : Bool} (m : has ≡ hasServer mask i) where
@@ -40,10 +38,9 @@ pub has-wanted : (keys log : List ℕ) (mask : ℕ) (received : ℕ → ℕ) (k 
     qualifies keys log mask received k t ≡ true → i < k → hasServer mask i ≡ true → hasVersion keys log received t i ≡ true
 has-wanted keys log mask received k t i e below b = rw b at (all-at (serves keys log mask received t) k e i below)
 
--- the setpoints chosen are 16
-pub chosen-length : (keys values log : List ℕ) (received : ℕ → ℕ) (mask k t : ℕ) {x : Values} →
-    x ≡ chosenValues keys values log received mask k t → length (x .setpoints) ≡ 16
-chosen-length keys values log received mask k t e = rw e (laid-length (hasServer mask) (chosenSetpoint keys values log received t) k)
+-- a row of 16 has 16 words still, once words are laid into it
+pub row-long : (mask : ℕ) (word : ℕ → ℕ) (k : ℕ) {row : List ℕ} → row ≡ laidWords (hasServer mask) word k → 16 ≡ length row
+row-long mask word k e = rw (e, laid-length (hasServer mask) word k)
 
 -- a row of zeros kept for every target is the n forgotten
 pub none-kept : (q : ℕ) (clients : List ℕ) →
@@ -53,11 +50,13 @@ none-kept q clients =
     (λ i l. has-every i (omega arith))
     (λ i l e. getD-replicate targets i 0 0 l)
 
--- the row at the end: setpoints laid and kept, the n forgotten, the tag put
-pub row-concluded : (v : ℕ → ℕ) (t q mask k : ℕ) (clients : List ℕ) {laid kept forgot row : List ℕ} → k ≤ 16 →
-    laid ≡ laidWords (hasServer mask) v k →
-    kept ≡ keptWords setpointsField (hasServer mask) (λ i. getD laid i 0) q k clients →
-    forgot ≡ forgotten q kept →
+-- the row at the end: setpoints and badges laid and kept, the n forgotten, the tag put
+pub row-concluded : (v b : ℕ → ℕ) (t q mask k : ℕ) (clients : List ℕ) {setpoints badges kept both forgot row : List ℕ} → k ≤ 16 →
+    setpoints ≡ laidWords (hasServer mask) v k → badges ≡ laidWords (hasServer mask) b k →
+    kept ≡ keptWords setpointsField (hasServer mask) (λ i. getD setpoints i 0) q k clients →
+    both ≡ keptWords badgesField (hasServer mask) (λ i. getD badges i 0) q k kept →
+    forgot ≡ forgotten q both →
     row ≡ putClientWord forgot q tagField t →
-    row ≡ concludedRow v t q mask k clients
-row-concluded v t q mask k clients few l e f r = rw (r, f, e, l, kept-laid setpointsField (hasServer mask) v q k clients few)
+    row ≡ concludedRow v b t q mask k clients
+row-concluded v b t q mask k clients few l m e d f r =
+    rw (r, f, d, e, l, m, kept-laid setpointsField (hasServer mask) v q k clients few, kept-laid badgesField (hasServer mask) b q k _ few)

@@ -3,7 +3,7 @@ use Prim.Native.Nat.{ℕ, _+_, _*_, _≤_, _<_}
 use mathlib.Core.List.{List}
 use lib.ListN.{length}
 use Rattle.tables.specs.Rows.{HasRow}
-use Rattle.tables.specs.Layout.{clientWidth, serverPlaces}
+use Rattle.tables.specs.Layout.{clientWidth, serverPlaces, valueWidth}
 use Rattle.rules.specs.Reply.{receivedIn}
 
 pub record Received (clients keys : List ℕ) (q i : ℕ) : Type 0 where
@@ -12,8 +12,8 @@ pub record Received (clients keys : List ℕ) (q i : ℕ) : Type 0 where
   pub held : serverPlaces * i + receivedIn clients q i ≤ length keys
   pub count : receivedIn clients q i ≤ serverPlaces
 
--- the same of each server, and all its setpoints
+-- the same of each server, and all its badges and setpoints
 pub record ChoiceReady (clients keys values : List ℕ) (q k : ℕ) : Type 0 where
   pub servers : k ≤ 16
   pub received : (i : ℕ) → i < k → Received clients keys q i
-  pub valued : serverPlaces * k ≤ length values
+  pub valued : valueWidth * (serverPlaces * k) ≤ length values

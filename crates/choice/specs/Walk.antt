@@ -14,7 +14,8 @@ use Rattle.ranges.specs.Last.{lastBelow}
 use Rattle.ranges.specs.LastLaws.{last-none, last-here, last-before, last-below, last-same}
 use Rattle.keys.specs.declared.Key.{Key}
 use Rattle.keys.specs.Keys.{keyWord}
-use Rattle.keys.specs.Masks.{hasServer, some-server}
+use Rattle.keys.specs.Masks.{hasServer}
+use Rattle.keys.specs.MaskLaws.{some-server}
 use Rattle.tables.specs.Layout.{entryKey, entryMask}
 use Rattle.server.specs.Held.{firstBearing}
 use Rattle.coordinator.specs.Latest.{wrote, latestTag}

@@ -1,4 +1,4 @@
-// Method C's last reply: the choice of the tag, and the setpoints at it.
+// Method C's last reply: the choice of the tag, and the setpoints and badges at it.
 ghost use mathlib.Core.Path.{_≡_};
 ghost use Prim.Native.Nat.{ℕ, _+_, _*_, _≤_, _<_};
 ghost use lib.Dec.{eqb};
@@ -7,11 +7,13 @@ ghost use Rattle.tables.specs.Rows.{HasRow};
 ghost use mathlib.Core.Bool.{true, cond};
 ghost use Rattle.ranges.specs.Picked.{picked};
 ghost use Rattle.keys.specs.Masks.{hasServer};
-ghost use Rattle.tables.specs.Layout.{clientWidth, logPlaces, entryWidth, serverPlaces, entryKey, entryMask};
+ghost use Rattle.tables.specs.Layout.{clientWidth, logPlaces, entryWidth, serverPlaces, HasValues, entryKey, entryMask};
 ghost use Rattle.coordinator.specs.Log.{HasEntry};
-ghost use Rattle.rules.specs.Choice.{holdsKey, hasVersion, serves, qualifies, chosenTag, chosenSetpoint};
-ghost use Rattle.rules.specs.Reply.{receivedIn, forgotten, concludedRow, chosenTags};
-ghost use Rattle.choice.specs.Values.{chosenValue, chosenValues};
+ghost use Rattle.coordinator.specs.Latest.{latestTagAt};
+ghost use Rattle.rules.specs.Words.{laidOver};
+ghost use Rattle.rules.specs.Choice.{holdsKey, hasVersion, serves, qualifies, chosenTag, chosenSetpoint, chosenBadge};
+ghost use Rattle.rules.specs.Reply.{receivedIn, forgotten, concludedRow};
+ghost use Rattle.choice.specs.Values.{chosenValue};
 ghost use Rattle.choice.specs.Ready.{Received, ChoiceReady};
 ghost use Rattle.keys.specs.Bits.{without, addServer, gathered};
 ghost use Rattle.choice.specs.Holders.{slots, tabled, slotOf, marked, markVersions, markServers, Marked};
@@ -378,16 +380,11 @@ pub fn chosen_tag(
     greatest_tag(clients, keys, log, client, wanted, servers, entries)
 }
 
-// What a READ shows of a server: its setpoint, and the tag of the WRITE that put it there.
+// What a READ shows of a server: its setpoint, and the badge and the tag of the WRITE that put it there.
 pub struct Value {
     pub setpoint: u32,
+    pub badge: u32,
     pub tag: u32,
-}
-
-// What a READ shows of 16 servers, 0 of those it does not show.
-pub struct Values {
-    pub setpoints: [u32; 16],
-    pub tags: [u32; 16],
 }
 
 // A server's value at a tag, as the versions received have it.
@@ -401,7 +398,7 @@ fn chosen_value(
     server: usize,
 ) -> Value
     requires { ⌜ Received (now clients) (now keys) client server ⌝ }
-    requires { ⌜ HasEntry (now log) tag × HasRow serverPlaces (now values) server ⌝ }
+    requires { ⌜ HasEntry (now log) tag × HasValues (now values) server ⌝ }
     requires { ⌜ hasVersion (now keys) (now log) (receivedIn (now clients) client) tag server ≡ true ⌝ }
     ensures { λ r. ⌜ r ≡ chosenValue (now (keys .entry)) (now (values .entry)) (now (log .entry))
         (receivedIn (now (clients .entry)) client) tag server ⌝ }
@@ -412,11 +409,12 @@ fn chosen_value(
     let place = server::find(keys, server, received, key);
     Value {
         setpoint: versions::version_setpoint(values, server, place),
+        badge: versions::version_badge(values, server, place),
         tag: latest.tag,
     }
 }
 
-// The values of the masked servers at a tag that qualifies, 0 elsewhere.
+// The rows get the values of the masked servers at a tag that qualifies. What they have for the other servers stays.
 fn chosen_values(
     clients: &[u32],
     keys: &[u32],
@@ -426,27 +424,31 @@ fn chosen_values(
     mask: u32,
     servers: usize,
     tag: usize,
-) -> Values
+    setpoints: &mut [u32; 16],
+    badges: &mut [u32; 16],
+    tags: &mut [u32; 16],
+)
     requires { ⌜ ChoiceReady (now clients) (now keys) (now values) client servers ⌝ }
     requires { ⌜ HasEntry (now log) tag ⌝ }
     requires { ⌜ qualifies (now keys) (now log) mask (receivedIn (now clients) client) servers tag ≡ true ⌝ }
-    ensures { λ r. ⌜ r ≡ chosenValues (now (keys .entry)) (now (values .entry)) (now (log .entry))
-        (receivedIn (now (clients .entry)) client) mask servers tag ⌝ }
+    ensures setpoints { λ _. ⌜ now (setpoints .exit)
+        ≡ laidOver (hasServer mask) (chosenSetpoint (now (keys .entry)) (now (values .entry)) (now (log .entry))
+        (receivedIn (now (clients .entry)) client) tag) servers (now (setpoints .entry)) ⌝ }
+    ensures badges { λ _. ⌜ now (badges .exit)
+        ≡ laidOver (hasServer mask) (chosenBadge (now (keys .entry)) (now (values .entry)) (now (log .entry))
+        (receivedIn (now (clients .entry)) client) tag) servers (now (badges .entry)) ⌝ }
+    ensures tags { λ _. ⌜ now (tags .exit)
+        ≡ laidOver (hasServer mask) (latestTagAt (now (log .entry)) tag) servers (now (tags .entry)) ⌝ }
 {
-    let mut setpoints = [0u32; 16];
-    let mut tags = [0u32; 16];
     let mut server = 0;
     while server < servers {
         if keys::has_server(mask, server) {
             let value = chosen_value(clients, keys, values, log, client, tag, server);
             setpoints[server] = value.setpoint;
+            badges[server] = value.badge;
             tags[server] = value.tag;
         }
         server += 1;
-    }
-    Values {
-        setpoints: setpoints,
-        tags: tags,
     }
 }
 
@@ -466,7 +468,8 @@ fn forget_received(clients: &mut [u32], client: usize)
     );
 }
 
-// The client's row at the end of a READ under C: the setpoints at the tag, the n forgotten, the tag. It answers the tags that they come from.
+// The client's row at the end of a READ under C: setpoints and badges at the tag, the n forgotten, the tag. A row of 16 gets the tags that
+// they come from.
 pub fn conclude(
     clients: &mut [u32],
     keys: &[u32],
@@ -476,16 +479,22 @@ pub fn conclude(
     mask: u32,
     servers: usize,
     tag: u32,
-) -> [u32; 16]
+    tags: &mut [u32; 16],
+)
     requires { ⌜ ChoiceReady (now clients) (now keys) (now values) client servers ⌝ }
     requires { ⌜ (HasRow clientWidth (now clients) client) × HasEntry (now log) tag ⌝ }
     requires { ⌜ qualifies (now keys) (now log) mask (receivedIn (now clients) client) servers tag ≡ true ⌝ }
     ensures clients { λ _. ⌜ now (clients .exit)
-        ≡ concludedRow (chosenSetpoint (now (keys .entry)) (now (values .entry)) (now (log .entry))
-        (receivedIn (now (clients .entry)) client) tag) tag client mask servers (now (clients .entry)) ⌝ }
-    ensures tags { λ r. ⌜ r ≡ chosenTags (now (log .entry)) mask servers tag ⌝ }
+        ≡ concludedRow
+        (chosenSetpoint (now (keys .entry)) (now (values .entry)) (now (log .entry)) (receivedIn (now (clients .entry)) client) tag)
+        (chosenBadge (now (keys .entry)) (now (values .entry)) (now (log .entry)) (receivedIn (now (clients .entry)) client) tag)
+        tag client mask servers (now (clients .entry)) ⌝ }
+    ensures tags { λ _. ⌜ now (tags .exit)
+        ≡ laidOver (hasServer mask) (latestTagAt (now (log .entry)) tag) servers (now (tags .entry)) ⌝ }
 {
-    let chosen = chosen_values(
+    let mut setpoints = [0u32; 16];
+    let mut badges = [0u32; 16];
+    chosen_values(
         &*clients,
         keys,
         values,
@@ -494,8 +503,10 @@ pub fn conclude(
         mask,
         servers,
         tag as usize,
+        &mut setpoints,
+        &mut badges,
+        tags,
     );
-    let setpoints = chosen.setpoints;
     words::keep_words(
         clients,
         client,
@@ -504,7 +515,7 @@ pub fn conclude(
         servers,
         &setpoints,
     );
+    words::keep_words(clients, client, clients::BADGES, mask, servers, &badges);
     forget_received(clients, client);
     clients::put_client_word(clients, client, clients::TAG, tag);
-    chosen.tags
 }

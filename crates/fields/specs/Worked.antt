@@ -1,11 +1,11 @@
--- Fields of document 01's frame 12 18 09 00 00 03 84 00 followed byte by byte, and what writing leaves.
+-- Fields of the kind 1 card, 12 18 09 00 00 00 00 03 84 00, followed byte by byte, and what writing leaves.
 use mathlib.Core.Path.{_≡_, refl}
 use Prim.Native.Nat.{ℕ}
 use mathlib.Core.List.{List, [], _∷_}
 use Rattle.fields.specs.Parts.{partAt, withPart, putPart, upTo, fieldByBytes, putUpTo, putByBytes}
 
 abbrev frame : List ℕ
-frame = 0x12 ∷ 0x18 ∷ 0x09 ∷ 0x00 ∷ 0x00 ∷ 0x03 ∷ 0x84 ∷ 0x00 ∷ []
+frame = 0x12 ∷ 0x18 ∷ 0x09 ∷ 0x00 ∷ 0x00 ∷ 0x00 ∷ 0x00 ∷ 0x03 ∷ 0x84 ∷ 0x00 ∷ []
 
 abbrev ones : List ℕ
 ones = 0xff ∷ 0xff ∷ 0xff ∷ 0xff ∷ 0xff ∷ []
@@ -17,11 +17,13 @@ pub record Worked : Type 0 where
   pub station : fieldByBytes frame 8 5 ≡ 3
   -- count, bits 13 to 20, in two bytes: 18 % 8 is 0, and of 09 the first 5 bits: 0 * 32 + 9 / 8
   pub count : fieldByBytes frame 13 8 ≡ 1
-  -- setpoint, bits 25 to 56, in five bytes: 00 % 128, then 00, 03 and 84 make 900; of the last 00 the first bit: 900 * 2 + 0
-  pub ahead-of-the-last : upTo frame 3 7 3 ≡ 900
-  pub setpoint : fieldByBytes frame 25 32 ≡ 1800
-  -- a field of several bytes to the edge of the last: 09, 00, 00, 03 from its bit 4 on
-  pub to-the-edge : fieldByBytes frame 20 28 ≡ 0x9000003
+  -- badge, bits 25 to 40, in three bytes
+  pub badge : fieldByBytes frame 25 16 ≡ 0
+  -- setpoint, bits 41 to 72, in five bytes: 00 % 128, then 00, 03 and 84 make 900; of the last 00 the first bit: 900 * 2 + 0
+  pub ahead-of-the-last : upTo frame 5 7 3 ≡ 900
+  pub setpoint : fieldByBytes frame 41 32 ≡ 1800
+  -- a field of several bytes to the edge of the last: 09, 00, 00, 00 from its bit 4 on
+  pub to-the-edge : fieldByBytes frame 20 28 ≡ 0x9000000
   -- no bits; bits behind the end
   pub nothing : fieldByBytes frame 13 0 ≡ 0
   pub behind-the-end : fieldByBytes (0xff ∷ []) 4 8 ≡ 0xf0
@@ -39,6 +41,7 @@ worked =
       panel = refl;
       station = refl;
       count = refl;
+      badge = refl;
       ahead-of-the-last = refl;
       setpoint = refl;
       to-the-edge = refl;

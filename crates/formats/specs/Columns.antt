@@ -5,7 +5,7 @@ use mathlib.Core.List.{List}
 use mathlib.Core.Bool.{true}
 use lib.ListN.{length, getD}
 use Rattle.formats.specs.declared.table.Shape.{Shape}
-use Rattle.formats.specs.Table.{headerBits, fixedFields, mostEntries, valuesFor, hasNumbers}
+use Rattle.formats.specs.Table.{headerBits, fixedFields, mostEntries, valuesFor, hasBadges}
 
 -- how many bytes a frame has: header, body and entries, up to the next byte
 unfoldable pub lengthBy : Shape → ℕ → ℕ
@@ -21,12 +21,13 @@ mostBits = 32 * mostValues
 -- ---- what the functions ask
 
 -- places for the entries of a kind
-pub record Places (kind entries keys numbers : ℕ) : Type 0 where
+pub record Places (kind entries keys badges numbers : ℕ) : Type 0 where
   pub for-keys : entries ≤ keys
-  pub for-numbers : hasNumbers kind ≡ true → entries ≤ numbers
+  pub for-badges : hasBadges kind ≡ true → entries ≤ badges
+  pub for-numbers : entries ≤ numbers
 
 -- the entries are there, and no more than a frame can have
-pub record Packable (fixed keys numbers : List ℕ) (entries : ℕ) : Type 0 where
-  pub eight : length fixed ≡ fixedFields
+pub record Packable (fixed keys badges numbers : List ℕ) (entries : ℕ) : Type 0 where
+  pub all-fixed : length fixed ≡ fixedFields
   pub few : entries ≤ mostEntries
-  pub places : Places (getD fixed 0 0) entries (length keys) (length numbers)
+  pub places : Places (getD fixed 0 0) entries (length keys) (length badges) (length numbers)

@@ -1,51 +1,65 @@
 -- Laws of the entries: the cases as the code meets them, and the values one by one.
 use Prim.Native.Nat.{ℕ, _+_, _*_, _/_, _%_, _<_}
 use mathlib.Core.Path.{_≡_, ap, ap₂, _∙_}
-use mathlib.Core.Bool.{Bool, true, not}
+use mathlib.Core.Bool.{Bool, cond, not}
 use mathlib.Core.List.{List}
 use native.Mathlib.Omega.{arith}
 use lib.Dec.{eqb}
 use lib.ListN.{length, getD, length-append, List·getD-append}
-use borrow.Author.Tests.{ne-eqb}
 use Rattle.ranges.specs.LaidLaws.{built-length}
-use Rattle.formats.specs.Table.{none, numberPlace, entryFields, sorts, valuesFor, rowOf, sortAt, hasNumbers}
+use Rattle.formats.specs.Table.{none, badgePlace, entryFields, sorts, valuesFor, rowOf, sortAt, hasBadges}
 use Rattle.formats.specs.TableLaws.{row-at, sort-small}
 use Rattle.formats.specs.Entries.{entryValue, valuesBy}
 use Rattle.formats.specs.Columns.{Packable}
 
 -- ---- the parts of an entry
 
-module _ (numbered : Bool) (keys numbers : List ℕ) (j : ℕ) where
-  pub part-count : j % entryFields ≡ 0 → getD keys (j / entryFields) 0 / 256 ≡ entryValue numbered keys numbers j
+module _ (badged : Bool) (keys badges numbers : List ℕ) (i : ℕ) where
+  pub part-count : entryValue badged keys badges numbers (entryFields * i) ≡ getD keys i 0 / 256
   unfolding entryValue
-  part-count e = rw e
+  part-count =
+      let r : entryFields * i % entryFields ≡ 0 = omega arith in
+      let q : entryFields * i / entryFields ≡ i = omega arith in
+      rw (r, q)
 
-  pub part-client : j % entryFields ≡ 1 → getD keys (j / entryFields) 0 % 256 ≡ entryValue numbered keys numbers j
+  pub part-client : entryValue badged keys badges numbers (entryFields * i + 1) ≡ getD keys i 0 % 256
   unfolding entryValue
-  part-client e = rw e
+  part-client =
+      let r : (entryFields * i + 1) % entryFields ≡ 1 = omega arith in
+      let q : (entryFields * i + 1) / entryFields ≡ i = omega arith in
+      rw (r, q)
 
-  module _ (c : j % entryFields ≡ 0 → ⊥) (p : j % entryFields ≡ 1 → ⊥) where
-    pub part-number : numbered ≡ true → getD numbers (j / entryFields) 0 ≡ entryValue numbered keys numbers j
-    unfolding entryValue
-    part-number e = rw (ne-eqb (j % entryFields) 0 c, ne-eqb (j % entryFields) 1 p, e)
+  pub part-badge : entryValue badged keys badges numbers (entryFields * i + 2) ≡ cond badged (getD badges i 0) 0
+  unfolding entryValue
+  part-badge =
+      let r : (entryFields * i + 2) % entryFields ≡ 2 = omega arith in
+      let q : (entryFields * i + 2) / entryFields ≡ i = omega arith in
+      rw (r, q)
 
--- whether the entries have numbers, by the row of their kind
-pub numbered-by : (kind : ℕ) {row : List ℕ} → row ≡ rowOf kind → not (eqb (getD row numberPlace 0) none) ≡ hasNumbers kind
-unfolding hasNumbers
-numbered-by kind e =
-    ap (λ (r : List ℕ). not (eqb (getD r numberPlace 0) none)) e ∙ ap (λ (s : ℕ). not (eqb s none)) (row-at kind numberPlace)
+  pub part-number : entryValue badged keys badges numbers (entryFields * i + 3) ≡ getD numbers i 0
+  unfolding entryValue
+  part-number =
+      let r : (entryFields * i + 3) % entryFields ≡ 3 = omega arith in
+      let q : (entryFields * i + 3) / entryFields ≡ i = omega arith in
+      rw (r, q)
+
+-- whether the entries have badges, by the row of their kind
+pub badged-by : (kind : ℕ) {row : List ℕ} → row ≡ rowOf kind → not (eqb (getD row badgePlace 0) none) ≡ hasBadges kind
+unfolding hasBadges
+badged-by kind e =
+    ap (λ (r : List ℕ). not (eqb (getD r badgePlace 0) none)) e ∙ ap (λ (s : ℕ). not (eqb s none)) (row-at kind badgePlace)
 
 -- ---- the values
 
-module _ {fixed keys numbers : List ℕ} {entries : ℕ} (p : Packable fixed keys numbers entries) where
+module _ {fixed keys badges numbers : List ℕ} {entries : ℕ} (p : Packable fixed keys badges numbers entries) where
   abbrev its-values : ℕ → ℕ
-  its-values = entryValue (hasNumbers (getD fixed 0 0)) keys numbers
+  its-values = entryValue (hasBadges (getD fixed 0 0)) keys badges numbers
 
-  pub values-many : length (valuesBy fixed keys numbers entries) ≡ valuesFor entries
-  values-many = length-append fixed _ ∙ ap₂ (λ (a b : ℕ). a + b) (p .eight) (built-length its-values (entryFields * entries))
+  pub values-many : length (valuesBy fixed keys badges numbers entries) ≡ valuesFor entries
+  values-many = length-append fixed _ ∙ ap₂ (λ (a b : ℕ). a + b) (p .all-fixed) (built-length its-values (entryFields * entries))
 
-  pub values-kind : getD (valuesBy fixed keys numbers entries) 0 0 ≡ getD fixed 0 0
-  values-kind = List·getD-append fixed _ 0 0 (omega (arith, p .eight))
+  pub values-kind : getD (valuesBy fixed keys badges numbers entries) 0 0 ≡ getD fixed 0 0
+  values-kind = List·getD-append fixed _ 0 0 (omega (arith, p .all-fixed))
 
 -- each cell of a row is one of the sorts
 module _ (kind : ℕ) {row : List ℕ} (er : row ≡ rowOf kind) where

@@ -29,7 +29,7 @@ within f v = leb (f .least) v && leb v (f .most)
 abbrev pub allowed : State → ℕ → Bool
 allowed st v = within (fieldOf st) v
 
--- behind the field that says how many come three fields for each entry
+-- behind the field that says how many come four fields for each entry
 unfoldable pub leftAfter : State → ℕ → ℕ
 leftAfter st v = cond (eqb (st .place) manyPlace) (entryFields * entriesIn (st .kind) v) (st .left - 1)
 

@@ -71,7 +71,7 @@ module _ (st : State) (v : ℕ) where
   unfolding nextOf
   next-kind d = rw (ne-eqb (st .place) 0 d)
 
--- A state that a frame can be in: the first eight fields are counted down, and the places are those of the table.
+-- A state that a frame can be in: the first nine fields are counted down, and the places are those of the table.
 pub record Goes (st : State) : Type 0 where
   pub counted : st .place < entryPlace → st .left + st .place ≡ entryPlace
   pub inside : st .place ≤ numberPlace

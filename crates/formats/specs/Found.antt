@@ -11,15 +11,16 @@ use Rattle.ranges.specs.SumLaws.{sum-more}
 use Rattle.fields.specs.Bits.{fieldAt}
 use Rattle.formats.specs.Grammar.{Grammar, got, read, good}
 use Rattle.formats.specs.RoundTrip.{field-got, read-good, read-size}
-use Rattle.formats.specs.Table.{manyPlace, entryPlace, ownerPlace, numberPlace, entryFields, kinds}
+use Rattle.formats.specs.declared.table.Behind.{Behind}
+use Rattle.formats.specs.Table.{manyPlace, entryPlace, ownerPlace, badgePlace, numberPlace, entryFields, kinds}
 use Rattle.formats.specs.Table.{headerBits, shapeOf, sortAt, bitsOf}
 use Rattle.formats.specs.Table.{mostOf, entriesIn, entriesSaid, valuesFor}
-use Rattle.formats.specs.TableLaws.{row-right, bitsFrom, columns-small, entries-fit, bits-most, sort-small}
+use Rattle.formats.specs.TableLaws.{row-right, bitsFrom, columns-small, entries-fit}
 use Rattle.formats.specs.Format.{widthOf, nextOf, format}
 use Rattle.formats.specs.FormatLaws.{rest, rest-start, rest-one, at-most}
-use Rattle.formats.specs.Entries.{keyIn, numberIn}
+use Rattle.formats.specs.Entries.{keyIn, badgeIn, numberIn}
 use Rattle.formats.specs.Columns.{mostBits}
-use Rattle.formats.specs.Entry.{countBits, ownerBits, keyBits, numberBits, Keyed, keyed-some}
+use Rattle.formats.specs.Entry.{countBits, ownerBits, keyBits, badgeBits, Slim, is-slim, Keyed, keyed-some, behindOf, entryBits}
 use Rattle.formats.specs.Judging.{key-parts}
 use Rattle.formats.specs.Walk.{stateAt, firstBit, place-early, place-late, walk, walk-place, walk-kind, some-left, values-length}
 use Rattle.formats.specs.Walk.{value-width, value-allowed, entry-first, entries-few, kind-below, frame-bits}
@@ -30,24 +31,30 @@ use Rattle.formats.specs.Walk.{value-width, value-allowed, entry-first, 
 abbrev pub entriesBit : ℕ → ℕ
 entriesBit kind = headerBits + shapeOf kind .body
 
--- the key of entry i as a number, and its number, of entries that begin at a bit and have a key and a number of so many bits each
-abbrev pub keyAt : List ℕ → ℕ → ℕ → ℕ → ℕ
-keyAt bytes first width i =
-    fieldAt bytes (first + i * (keyBits + width)) keyBits / 16 * 256 + fieldAt bytes (first + i * (keyBits + width)) keyBits % 16
+-- where entry i begins, of entries that begin at a bit and have this behind their key
+abbrev pub entryAt : ℕ → Behind → ℕ → ℕ
+entryAt first b i = first + i * entryBits b
 
-abbrev pub numberAt : List ℕ → ℕ → ℕ → ℕ → ℕ
-numberAt bytes first width i = fieldAt bytes (first + i * (keyBits + width) + keyBits) width
+-- its key as a number, its badge, and its number
+abbrev pub keyAt : List ℕ → ℕ → Behind → ℕ → ℕ
+keyAt bytes first b i = fieldAt bytes (entryAt first b i) keyBits / 16 * 256 + fieldAt bytes (entryAt first b i) keyBits % 16
+
+abbrev pub badgeAt : List ℕ → ℕ → Behind → ℕ → ℕ
+badgeAt bytes first b i = fieldAt bytes (entryAt first b i + keyBits) (b .badge)
+
+abbrev pub numberAt : List ℕ → ℕ → Behind → ℕ → ℕ
+numberAt bytes first b i = fieldAt bytes (entryAt first b i + keyBits + b .badge) (b .width)
 
 -- what unpacking n of them asks
-pub record Unpackable (bytes : List ℕ) (first width n : ℕ) : Type 0 where
-  pub narrow : width ≤ 32
-  pub near : first + n * (keyBits + width) ≤ mostBits
-  pub inside : first + n * (keyBits + width) ≤ 8 * length bytes
+pub record Unpackable (bytes : List ℕ) (first : ℕ) (b : Behind) (n : ℕ) : Type 0 where
+  pub slim : Slim b
+  pub near : first + n * entryBits b ≤ mostBits
+  pub inside : first + n * entryBits b ≤ 8 * length bytes
 
 -- ---- laws
 
 -- an entry's bits, of a keyed kind, are the table's
-entry-bits-are : (kind : ℕ) → kind < kinds → Keyed kind → shapeOf kind .entry ≡ keyBits + numberBits kind
+entry-bits-are : (kind : ℕ) → kind < kinds → Keyed kind → shapeOf kind .entry ≡ entryBits (behindOf kind)
 unfolding bitsFrom bitsOf
 entry-bits-are kind h k = omega (arith, row-right kind h .entry, ap bitsOf (k .counts), ap bitsOf (k .owners))
 
@@ -92,7 +99,7 @@ module _ (bytes vs : List ℕ) (r : read format bytes 0 ≡ got vs) where
     kind = getD vs 0 0
 
     abbrev begin : ℕ
-    begin = entriesBit kind + m * (keyBits + numberBits kind)
+    begin = entriesBit kind + m * entryBits (behindOf kind)
 
     begins : firstBit vs (valuesFor m) ≡ begin
     begins = entry-first vs right m ∙ ap (λ (n : ℕ). entriesBit kind + m * n) (entry-bits-are kind (kind-below vs right) k)
@@ -108,7 +115,7 @@ module _ (bytes vs : List ℕ) (r : read format bytes 0 ≡ got vs) where
     next-bit : (d : ℕ) → firstBit vs (valuesFor m + d + 1) ≡ firstBit vs (valuesFor m + d) + widthOf (stateAt vs (valuesFor m + d))
     next-bit d = sum-more (λ j. widthOf (stateAt vs j)) (valuesFor m + d)
 
-    -- its three values
+    -- its four values
     value-at : (d p w : ℕ) → d < entryFields → firstBit vs (valuesFor m + d) ≡ p → widthOf (stateAt vs (valuesFor m + d)) ≡ w
         → getD vs (valuesFor m + d) 0 ≡ fieldAt bytes p w
     value-at d p w h e f = value-stands (valuesFor m + d) (inside d h) ∙ ap₂ (fieldAt bytes) e f
@@ -134,7 +141,12 @@ module _ (bytes vs : List ℕ) (r : read format bytes 0 ≡ got vs) where
         let e : firstBit vs (valuesFor m + 2) ≡ firstBit vs (valuesFor m + 1 + 1) = ap (firstBit vs) (omega arith) in
         omega (arith, next-bit 1, b₁, w₁)
 
-    pub key-found : keyAt bytes (entriesBit kind) (numberBits kind) m ≡ keyIn vs m
+    b₃ : firstBit vs (valuesFor m + 3) ≡ begin + keyBits + badgeBits kind
+    b₃ =
+        let e : firstBit vs (valuesFor m + 3) ≡ firstBit vs (valuesFor m + 2 + 1) = ap (firstBit vs) (omega arith) in
+        omega (arith, next-bit 2, b₂, width-of 2 (omega arith))
+
+    pub key-found : keyAt bytes (entriesBit kind) (behindOf kind) m ≡ keyIn vs m
     key-found =
         let e : valuesFor m + 0 ≡ entryPlace + entryFields * m = omega arith in
         let f : valuesFor m + 1 ≡ ownerPlace + entryFields * m = omega arith in
@@ -144,10 +156,15 @@ module _ (bytes vs : List ℕ) (r : read format bytes 0 ≡ got vs) where
         ap (λ (j : ℕ). getD vs j 0) (sym f) ∙ value-at 1 _ _ (omega arith) b₁ w₁ in
         omega (arith, c, o, key-parts bytes begin)
 
-    pub number-found : numberAt bytes (entriesBit kind) (numberBits kind) m ≡ numberIn vs m
-    number-found =
-        let e : valuesFor m + 2 ≡ numberPlace + entryFields * m = omega arith in
+    pub badge-found : badgeAt bytes (entriesBit kind) (behindOf kind) m ≡ badgeIn vs m
+    badge-found =
+        let e : valuesFor m + 2 ≡ badgePlace + entryFields * m = omega arith in
         sym (ap (λ (j : ℕ). getD vs j 0) (sym e) ∙ value-at 2 _ _ (omega arith) b₂ (width-of 2 (omega arith)))
+
+    pub number-found : numberAt bytes (entriesBit kind) (behindOf kind) m ≡ numberIn vs m
+    number-found =
+        let e : valuesFor m + 3 ≡ numberPlace + entryFields * m = omega arith in
+        sym (ap (λ (j : ℕ). getD vs j 0) (sym e) ∙ value-at 3 _ _ (omega arith) b₃ (width-of 3 (omega arith)))
 
   -- a frame with entries is of a keyed kind
   pub found-keyed : 0 < entriesSaid vs → Keyed (getD vs 0 0)
@@ -170,15 +187,14 @@ module _ (bytes vs : List ℕ) (r : read format bytes 0 ≡ got vs) where
 
   -- and its entries lie within the bytes
   pub found-unpackable : Keyed (getD vs 0 0) → {n : ℕ} → n ≡ entriesSaid vs
-      → Unpackable bytes (entriesBit (getD vs 0 0)) (numberBits (getD vs 0 0)) n
+      → Unpackable bytes (entriesBit (getD vs 0 0)) (behindOf (getD vs 0 0)) n
   found-unpackable k {n} en =
       let kind = getD vs 0 0 in
       let h = kind-below vs right in
-      let s : n * (keyBits + numberBits kind) ≡ entriesSaid vs * shapeOf kind .entry =
+      let s : n * entryBits (behindOf kind) ≡ entriesSaid vs * shapeOf kind .entry =
       ap₂ (λ (i j : ℕ). i * j) en (sym (entry-bits-are kind h k)) in
-      let w = bits-most (sortAt kind numberPlace) (sort-small kind numberPlace) in
       record {
-        narrow = w;
+        slim = is-slim kind;
         near = omega (arith, s, columns-small kind h, entries-fit kind (entriesSaid vs) h (entries-few vs right));
         inside = omega (arith, s, frame-bits vs right, read-size format bytes 0 vs r (omega arith));
       }

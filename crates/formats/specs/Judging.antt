@@ -14,17 +14,19 @@ use Rattle.fields.specs.Bits.{fieldAt}
 use Rattle.fields.specs.FieldLaws.{field-below, field-join}
 use Rattle.formats.specs.declared.state.Field.{Field}
 use Rattle.formats.specs.declared.state.State.{State}
+use Rattle.formats.specs.declared.table.Behind.{Behind}
 use Rattle.formats.specs.Grammar.{Grammar, Outcome, got, fault, ahead, ended, read}
-use Rattle.formats.specs.Table.{manyPlace, entryPlace, ownerPlace, numberPlace, fixedFields}
+use Rattle.formats.specs.Table.{manyPlace, entryPlace, ownerPlace, badgePlace, numberPlace, fixedFields}
 use Rattle.formats.specs.Table.{entryFields, mostEntries, sortAt, bitsOf, mostOf}
 use Rattle.formats.specs.Table.{less, limitsOf, limitRow, rowOf, entriesIn}
-use Rattle.formats.specs.TableLaws.{few-entries, entries-most, entries-by, row-at, limits-width, bits-most, sort-small}
+use Rattle.formats.specs.TableLaws.{few-entries, entries-most, entries-by, row-at}
 use Rattle.formats.specs.Format.{widthOf, fieldOf, within, nextOf, one, entries, format}
 use Rattle.formats.specs.FormatLaws.{rest-late}
 use Rattle.formats.specs.Columns.{mostBits}
-use Rattle.formats.specs.Entry.{countBits, ownerBits, keyBits, maskBits, numberBits, numberLeast, Keyed}
-use Rattle.formats.specs.Entry.{ownerField, Ahead, ahead-next, ahead-again}
-use Rattle.formats.specs.Entry.{count-field, owner-field, number-field, keyed-some}
+use Rattle.formats.specs.Entry.{countBits, ownerBits, keyBits, maskBits, badgeBits, numberBits, numberLeast, Slim, is-slim, Plain}
+use Rattle.formats.specs.Entry.{Keyed}
+use Rattle.formats.specs.Entry.{behindBy, behindOf, behindBits, entryBits, ownerField, Ahead, ahead-next, ahead-again}
+use Rattle.formats.specs.Entry.{count-field, owner-field, badge-field, number-field, keyed-some}
 use Rattle.formats.specs.Reading.{faultAt, endFault, end-reads, scanOf, after, fault-reads, none-reads, Come, Said}
 
 -- ---- definitions
@@ -35,7 +37,7 @@ keyFault bytes at =
     let key = fieldAt bytes at keyBits in
     cond (leb (at + keyBits) (8 * length bytes)) (cond (leb 16 key) 0 (cond (eqb key 0) 0 11)) 10
 
--- 10 where a number is cut short, 11 where it is below its least
+-- what stands behind a key, so many bits: 10 where it is cut short, 11 where it is below its least, which a mask has
 unfoldable pub numberFault : List ℕ → ℕ → ℕ → ℕ → ℕ
 numberFault bytes at width least = cond (leb (at + width) (8 * length bytes)) (cond (leb least (fieldAt bytes at width)) 0 11) 10
 
@@ -58,16 +60,16 @@ restFault bytes at width least n =
 
 -- ---- what the functions ask
 
--- a number of an entry at a bit: one with a least above 0 is a mask
+-- what stands behind the key of an entry, from a bit on: what has a least above 0 is a mask
 pub record Number (at width least : ℕ) : Type 0 where
   pub near : at ≤ mostBits
-  pub narrow : width ≤ 32
+  pub narrow : width ≤ 64
   pub masked : (least ≡ 0 → ⊥) → width ≡ maskBits
 
 -- so many entries from a bit on
 pub record EntriesAt (at width least n : ℕ) : Type 0 where
   pub near : at + n * (keyBits + width) ≤ mostBits
-  pub narrow : width ≤ 32
+  pub narrow : width ≤ 64
   pub masked : 0 < n → (least ≡ 0 → ⊥) → width ≡ maskBits
 
 -- ---- the cases, as the code meets them
@@ -245,41 +247,94 @@ first-left a b d = rw (ne-eqb a 0 d)
 first-right : (a b : ℕ) → a ≡ 0 → first a b ≡ b
 first-right a b z = rw (eq-eqb a 0 z)
 
+first-assoc : (a b c : ℕ) → first (first a b) c ≡ first a (first b c)
+first-assoc a b c = by-equal a 0 (λ z. rw (eq-eqb a 0 z)) (λ d. rw (ne-eqb a 0 d) (rw (ne-eqb a 0 d)))
+
 -- what was read of n entries without a fault
 pub record Passed (bytes : List ℕ) (kind n : ℕ) (st : State) (at : ℕ) : Type 0 where
   pub values : List ℕ
   pub many : length values ≡ entryFields * n
-  pub found : read (entries (entryFields * n) st) bytes at ≡ after values (ended bytes (at + n * (keyBits + numberBits kind)))
+  pub found : read (entries (entryFields * n) st) bytes at ≡ after values (ended bytes (at + n * entryBits (behindOf kind)))
 
 pub none-passed : (bytes : List ℕ) (kind n : ℕ) (st : State) (at : ℕ) → n ≡ 0 → Passed bytes kind n st at
 unfolding entries read after
 none-passed bytes kind n st at z =
-    let e : at ≡ at + 0 * (keyBits + numberBits kind) = omega arith in
+    let e : at ≡ at + 0 * entryBits (behindOf kind) = omega arith in
     rw z (record {
       values = [];
       many = refl;
-      found = ap (ended bytes) e
-          ∙ sym (nothing-after (ended bytes (at + 0 * (keyBits + numberBits kind))));
+      found = ap (ended bytes) e ∙ sym (nothing-after (ended bytes (at + 0 * entryBits (behindOf kind))));
     })
   where
     nothing-after : (o : Outcome) → after [] o ≡ o
     nothing-after (got vs) = refl
     nothing-after (fault f) = refl
 
+-- a field of which each value is right, or each that is not below its least
+module _ (bytes : List ℕ) {sort : ℕ} (p : Plain sort) (at : ℕ) where
+  plain-judged : faultAt bytes at (limitsOf sort) ≡ numberFault bytes at (bitsOf sort) (limitsOf sort .least)
+  unfolding faultAt within numberFault bitsOf
+  plain-judged =
+      let x = fieldAt bytes at (bitsOf sort) in
+      let b : x < limitsOf sort .most + 1 = rw (p .widest) (field-below bytes at (bitsOf sort)) in
+      rw (le-leb x (limitsOf sort .most) (omega arith))
+      (by-test (leb (limitsOf sort .least) x) (λ t. rw t) (λ t. rw t))
+
+-- with no least only what is cut short is at fault, so that two such stand as one
+any-number : (bytes : List ℕ) (at width : ℕ) → numberFault bytes at width 0 ≡ cond (leb (at + width) (8 * length bytes)) 0 10
+unfolding numberFault
+any-number bytes at width = rw (le-leb 0 (fieldAt bytes at width) (omega arith))
+
+cut-once :
+    (bytes : List ℕ) (at v w : ℕ)
+    → first (numberFault bytes at v 0) (numberFault bytes (at + v) w 0) ≡ numberFault bytes at (v + w) 0
+cut-once bytes at v w =
+    let L = 8 * length bytes in
+    rw (any-number bytes at v, any-number bytes (at + v) w, any-number bytes at (v + w))
+    (by-test (leb (at + v) L)
+    (λ s. rw s (ap (λ (n : ℕ). cond (leb n L) 0 10) (let e : at + v + w ≡ at + (v + w) = omega arith in e)))
+    (λ s. rw (s, lt-leb (at + (v + w)) L (omega (arith, leb-false (at + v) L s)))))
+
 module _ (bytes : List ℕ) {kind : ℕ} (k : Keyed kind) where
+  abbrev bb : ℕ
+  bb = badgeBits kind
+
   abbrev w : ℕ
-  w = numberBits kind
+  w = behindBits (behindOf kind)
 
   abbrev least : ℕ
   least = numberLeast kind
 
-  number-judged : (at : ℕ) → faultAt bytes at (limitsOf (sortAt kind numberPlace)) ≡ numberFault bytes at w least
-  unfolding faultAt within numberFault bitsOf
-  number-judged at =
-      let x = fieldAt bytes at w in
-      let b : x < limitsOf (sortAt kind numberPlace) .most + 1 = rw (k .widest) (field-below bytes at w) in
-      rw (le-leb x (limitsOf (sortAt kind numberPlace) .most) (omega arith))
-      (by-test (leb least x) (λ t. rw t) (λ t. rw t))
+  -- a mask has no badge ahead of it
+  mask-judged :
+      (at : ℕ)
+      → bb ≡ 0
+      → first (numberFault bytes at bb 0) (numberFault bytes (at + bb) (numberBits kind) least) ≡ numberFault bytes at w least
+  unfolding numberFault
+  mask-judged at z =
+      let L = 8 * length bytes in
+      let e : at + bb ≡ at = omega arith in
+      let q : w ≡ numberBits kind = omega arith in
+      rw (any-number bytes at bb, e, q)
+      (by-test (leb at L)
+      (λ s. rw s)
+      (λ s. rw (s, lt-leb (at + numberBits kind) L (omega (arith, leb-false at L s)))))
+
+  -- a badge and a number behind a key are judged as one
+  behind-judged :
+      (at : ℕ)
+      → first (faultAt bytes at (limitsOf (sortAt kind badgePlace))) (faultAt bytes (at + bb) (limitsOf (sortAt kind numberPlace)))
+      ≡ numberFault bytes at w least
+  behind-judged at =
+      let f : faultAt bytes at (limitsOf (sortAt kind badgePlace)) ≡ numberFault bytes at bb 0 =
+      plain-judged bytes (k .badges) at ∙ ap (numberFault bytes at bb) (k .any-badge) in
+      ap₂ first f (plain-judged bytes (k .numbers) (at + bb))
+      ∙ by-equal least 0
+      (λ z.
+      ap (λ (l : ℕ). first (numberFault bytes at bb 0) (numberFault bytes (at + bb) (numberBits kind) l)) z
+      ∙ cut-once bytes at bb (numberBits kind)
+      ∙ ap (numberFault bytes at w) (sym z))
+      (λ d. mask-judged at (k .masked d .0))
 
   module _ (n : ℕ) (st : State) (a : Ahead kind entryPlace st) (at : ℕ) where
     abbrev c : ℕ
@@ -288,8 +343,15 @@ module _ (bytes : List ℕ) {kind : ℕ} (k : Keyed kind) where
     abbrev o : ℕ
     o = fieldAt bytes (at + countBits) ownerBits
 
+    -- where its badge stands, and its number
+    abbrev at-badge : ℕ
+    at-badge = at + countBits + ownerBits
+
+    abbrev b : ℕ
+    b = fieldAt bytes at-badge bb
+
     abbrev x : ℕ
-    x = fieldAt bytes (at + countBits + ownerBits) w
+    x = fieldAt bytes (at-badge + bb) (numberBits kind)
 
     abbrev second : State
     second = nextOf st c
@@ -297,26 +359,34 @@ module _ (bytes : List ℕ) {kind : ℕ} (k : Keyed kind) where
     abbrev third : State
     third = nextOf second o
 
-    -- behind it comes the next entry
     abbrev fourth : State
-    fourth = nextOf third x
+    fourth = nextOf third b
+
+    -- behind it comes the next entry
+    abbrev fifth : State
+    fifth = nextOf fourth x
 
     at-second : Ahead kind ownerPlace second
     at-second = ahead-next a c (omega arith) (omega arith)
 
-    at-third : Ahead kind numberPlace third
+    at-third : Ahead kind badgePlace third
     at-third = ahead-next at-second o (omega arith) (omega arith)
 
-    at-fourth : Ahead kind entryPlace fourth
-    at-fourth = ahead-again at-third x
+    at-fourth : Ahead kind numberPlace fourth
+    at-fourth = ahead-next at-third b (omega arith) (omega arith)
+
+    at-fifth : Ahead kind entryPlace fifth
+    at-fifth = ahead-again at-fourth x
 
     key-faults : first (faultAt bytes at (fieldOf st)) (faultAt bytes (at + countBits) (fieldOf second)) ≡ keyFault bytes at
     key-faults = rw (count-field k a, owner-field k a c) (key-judged bytes at)
 
-    number-fault : faultAt bytes (at + countBits + ownerBits) (fieldOf third) ≡ numberFault bytes (at + keyBits) w least
-    number-fault =
-        rw (number-field k at-third)
-        (number-judged (at + countBits + ownerBits) ∙ ap (λ (b : ℕ). numberFault bytes b w least) (omega arith))
+    behind-faults :
+        first (faultAt bytes at-badge (fieldOf third)) (faultAt bytes (at-badge + bb) (fieldOf fourth))
+        ≡ numberFault bytes (at + keyBits) w least
+    behind-faults =
+        rw (badge-field k at-third, number-field k at-fourth)
+        (behind-judged at-badge ∙ ap (λ (p : ℕ). numberFault bytes p w least) (omega arith))
 
     -- each field, where it is right
     module _ (z : faultAt bytes at (fieldOf st) ≡ 0) where
@@ -329,7 +399,7 @@ module _ (bytes : List ℕ) {kind : ℕ} (k : Keyed kind) where
     module _ (z : faultAt bytes (at + countBits) (fieldOf second) ≡ 0) where
       owner-read :
           (next : ℕ → Grammar)
-          → read (one second next) bytes (at + countBits) ≡ ahead o (read (next o) bytes (at + countBits + ownerBits))
+          → read (one second next) bytes (at + countBits) ≡ ahead o (read (next o) bytes at-badge)
       unfolding fieldOf
       owner-read next =
           one-right bytes (at + countBits) second next z
@@ -337,58 +407,71 @@ module _ (bytes : List ℕ) {kind : ℕ} (k : Keyed kind) where
           ahead v (read (next v) bytes (at + countBits + f .width)))
           (owner-field k a c)
 
-    module _ (z : faultAt bytes (at + countBits + ownerBits) (fieldOf third) ≡ 0) where
+    module _ (z : faultAt bytes at-badge (fieldOf third) ≡ 0) where
+      badge-read : (next : ℕ → Grammar) → read (one third next) bytes at-badge ≡ ahead b (read (next b) bytes (at-badge + bb))
+      unfolding fieldOf bitsOf
+      badge-read next =
+          one-right bytes at-badge third next z
+          ∙ ap (λ (f : Field). let v = fieldAt bytes at-badge (f .width) in ahead v (read (next v) bytes (at-badge + f .width)))
+          (badge-field k at-third)
+
+    module _ (z : faultAt bytes (at-badge + bb) (fieldOf fourth) ≡ 0) where
       number-read :
           (next : ℕ → Grammar)
-          → read (one third next) bytes (at + countBits + ownerBits)
-          ≡ ahead x (read (next x) bytes (at + countBits + ownerBits + w))
+          → read (one fourth next) bytes (at-badge + bb) ≡ ahead x (read (next x) bytes (at-badge + bb + numberBits kind))
       unfolding fieldOf bitsOf
       number-read next =
-          let at₂ = at + countBits + ownerBits in
-          one-right bytes at₂ third next z
-          ∙ ap (λ (f : Field). let v = fieldAt bytes at₂ (f .width) in ahead v (read (next v) bytes (at₂ + f .width)))
-          (number-field k at-third)
+          let p = at-badge + bb in
+          one-right bytes p fourth next z
+          ∙ ap (λ (f : Field). let v = fieldAt bytes p (f .width) in ahead v (read (next v) bytes (p + f .width)))
+          (number-field k at-fourth)
 
     -- an entry without a fault
     entry-right :
         entryFault bytes at w least ≡ 0
-        → read (entries (suc (suc (suc n))) st) bytes at ≡ ahead c (ahead o (ahead x (read (entries n fourth) bytes (at + (keyBits + w)))))
+        → read (entries (suc (suc (suc (suc n)))) st) bytes at
+        ≡ ahead c (ahead o (ahead b (ahead x (read (entries n fifth) bytes (at + (keyBits + w))))))
     unfolding entryFault entries
     entry-right e =
         let p = first-none (keyFault bytes at) (numberFault bytes (at + keyBits) w least) e in
         let q = first-none _ _ (key-faults ∙ p .0) in
-        count-read (q .0) (λ v. entries (suc (suc n)) (nextOf st v))
-        ∙ ap (ahead c) (owner-read (q .1) (λ v. entries (suc n) (nextOf second v)))
-        ∙ ap (λ (r : Outcome). ahead c (ahead o r))
-        (number-read (number-fault ∙ p .1) (λ v. entries n (nextOf third v))
-        ∙ ap (λ (b : ℕ). ahead x (read (entries n fourth) bytes b)) (omega arith))
+        let r = first-none _ _ (behind-faults ∙ p .1) in
+        count-read (q .0) (λ v. entries (suc (suc (suc n))) (nextOf st v))
+        ∙ ap (ahead c) (owner-read (q .1) (λ v. entries (suc (suc n)) (nextOf second v)))
+        ∙ ap (λ (u : Outcome). ahead c (ahead o u)) (badge-read (r .0) (λ v. entries (suc n) (nextOf third v)))
+        ∙ ap (λ (u : Outcome). ahead c (ahead o (ahead b u)))
+        (number-read (r .1) (λ v. entries n (nextOf fourth v))
+        ∙ ap (λ (p : ℕ). ahead x (read (entries n fifth) bytes p)) (omega arith))
 
     -- an entry with one
     entry-wrong :
-        {f : ℕ} → f ≡ entryFault bytes at w least → (f ≡ 0 → ⊥) → read (entries (suc (suc (suc n))) st) bytes at ≡ fault f
+        {f : ℕ} → f ≡ entryFault bytes at w least → (f ≡ 0 → ⊥) → read (entries (suc (suc (suc (suc n)))) st) bytes at ≡ fault f
     unfolding entryFault entries ahead
     entry-wrong {f} e d =
         let f₀ = faultAt bytes at (fieldOf st) in
         let f₁ = faultAt bytes (at + countBits) (fieldOf second) in
-        let f₂ = faultAt bytes (at + countBits + ownerBits) (fieldOf third) in
-        let all : f ≡ first (first f₀ f₁) f₂ = e ∙ sym (ap₂ first key-faults number-fault) in
+        let f₂ = faultAt bytes at-badge (fieldOf third) in
+        let f₃ = faultAt bytes (at-badge + bb) (fieldOf fourth) in
+        let all : f ≡ first f₀ (first f₁ (first f₂ f₃)) =
+        e ∙ sym (ap₂ first key-faults behind-faults) ∙ first-assoc f₀ f₁ (first f₂ f₃) in
         by-equal f₀ 0
         (λ z₀.
-        count-read z₀ (λ v. entries (suc (suc n)) (nextOf st v))
+        let r₀ : f ≡ first f₁ (first f₂ f₃) = all ∙ first-right f₀ _ z₀ in
+        count-read z₀ (λ v. entries (suc (suc (suc n))) (nextOf st v))
         ∙ ap (ahead c)
         (by-equal f₁ 0
         (λ z₁.
-        let r : f ≡ f₂ = all ∙ first-right (first f₀ f₁) f₂ (first-right f₀ f₁ z₀ ∙ z₁) in
-        owner-read z₁ (λ v. entries (suc n) (nextOf second v))
-        ∙ ap (ahead o) (one-wrong bytes (at + countBits + ownerBits) third (λ v. entries n (nextOf third v)) r d))
-        (λ d₁.
-        let g : first f₀ f₁ ≡ f₁ = first-right f₀ f₁ z₀ in
-        let r : f ≡ f₁ = all ∙ first-left (first f₀ f₁) f₂ (λ q. d₁ (sym g ∙ q)) ∙ g in
-        one-wrong bytes (at + countBits) second (λ v. entries (suc n) (nextOf second v)) r d)))
-        (λ d₀.
-        let g : first f₀ f₁ ≡ f₀ = first-left f₀ f₁ d₀ in
-        let r : f ≡ f₀ = all ∙ first-left (first f₀ f₁) f₂ (λ q. d₀ (sym g ∙ q)) ∙ g in
-        one-wrong bytes at st (λ v. entries (suc (suc n)) (nextOf st v)) r d)
+        let r₁ : f ≡ first f₂ f₃ = r₀ ∙ first-right f₁ _ z₁ in
+        owner-read z₁ (λ v. entries (suc (suc n)) (nextOf second v))
+        ∙ ap (ahead o)
+        (by-equal f₂ 0
+        (λ z₂.
+        badge-read z₂ (λ v. entries (suc n) (nextOf third v))
+        ∙ ap (ahead b)
+        (one-wrong bytes (at-badge + bb) fourth (λ v. entries n (nextOf fourth v)) (r₁ ∙ first-right f₂ f₃ z₂) d))
+        (λ d₂. one-wrong bytes at-badge third (λ v. entries (suc n) (nextOf third v)) (r₁ ∙ first-left f₂ f₃ d₂) d)))
+        (λ d₁. one-wrong bytes (at + countBits) second (λ v. entries (suc (suc n)) (nextOf second v)) (r₀ ∙ first-left f₁ _ d₁) d)))
+        (λ d₀. one-wrong bytes at st (λ v. entries (suc (suc (suc n))) (nextOf st v)) (all ∙ first-left f₀ _ d₀) d)
 
   -- ---- all entries
 
@@ -398,9 +481,9 @@ module _ (bytes : List ℕ) {kind : ℕ} (k : Keyed kind) where
   entries-passed zero st a at e = none-passed bytes kind 0 st at refl
   entries-passed (suc n) st a at e =
       let p = first-none (entryFault bytes at w least) _ e in
-      let rest = entries-passed n (fourth n st a at) (at-fourth n st a at) (at + (keyBits + w)) (p .1) in
-      let vs = c n st a at ∷ o n st a at ∷ x n st a at ∷ rest .values in
-      let m : entryFields * suc n ≡ suc (suc (suc (entryFields * n))) = omega arith in
+      let rest = entries-passed n (fifth n st a at) (at-fifth n st a at) (at + (keyBits + w)) (p .1) in
+      let vs = c n st a at ∷ o n st a at ∷ b n st a at ∷ x n st a at ∷ rest .values in
+      let m : entryFields * suc n ≡ suc (suc (suc (suc (entryFields * n)))) = omega arith in
       let q : at + (keyBits + w) + n * (keyBits + w) ≡ at + suc n * (keyBits + w) = rw (suc-mul n (keyBits + w)) (omega arith) in
       record {
         values = vs;
@@ -408,14 +491,17 @@ module _ (bytes : List ℕ) {kind : ℕ} (k : Keyed kind) where
         found =
             ap (λ (i : ℕ). read (entries i st) bytes at) m
             ∙ entry-right (entryFields * n) st a at (p .0)
-            ∙ ap (λ (r : Outcome). ahead (c n st a at) (ahead (o n st a at) (ahead (x n st a at) r)))
-            (rest .found ∙ ap (λ (b : ℕ). after (rest .values) (ended bytes b)) q)
-            ∙ three-after (c n st a at) (o n st a at) (x n st a at) (rest .values) (ended bytes (at + suc n * (keyBits + w)));
+            ∙ ap (λ (r : Outcome). ahead (c n st a at) (ahead (o n st a at) (ahead (b n st a at) (ahead (x n st a at) r))))
+            (rest .found ∙ ap (λ (p : ℕ). after (rest .values) (ended bytes p)) q)
+            ∙ four-after (c n st a at) (o n st a at) (b n st a at) (x n st a at) (rest .values)
+            (ended bytes (at + suc n * (keyBits + w)));
       }
     where
-      three-after : (u v t : ℕ) (vs : List ℕ) (r : Outcome) → ahead u (ahead v (ahead t (after vs r))) ≡ after (u ∷ v ∷ t ∷ vs) r
-      three-after u v t vs (got us) = refl
-      three-after u v t vs (fault f) = refl
+      four-after :
+          (s t u v : ℕ) (vs : List ℕ) (r : Outcome)
+          → ahead s (ahead t (ahead u (ahead v (after vs r)))) ≡ after (s ∷ t ∷ u ∷ v ∷ vs) r
+      four-after s t u v vs (got us) = refl
+      four-after s t u v vs (fault f) = refl
 
   pub entries-wrong :
       (n : ℕ) (st : State)
@@ -427,14 +513,14 @@ module _ (bytes : List ℕ) {kind : ℕ} (k : Keyed kind) where
   unfolding entriesFault ahead
   entries-wrong zero st a at e d = absurd (d e)
   entries-wrong (suc n) st a at {f} e d =
-      let m : entryFields * suc n ≡ suc (suc (suc (entryFields * n))) = omega arith in
+      let m : entryFields * suc n ≡ suc (suc (suc (suc (entryFields * n)))) = omega arith in
       ap (λ (i : ℕ). read (entries i st) bytes at) m
       ∙ by-equal (entryFault bytes at w least) 0
       (λ z.
       let r : f ≡ entriesFault bytes (at + (keyBits + w)) w least n = e ∙ first-right _ _ z in
       entry-right (entryFields * n) st a at z
-      ∙ ap (λ (q : Outcome). ahead (c n st a at) (ahead (o n st a at) (ahead (x n st a at) q)))
-      (entries-wrong n (fourth n st a at) (at-fourth n st a at) (at + (keyBits + w)) r d))
+      ∙ ap (λ (q : Outcome). ahead (c n st a at) (ahead (o n st a at) (ahead (b n st a at) (ahead (x n st a at) q))))
+      (entries-wrong n (fifth n st a at) (at-fifth n st a at) (at + (keyBits + w)) r d))
       (λ d₀. entry-wrong (entryFields * n) st a at (e ∙ first-left _ _ d₀) d)
 
 -- entries without a fault are not cut short
@@ -475,16 +561,9 @@ module _ (kind : ℕ) {row : List ℕ} (er : row ≡ rowOf kind) where
   pub entries-said : (v : ℕ) {n : ℕ} → n ≡ cond (eqb (getD row manyPlace 0) less) (v + 1) v → n ≡ entriesIn kind v
   entries-said v e = entries-by kind v (sort-is manyPlace) e
 
-  pub number-limits :
-      {f : Field}
-      → f ≡ limitsOf (getD row numberPlace 0)
-      → (f .width ≡ numberBits kind) × (f .least ≡ numberLeast kind) × (f .width ≤ 32)
-  number-limits {f} e =
-      let w : f .width ≡ numberBits kind = limits-width (getD row numberPlace 0) e ∙ ap bitsOf (sort-is numberPlace) in (
-        w,
-        ap (λ (g : Field). g .least) e ∙ ap (λ (s : ℕ). limitsOf s .least) (sort-is numberPlace),
-        omega (arith, w, bits-most (sortAt kind numberPlace) (sort-small kind numberPlace)),
-      )
+  pub behind-limits : {b : Behind} → b ≡ behindBy (getD row badgePlace 0) (getD row numberPlace 0) → (b ≡ behindOf kind) × Slim b
+  behind-limits {b} e =
+      let is : b ≡ behindOf kind = e ∙ ap₂ behindBy (sort-is badgePlace) (sort-is numberPlace) in (is, rw is (is-slim kind))
 
 -- All fixed fields are read: the entries and what stands behind them decide.
 module _ {bytes row : List ℕ} {at kind : ℕ} {st : State} (c : Come bytes row at st) (a : Ahead kind entryPlace st) {n : ℕ}
@@ -496,7 +575,7 @@ module _ {bytes row : List ℕ} {at kind : ℕ} {st : State} (c : Come bytes row
       ∙ ap (λ (g : Grammar). after (c .values) (read g bytes at))
       (rest-late st (omega (arith, a .its-place)) ∙ ap (λ (k : ℕ). entries k st) m)
 
-  passed : entriesFault bytes at (numberBits kind) (numberLeast kind) n ≡ 0 → Passed bytes kind n st at
+  passed : entriesFault bytes at (behindBits (behindOf kind)) (numberLeast kind) n ≡ 0 → Passed bytes kind n st at
   passed z =
       by-equal n 0
       (none-passed bytes kind n st at)
@@ -504,34 +583,31 @@ module _ {bytes row : List ℕ} {at kind : ℕ} {st : State} (c : Come bytes row
 
   wrong :
       {f : ℕ}
-      → f ≡ entriesFault bytes at (numberBits kind) (numberLeast kind) n
+      → f ≡ entriesFault bytes at (behindBits (behindOf kind)) (numberLeast kind) n
       → (f ≡ 0 → ⊥)
       → read (entries (entryFields * n) st) bytes at ≡ fault f
   wrong e d =
       by-equal n 0
-      (λ z. absurd (d (e ∙ sym (entries-end bytes at (numberBits kind) (numberLeast kind) n z))))
+      (λ z. absurd (d (e ∙ sym (entries-end bytes at (behindBits (behindOf kind)) (numberLeast kind) n z))))
       (λ g. entries-wrong bytes (said-keyed s (omega (arith, en))) n st a at e d)
 
   -- they are few, and near
-  pub rest-asked :
-      {width least : ℕ}
-      → width ≡ numberBits kind
-      → least ≡ numberLeast kind
-      → width ≤ 32
-      → EntriesAt at width least n
-  rest-asked {width} {least} ew el h =
+  pub rest-asked : {b : Behind} → b ≡ behindOf kind → Slim b → EntriesAt at (behindBits b) (b .least) n
+  rest-asked {b} eb slim =
       let few : n ≤ mostEntries = omega (arith, en, said-few s) in
-      let wide : keyBits + width ≤ 44 = omega arith in
+      let wide : entryBits b ≤ 76 = omega (arith, slim .badge, slim .number) in
       record {
         near = omega (arith, mul-le-mul few wide, c .near, a .its-place);
-        narrow = h;
-        masked = λ k d. ew ∙ said-keyed s (omega (arith, en)) .masked (λ z. d (el ∙ z));
+        narrow = omega (arith, slim .badge, slim .number);
+        masked =
+            λ k d.
+            let m = said-keyed s (omega (arith, en)) .masked (λ z. d (ap (λ (u : Behind). u .least) eb ∙ z)) in
+            omega (arith, m, ap (λ (u : Behind). behindBits u) eb);
       }
 
-  module _ {width least f : ℕ} (ew : width ≡ numberBits kind) (el : least ≡ numberLeast kind)
-      (ef : f ≡ restFault bytes at width least n) where
-    e : f ≡ restFault bytes at (numberBits kind) (numberLeast kind) n
-    e = ef ∙ ap₂ (λ (x y : ℕ). restFault bytes at x y n) ew el
+  module _ {b : Behind} {f : ℕ} (eb : b ≡ behindOf kind) (ef : f ≡ restFault bytes at (behindBits b) (b .least) n) where
+    e : f ≡ restFault bytes at (behindBits (behindOf kind)) (numberLeast kind) n
+    e = ef ∙ ap (λ (u : Behind). restFault bytes at (behindBits u) (u .least) n) eb
 
     pub rest-refused : (f ≡ 0 → ⊥) → fault f ≡ read format bytes 0
     unfolding restFault after
@@ -539,25 +615,25 @@ module _ {bytes row : List ℕ} {at kind : ℕ} {st : State} (c : Come bytes row
         sym
         (left-read
         ∙ ap (after (c .values))
-        (by-equal (entriesFault bytes at (numberBits kind) (numberLeast kind) n) 0
+        (by-equal (entriesFault bytes at (behindBits (behindOf kind)) (numberLeast kind) n) 0
         (λ z.
         let p = passed z in
-        p .found ∙ ap (after (p .values)) (end-reads bytes (at + n * (keyBits + numberBits kind)) (e ∙ first-right _ _ z) .1 d))
+        p .found ∙ ap (after (p .values)) (end-reads bytes (at + n * entryBits (behindOf kind)) (e ∙ first-right _ _ z) .1 d))
         (λ g. wrong (e ∙ first-left _ _ g) d)))
 
-    -- all eight are kept
+    -- all fixed values are kept
     row-whole : row ≡ take fixedFields (c .values)
     row-whole =
         let l : length (c .values) ≡ fixedFields = c .many ∙ a .its-place in
-        ext-getD 0 row (take fixedFields (c .values)) (c .eight ∙ sym (length-take-le fixedFields (c .values) (omega arith)))
+        ext-getD 0 row (take fixedFields (c .values)) (c .all-fixed ∙ sym (length-take-le fixedFields (c .values) (omega arith)))
         (λ j k.
-        let m : j < fixedFields = omega (arith, c .eight) in
+        let m : j < fixedFields = omega (arith, c .all-fixed) in
         c .kept j (omega (arith, a .its-place)) ∙ sym (getD-take fixedFields (c .values) j 0 m))
 
     pub rest-read : f ≡ 0 → record { fault = 0; fields = fixedFields + entryFields * n; fixed = row } ≡ scanOf (read format bytes 0)
     unfolding restFault after scanOf
     rest-read z =
-        let q = first-none (entriesFault bytes at (numberBits kind) (numberLeast kind) n) _ (sym e ∙ z) in
+        let q = first-none (entriesFault bytes at (behindBits (behindOf kind)) (numberLeast kind) n) _ (sym e ∙ z) in
         let p = passed (q .0) in
         let us = p .values ++ [] in
         let l : length (c .values) ≡ fixedFields = c .many ∙ a .its-place in
@@ -568,5 +644,5 @@ module _ {bytes row : List ℕ} {at kind : ℕ} {st : State} (c : Come bytes row
         let all : read format bytes 0 ≡ got (c .values ++ us) =
         left-read
         ∙ ap (after (c .values)) (p .found
-        ∙ ap (after (p .values)) (end-reads bytes (at + n * (keyBits + numberBits kind)) refl .0 (q .1))) in
+        ∙ ap (after (p .values)) (end-reads bytes (at + n * entryBits (behindOf kind)) refl .0 (q .1))) in
         (λ j. record { fault = 0; fields = sym m j; fixed = (row-whole ∙ sym t) j }) ∙ ap scanOf (sym all)

@@ -21,11 +21,11 @@ use Rattle.formats.specs.Walk.{values-length, frame-bits, frame-length}
 use Rattle.formats.specs.Walk.{kind-below, entries-few}
 
 -- What laying asks: the row of the kind, values of a frame, and room for it.
-pub record Layable (row fixed keys numbers : List ℕ) (entries bytes : ℕ) : Type 0 where
+pub record Layable (row fixed keys badges numbers : List ℕ) (entries bytes : ℕ) : Type 0 where
   pub its-row : row ≡ rowOf (getD fixed 0 0)
-  pub packable : Packable fixed keys numbers entries
-  pub right : good format (valuesBy fixed keys numbers entries) ≡ true
-  pub fits : size format (valuesBy fixed keys numbers entries) ≤ 8 * bytes
+  pub packable : Packable fixed keys badges numbers entries
+  pub right : good format (valuesBy fixed keys badges numbers entries) ≡ true
+  pub fits : size format (valuesBy fixed keys badges numbers entries) ≤ 8 * bytes
 
 module _ (vs : List ℕ) (g : good format vs ≡ true) where
   -- a frame has few bits
@@ -68,14 +68,14 @@ size-inside vs d = omega (arith, length-frame format vs)
 
 -- how many bytes it has, by the table
 pub length-is :
-    {fixed keys numbers : List ℕ} {entries : ℕ}
-    → Packable fixed keys numbers entries
-    → good format (valuesBy fixed keys numbers entries) ≡ true
+    {fixed keys badges numbers : List ℕ} {entries : ℕ}
+    → Packable fixed keys badges numbers entries
+    → good format (valuesBy fixed keys badges numbers entries) ≡ true
     → {shape : Shape} {n : ℕ}
     → shape ≡ shapeOf (getD fixed 0 0)
     → n ≡ lengthBy shape entries
-    → n ≡ length (frame format (valuesBy fixed keys numbers entries))
-length-is {fixed} {keys} {numbers} {entries} p g {shape} es en =
-    let vs = valuesBy fixed keys numbers entries in
+    → n ≡ length (frame format (valuesBy fixed keys badges numbers entries))
+length-is {fixed} {keys} {badges} {numbers} {entries} p g {shape} es en =
+    let vs = valuesBy fixed keys badges numbers entries in
     let said : entries ≡ entriesSaid vs = omega (arith, values-many p, values-length vs g) in
     en ∙ ap₂ lengthBy (es ∙ ap shapeOf (sym (values-kind p))) said ∙ frame-length vs g

@@ -1,5 +1,5 @@
--- A frame's values as the writer goes over them: the fixed ones by the table, then the entries, a key and a number each; and that the
--- grammar says the same.
+-- A frame's values as the writer goes over them: the fixed ones by the table, then the entries, a key, a badge and a number each; and that
+-- the grammar says the same.
 use mathlib.Core.Path.{_≡_, refl, sym, ap, ap₂, _∙_, subst}
 use Prim.Native.Nat.{ℕ, zero, suc, _+_, _-_, _*_, _/_, _%_, _^_, _≤_, _<_}
 use native.Mathlib.Omega.{arith}
@@ -9,34 +9,37 @@ use mathlib.Core.Bool.{Bool, true, false, cond, not, _&&_, true≢false}
 use lib.Dec.{leb, ltb, eqb}
 use lib.ListN.{length, getD, drop, length-append, length-drop, List·getD-append}
 use lib.Seq.{drop-cons, drop-length, getD-append-add}
-use borrow.Author.Tests.{le-leb, lt-leb, leb-true, leb-false, lt-ltb, le-ltb, ltb-true, eq-eqb, ne-eqb}
-use Rattle.ranges.specs.Tests.{by-test, by-equal, both-right, fails, holds}
+use borrow.Author.Tests.{le-leb, lt-leb, leb-true, leb-false, lt-ltb, le-ltb, ltb-true, ltb-false, eq-eqb, ne-eqb}
+use Rattle.ranges.specs.Tests.{by-test, by-equal, both-left, both-right, fails, holds}
 use Rattle.ranges.specs.All.{allBelow}
 use Rattle.ranges.specs.AllLaws.{all-at, all-same, all-next}
 use Rattle.ranges.specs.Sum.{sumBelow}
 use Rattle.ranges.specs.SumLaws.{sum-more}
 use Rattle.ranges.specs.Laid.{built}
 use Rattle.ranges.specs.LaidLaws.{built-length, built-at}
-use Rattle.fields.specs.Bits.{putField}
-use Rattle.fields.specs.FieldLaws.{length-putField}
+use Rattle.fields.specs.Bits.{bitAt, fieldAt, putField}
+use Rattle.fields.specs.BitLaws.{Bytes, bytes-equal}
+use Rattle.fields.specs.FieldLaws.{length-putField, put-other, put-found, put-bytes, field-same, field-bits, field-join}
 use Rattle.fields.specs.Parts.{putByBytes}
 use Rattle.fields.specs.ByBytes.{put-by-bytes}
 use Rattle.formats.specs.declared.state.Field.{Field}
 use Rattle.formats.specs.declared.state.State.{State}
+use Rattle.formats.specs.declared.table.Behind.{Behind}
 use Rattle.formats.specs.Grammar.{Grammar, end, field, good, size, lay}
-use Rattle.formats.specs.Table.{none, count, of, manyPlace, entryPlace, numberPlace, fixedFields}
+use Rattle.formats.specs.Table.{none, count, of, manyPlace, entryPlace, badgePlace, numberPlace, fixedFields}
 use Rattle.formats.specs.Table.{entryFields, sortAt, bitsOf, leastOf}
-use Rattle.formats.specs.Table.{sorts, mostOf, limitsOf, limitRow, rowOf, hasNumbers, entriesIn, entriesSaid, valuesFor}
+use Rattle.formats.specs.Table.{sorts, mostOf, limitsOf, limitRow, rowOf, hasBadges, entriesIn, entriesSaid, valuesFor}
 use Rattle.formats.specs.TableLaws.{sort-small, bitsFrom}
-use Rattle.formats.specs.Columns.{mostBits}
+use Rattle.formats.specs.Columns.{mostBits, Places}
 use Rattle.formats.specs.Format.{sortOf, widthOf, fieldOf, within, allowed, nextOf, one, start, entries, format}
 use Rattle.formats.specs.FormatLaws.{Goes, goes-start, goes-next, Rowed, rowed-start, next-place, place-inner, field-is, at-most}
 use Rattle.formats.specs.FormatLaws.{rest, rest-start, rest-one, rest-late}
 use Rattle.formats.specs.Entries.{entryValue, valuesBy}
-use Rattle.formats.specs.Entry.{countBits, ownerBits, keyBits, numberBits, numberLeast, Keyed}
-use Rattle.formats.specs.Entry.{ownerField, Ahead, ahead-next, ahead-again}
-use Rattle.formats.specs.Entry.{count-field, owner-field, number-field}
-use Rattle.formats.specs.EntryLaws.{part-count, part-client, part-number}
+use Rattle.formats.specs.Entry.{countBits, ownerBits, keyBits, badgeWidth, badgeBits, numberBits, numberLeast}
+use Rattle.formats.specs.Entry.{behindOf, entryBits}
+use Rattle.formats.specs.Entry.{Slim, Plain, Keyed, ownerField, Ahead, ahead-next, ahead-again}
+use Rattle.formats.specs.Entry.{count-field, owner-field, badge-field, number-field, badge-none, badge-some}
+use Rattle.formats.specs.EntryLaws.{part-count, part-client, part-badge, part-number}
 use Rattle.formats.specs.Reading.{Said}
 use Rattle.formats.specs.Judging.{said-keyed}
 use Rattle.formats.specs.Writing.{rowed-on}
@@ -57,11 +60,17 @@ keyRight key = leb (key / 256) 255 && (leb (key % 256) 15 && cond (eqb (key / 25
 unfoldable pub numberRight : ℕ → ℕ → ℕ → Bool
 numberRight width least x = leb least x && ltb x (2 ^ width)
 
+-- the badge of entry i; 0 where a badge has no bits
+unfoldable pub badgeOf : ℕ → List ℕ → ℕ → ℕ
+badgeOf width badges i = cond (eqb width 0) 0 (getD badges i 0)
+
 -- and so are n entries from the i-th on
-unfoldable pub entriesRight : ℕ → ℕ → List ℕ → List ℕ → ℕ → ℕ → Bool
-entriesRight width least keys numbers i zero = true
-entriesRight width least keys numbers i (suc n) =
-    (keyRight (getD keys i 0) && numberRight width least (getD numbers i 0)) && entriesRight width least keys numbers (suc i) n
+unfoldable pub entriesRight : Behind → List ℕ → List ℕ → List ℕ → ℕ → ℕ → Bool
+entriesRight b keys badges numbers i zero = true
+entriesRight b keys badges numbers i (suc n) =
+    (keyRight (getD keys i 0)
+    && (ltb (badgeOf (b .badge) badges i) (2 ^ b .badge) && numberRight (b .width) (b .least) (getD numbers i 0)))
+    && entriesRight b keys badges numbers (suc i) n
 
 -- the first i values laid into bytes
 unfoldable pub laidTo : List ℕ → List ℕ → ℕ → List ℕ
@@ -69,14 +78,17 @@ laidTo vs bytes zero = bytes
 laidTo vs bytes (suc i) = putField (laidTo vs bytes i) (firstBit vs i) (widthOf (stateAt vs i)) (getD vs i 0)
 
 -- an entry laid into bytes, and n entries from the i-th on
-unfoldable pub entryLaid : ℕ → ℕ → ℕ → List ℕ → ℕ → List ℕ
-entryLaid width key number bytes at =
-    putField (putField (putField bytes at countBits (key / 256)) (at + countBits) ownerBits (key % 256)) (at + keyBits) width number
+unfoldable pub entryLaid : Behind → ℕ → ℕ → ℕ → List ℕ → ℕ → List ℕ
+entryLaid b key badge number bytes at =
+    putField
+    (putField (putField (putField bytes at countBits (key / 256)) (at + countBits) ownerBits (key % 256)) (at + keyBits) (b .badge) badge)
+    (at + keyBits + b .badge) (b .width) number
 
-unfoldable pub entriesLaid : ℕ → List ℕ → List ℕ → ℕ → ℕ → List ℕ → ℕ → List ℕ
-entriesLaid width keys numbers i zero bytes at = bytes
-entriesLaid width keys numbers i (suc n) bytes at =
-    entriesLaid width keys numbers (suc i) n (entryLaid width (getD keys i 0) (getD numbers i 0) bytes at) (at + (keyBits + width))
+unfoldable pub entriesLaid : Behind → List ℕ → List ℕ → List ℕ → ℕ → ℕ → List ℕ → ℕ → List ℕ
+entriesLaid b keys badges numbers i zero bytes at = bytes
+entriesLaid b keys badges numbers i (suc n) bytes at =
+    entriesLaid b keys badges numbers (suc i) n
+    (entryLaid b (getD keys i 0) (badgeOf (b .badge) badges i) (getD numbers i 0) bytes at) (at + entryBits b)
 
 -- ---- Booleans
 
@@ -150,7 +162,7 @@ length-laidTo vs bytes (suc i) = length-putField (laidTo vs bytes i) _ _ _ ∙ l
 
 -- ---- an entry
 
--- its three fields may have its key's count and client, and its number
+-- its four fields may have its key's count and client, its badge and its number
 module _ (c : ℕ) where
   count-right : (ltb c (2 ^ countBits) && within (limitRow countBits 0 255) c) ≡ leb c 255
   unfolding within
@@ -172,21 +184,23 @@ module _ (c : ℕ) where
       (λ z. rw (z, t))))
       (λ t. rw (t, le-ltb o 16 (omega (arith, leb-false o 15 t))))
 
-number-right :
-    {kind : ℕ}
-    → Keyed kind
-    → (x : ℕ)
-    → (ltb x (2 ^ numberBits kind) && within (limitsOf (sortAt kind numberPlace)) x) ≡ numberRight (numberBits kind) (numberLeast kind) x
+plain-right : {sort : ℕ} → Plain sort → (x : ℕ)
+    → (ltb x (2 ^ bitsOf sort) && within (limitsOf sort) x) ≡ numberRight (bitsOf sort) (limitsOf sort .least) x
 unfolding within numberRight
-number-right {kind} k x =
-    let most = limitsOf (sortAt kind numberPlace) .most in
-    by-test (ltb x (2 ^ numberBits kind))
+plain-right {sort} p x =
+    let most = limitsOf sort .most in
+    by-test (ltb x (2 ^ bitsOf sort))
     (λ t.
-    let h : x < most + 1 = rw (k .widest) (ltb-true x (2 ^ numberBits kind) t) in
+    let h : x < most + 1 = rw (p .widest) (ltb-true x (2 ^ bitsOf sort) t) in
     rw (t, le-leb x most (omega arith)))
-    (λ t. rw t (by-test (leb (numberLeast kind) x) (λ s. rw s) (λ s. rw s)))
+    (λ t. rw t (by-test (leb (limitsOf sort .least) x) (λ s. rw s) (λ s. rw s)))
 
-module _ {kind : ℕ} (k : Keyed kind) (st : State) (a : Ahead kind entryPlace st) (n key x : ℕ) where
+-- with no least it is enough that it fits
+any-right : (width x : ℕ) → numberRight width 0 x ≡ ltb x (2 ^ width)
+unfolding numberRight
+any-right width x = rw (le-leb 0 x (omega arith))
+
+module _ {kind : ℕ} (k : Keyed kind) (st : State) (a : Ahead kind entryPlace st) (n key d x : ℕ) where
   abbrev c : ℕ
   c = key / 256
 
@@ -200,13 +214,19 @@ module _ {kind : ℕ} (k : Keyed kind) (st : State) (a : Ahead kind entryPlace s
   third = nextOf second o
 
   abbrev fourth : State
-  fourth = nextOf third x
+  fourth = nextOf third d
 
-  at-third : Ahead kind numberPlace third
+  abbrev fifth : State
+  fifth = nextOf fourth x
+
+  at-third : Ahead kind badgePlace third
   at-third = ahead-next (ahead-next a c (omega arith) (omega arith)) o (omega arith) (omega arith)
 
-  at-fourth : Ahead kind entryPlace fourth
-  at-fourth = ahead-again at-third x
+  at-fourth : Ahead kind numberPlace fourth
+  at-fourth = ahead-next at-third d (omega arith) (omega arith)
+
+  at-fifth : Ahead kind entryPlace fifth
+  at-fifth = ahead-again at-fourth x
 
   -- a field fits a value and may have it
   abbrev fits : Field → ℕ → Bool
@@ -218,121 +238,159 @@ module _ {kind : ℕ} (k : Keyed kind) (st : State) (a : Ahead kind entryPlace s
   fits-owner : fits (fieldOf second) o ≡ (leb o 15 && cond (eqb c 0) (eqb o 0) true)
   fits-owner = ap (λ (f : Field). fits f o) (owner-field k a c) ∙ owner-right c o
 
-  fits-number : fits (fieldOf third) x ≡ numberRight (numberBits kind) (numberLeast kind) x
+  fits-badge : fits (fieldOf third) d ≡ ltb d (2 ^ badgeBits kind)
   unfolding bitsOf
-  fits-number = ap (λ (f : Field). fits f x) (number-field k at-third) ∙ number-right k x
+  fits-badge =
+      ap (λ (f : Field). fits f d) (badge-field k at-third)
+      ∙ plain-right (k .badges) d
+      ∙ ap (λ (l : ℕ). numberRight (badgeBits kind) l d) (k .any-badge)
+      ∙ any-right (badgeBits kind) d
+
+  fits-number : fits (fieldOf fourth) x ≡ numberRight (numberBits kind) (numberLeast kind) x
+  unfolding bitsOf
+  fits-number = ap (λ (f : Field). fits f x) (number-field k at-fourth) ∙ plain-right (k .numbers) x
+
+  -- what stands behind the key is right
+  abbrev behind-right : Bool
+  behind-right = ltb d (2 ^ badgeBits kind) && numberRight (numberBits kind) (numberLeast kind) x
 
   entry-good :
       (us : List ℕ)
-      → good (entries (suc (suc (suc n))) st) (c ∷ o ∷ x ∷ us)
-      ≡ ((keyRight key && numberRight (numberBits kind) (numberLeast kind) x) && good (entries n fourth) us)
+      → good (entries (suc (suc (suc (suc n)))) st) (c ∷ o ∷ d ∷ x ∷ us)
+      ≡ ((keyRight key && behind-right) && good (entries n fifth) us)
   unfolding good entries fieldOf keyRight
   entry-good us =
-      let g = good (entries n fourth) us in
-      (λ i. fits-count i && (fits-owner i && (fits-number i && g)))
+      let g = good (entries n fifth) us in
+      (λ i. fits-count i && (fits-owner i && (fits-badge i && (fits-number i && g))))
       ∙ and-assoc (leb c 255) _ _
-      ∙ and-assoc (keyRight key) (numberRight (numberBits kind) (numberLeast kind) x) g
+      ∙ ap (λ (r : Bool). keyRight key && r) (and-assoc (ltb d (2 ^ badgeBits kind)) _ g)
+      ∙ and-assoc (keyRight key) behind-right g
 
   entry-lay :
       (us bytes : List ℕ) (at : ℕ)
-      → lay (entries (suc (suc (suc n))) st) (c ∷ o ∷ x ∷ us) bytes at
-      ≡ lay (entries n fourth) us (entryLaid (numberBits kind) key x bytes at) (at + (keyBits + numberBits kind))
+      → lay (entries (suc (suc (suc (suc n)))) st) (c ∷ o ∷ d ∷ x ∷ us) bytes at
+      ≡ lay (entries n fifth) us (entryLaid (behindOf kind) key d x bytes at) (at + entryBits (behindOf kind))
   unfolding lay entries fieldOf entryLaid
   entry-lay us bytes at =
+      let bb = badgeBits kind in
       let w₀ : widthOf st ≡ countBits = ap (λ (f : Field). f .width) (count-field k a) in
       let w₁ : widthOf second ≡ ownerBits = ap (λ (f : Field). f .width) (owner-field k a c) in
-      let w₂ : widthOf third ≡ numberBits kind = ap bitsOf (ap₂ sortAt (at-third .its-kind) (at-third .its-place)) in
+      let w₂ : widthOf third ≡ bb = ap bitsOf (ap₂ sortAt (at-third .its-kind) (at-third .its-place)) in
+      let w₃ : widthOf fourth ≡ numberBits kind = ap bitsOf (ap₂ sortAt (at-fourth .its-kind) (at-fourth .its-place)) in
       (λ i.
-      lay (entries n fourth) us (putField (putField (putField bytes at (w₀ i) c) (at + w₀ i) (w₁ i) o) (at + w₀ i + w₁ i) (w₂ i) x)
-      (at + w₀ i + w₁ i + w₂ i))
-      ∙ ap₂ (λ (p q : ℕ). lay (entries n fourth) us
-      (putField (putField (putField bytes at countBits c) (at + countBits) ownerBits o) p (numberBits kind) x) q)
-      (omega arith) (omega arith)
+      lay (entries n fifth) us
+      (putField
+      (putField (putField (putField bytes at (w₀ i) c) (at + w₀ i) (w₁ i) o) (at + w₀ i + w₁ i) (w₂ i) d)
+      (at + w₀ i + w₁ i + w₂ i) (w₃ i) x)
+      (at + w₀ i + w₁ i + w₂ i + w₃ i))
+      ∙ (λ i.
+      lay (entries n fifth) us
+      (putField (putField (putField (putField bytes at countBits c) (at + countBits) ownerBits o) (key-ends at i) bb d)
+      (key-ends at i + bb) (numberBits kind) x)
+      (ends at i))
+    where
+      key-ends : (p : ℕ) → p + countBits + ownerBits ≡ p + keyBits
+      key-ends p = omega arith
+
+      ends : (p : ℕ) → p + countBits + ownerBits + badgeBits kind + numberBits kind ≡ p + entryBits (behindOf kind)
+      ends p = omega arith
 
 -- ---- all entries
 
 -- the values of a message with entries
-module _ (fixed keys numbers : List ℕ) (total : ℕ) (eight : length fixed ≡ fixedFields) where
+module _ (fixed keys badges numbers : List ℕ) (total : ℕ) (all-fixed : length fixed ≡ fixedFields) where
   abbrev vs : List ℕ
-  vs = valuesBy fixed keys numbers total
+  vs = valuesBy fixed keys badges numbers total
 
   abbrev its-values : ℕ → ℕ
-  its-values = entryValue (hasNumbers (getD fixed 0 0)) keys numbers
+  its-values = entryValue (hasBadges (getD fixed 0 0)) keys badges numbers
 
   pub front-same : (j : ℕ) → j < fixedFields → getD fixed j 0 ≡ getD vs j 0
-  front-same j h = sym (List·getD-append fixed _ 0 j (omega (arith, eight)))
+  front-same j h = sym (List·getD-append fixed _ 0 j (omega (arith, all-fixed)))
 
   value-behind : (j : ℕ) → j < entryFields * total → getD vs (fixedFields + j) 0 ≡ its-values j
   value-behind j h =
-      ap (λ (m : ℕ). getD vs (m + j) 0) (sym eight)
+      ap (λ (m : ℕ). getD vs (m + j) 0) (sym all-fixed)
       ∙ getD-append-add fixed (built its-values (entryFields * total)) j 0
       ∙ built-at its-values (entryFields * total) j h
 
   pub values-length : length vs ≡ fixedFields + entryFields * total
-  values-length = length-append fixed _ ∙ ap₂ (λ (p q : ℕ). p + q) eight (built-length its-values (entryFields * total))
+  values-length = length-append fixed _ ∙ ap₂ (λ (p q : ℕ). p + q) all-fixed (built-length its-values (entryFields * total))
 
   -- from entry i on
   abbrev from : ℕ → List ℕ
   from i = drop (fixedFields + entryFields * i) vs
 
-  three : (b : hasNumbers (getD fixed 0 0) ≡ true) (i : ℕ) → i < total
-      → from i ≡ getD keys i 0 / 256 ∷ getD keys i 0 % 256 ∷ getD numbers i 0 ∷ from (suc i)
-  three b i h =
-      let n = length vs in
+  abbrev the-kind : ℕ
+  the-kind = getD fixed 0 0
+
+  -- its badge, as the code takes it
+  badge-word : (i : ℕ) → cond (hasBadges the-kind) (getD badges i 0) 0 ≡ badgeOf (badgeBits the-kind) badges i
+  unfolding badgeOf
+  badge-word i =
+      by-test (hasBadges the-kind)
+      (λ t. rw (t, ne-eqb (badgeBits the-kind) 0 (λ z. omega (arith, badge-some the-kind t))))
+      (λ t. rw (t, eq-eqb (badgeBits the-kind) 0 (badge-none the-kind t)))
+
+  four : (i : ℕ) → i < total
+      → from i
+      ≡ getD keys i 0 / 256 ∷ getD keys i 0 % 256 ∷ badgeOf (badgeBits the-kind) badges i ∷ getD numbers i 0 ∷ from (suc i)
+  four i h =
       let k = fixedFields + entryFields * i in
+      let badged = hasBadges the-kind in
       let d₀ = drop-cons vs k 0 (omega (arith, values-length)) in
       let d₁ = drop-cons vs (suc k) 0 (omega (arith, values-length)) in
       let d₂ = drop-cons vs (suc (suc k)) 0 (omega (arith, values-length)) in
-      let at : (d : ℕ) → d < entryFields → getD vs (k + d) 0 ≡ its-values (entryFields * i + d) =
-      λ d l. ap (λ (m : ℕ). getD vs m 0) (omega arith) ∙ value-behind (entryFields * i + d) (omega arith) in
-      let q : (d : ℕ) → d < entryFields → (entryFields * i + d) / entryFields ≡ i = λ d l. omega arith in
+      let d₃ = drop-cons vs (suc (suc (suc k))) 0 (omega (arith, values-length)) in
+      let at : (j d : ℕ) → d < entryFields → j ≡ k + d → getD vs j 0 ≡ its-values (entryFields * i + d) =
+      λ j d l e. ap (λ (m : ℕ). getD vs m 0) (omega arith) ∙ value-behind (entryFields * i + d) (omega arith) in
+      let z : entryFields * i + 0 ≡ entryFields * i = omega arith in
       let v₀ : getD vs k 0 ≡ getD keys i 0 / 256 =
-      ap (λ (m : ℕ). getD vs m 0) (omega arith) ∙ at 0 (omega arith)
-      ∙ sym (ap (λ (m : ℕ). getD keys m 0 / 256) (sym (q 0 (omega arith)))
-      ∙ part-count _ keys numbers (entryFields * i + 0) (omega arith)) in
+      at k 0 (omega arith) (omega arith) ∙ ap its-values z ∙ part-count badged keys badges numbers i in
       let v₁ : getD vs (suc k) 0 ≡ getD keys i 0 % 256 =
-      ap (λ (m : ℕ). getD vs m 0) (omega arith) ∙ at 1 (omega arith)
-      ∙ sym (ap (λ (m : ℕ). getD keys m 0 % 256) (sym (q 1 (omega arith)))
-      ∙ part-client _ keys numbers (entryFields * i + 1) (omega arith)) in
-      let v₂ : getD vs (suc (suc k)) 0 ≡ getD numbers i 0 =
-      ap (λ (m : ℕ). getD vs m 0) (omega arith) ∙ at 2 (omega arith)
-      ∙ sym (ap (λ (m : ℕ). getD numbers m 0) (sym (q 2 (omega arith)))
-      ∙ part-number _ keys numbers (entryFields * i + 2) (λ z. omega arith) (λ z. omega arith) b) in
-      let e : suc (suc (suc k)) ≡ fixedFields + entryFields * suc i = omega arith in
+      at (suc k) 1 (omega arith) (omega arith) ∙ part-client badged keys badges numbers i in
+      let v₂ : getD vs (suc (suc k)) 0 ≡ badgeOf (badgeBits the-kind) badges i =
+      at (suc (suc k)) 2 (omega arith) (omega arith) ∙ part-badge badged keys badges numbers i ∙ badge-word i in
+      let v₃ : getD vs (suc (suc (suc k))) 0 ≡ getD numbers i 0 =
+      at (suc (suc (suc k))) 3 (omega arith) (omega arith) ∙ part-number badged keys badges numbers i in
+      let e : suc (suc (suc (suc k))) ≡ fixedFields + entryFields * suc i = omega arith in
       d₀ ∙ (λ j. v₀ j ∷ d₁ j) ∙ (λ j. getD keys i 0 / 256 ∷ v₁ j ∷ d₂ j)
-      ∙ (λ j. getD keys i 0 / 256 ∷ getD keys i 0 % 256 ∷ v₂ j ∷ drop (e j) vs)
+      ∙ (λ j. getD keys i 0 / 256 ∷ getD keys i 0 % 256 ∷ v₂ j ∷ d₃ j)
+      ∙ (λ j. getD keys i 0 / 256 ∷ getD keys i 0 % 256 ∷ badgeOf (badgeBits the-kind) badges i ∷ v₃ j ∷ drop (e j) vs)
 
   from-end : from total ≡ []
   from-end = ap (λ (m : ℕ). drop m vs) (sym values-length) ∙ drop-length vs
 
-  module _ {kind : ℕ} (k : Keyed kind) (b : hasNumbers (getD fixed 0 0) ≡ true) where
+  module _ (k : Keyed the-kind) where
     entries-good :
         (n i : ℕ) (st : State)
-        → Ahead kind entryPlace st
+        → Ahead the-kind entryPlace st
         → i + n ≡ total
-        → good (entries (entryFields * n) st) (from i) ≡ entriesRight (numberBits kind) (numberLeast kind) keys numbers i n
+        → good (entries (entryFields * n) st) (from i) ≡ entriesRight (behindOf the-kind) keys badges numbers i n
     unfolding good entries entriesRight
     entries-good zero i st a e = let z : i ≡ total = omega arith in ap (good end) (ap from z ∙ from-end)
     entries-good (suc n) i st a e =
-        let m : entryFields * suc n ≡ suc (suc (suc (entryFields * n))) = omega arith in
-        ap₂ (λ (j : ℕ) (us : List ℕ). good (entries j st) us) m (three b i (omega arith))
-        ∙ entry-good k st a (entryFields * n) (getD keys i 0) (getD numbers i 0) (from (suc i))
-        ∙ ap (λ (r : Bool). (keyRight (getD keys i 0) && numberRight (numberBits kind) (numberLeast kind) (getD numbers i 0)) && r)
-        (entries-good n (suc i) _ (at-fourth k st a (entryFields * n) (getD keys i 0) (getD numbers i 0)) (omega arith))
+        let m : entryFields * suc n ≡ suc (suc (suc (suc (entryFields * n)))) = omega arith in
+        let d = badgeOf (badgeBits the-kind) badges i in
+        ap₂ (λ (j : ℕ) (us : List ℕ). good (entries j st) us) m (four i (omega arith))
+        ∙ entry-good k st a (entryFields * n) (getD keys i 0) d (getD numbers i 0) (from (suc i))
+        ∙ ap (λ (r : Bool). (keyRight (getD keys i 0) && behind-right k st a (entryFields * n) (getD keys i 0) d (getD numbers i 0)) && r)
+        (entries-good n (suc i) _ (at-fifth k st a (entryFields * n) (getD keys i 0) d (getD numbers i 0)) (omega arith))
 
     entries-lay :
         (n i : ℕ) (st : State)
-        → Ahead kind entryPlace st
+        → Ahead the-kind entryPlace st
         → i + n ≡ total
         → (bytes : List ℕ) (at : ℕ)
-        → lay (entries (entryFields * n) st) (from i) bytes at ≡ entriesLaid (numberBits kind) keys numbers i n bytes at
+        → lay (entries (entryFields * n) st) (from i) bytes at ≡ entriesLaid (behindOf the-kind) keys badges numbers i n bytes at
     unfolding lay entries entriesLaid
     entries-lay zero i st a e bytes at = refl
     entries-lay (suc n) i st a e bytes at =
-        let m : entryFields * suc n ≡ suc (suc (suc (entryFields * n))) = omega arith in
-        ap₂ (λ (j : ℕ) (us : List ℕ). lay (entries j st) us bytes at) m (three b i (omega arith))
-        ∙ entry-lay k st a (entryFields * n) (getD keys i 0) (getD numbers i 0) (from (suc i)) bytes at
-        ∙ entries-lay n (suc i) _ (at-fourth k st a (entryFields * n) (getD keys i 0) (getD numbers i 0)) (omega arith) _ _
+        let m : entryFields * suc n ≡ suc (suc (suc (suc (entryFields * n)))) = omega arith in
+        let d = badgeOf (badgeBits the-kind) badges i in
+        ap₂ (λ (j : ℕ) (us : List ℕ). lay (entries j st) us bytes at) m (four i (omega arith))
+        ∙ entry-lay k st a (entryFields * n) (getD keys i 0) d (getD numbers i 0) (from (suc i)) bytes at
+        ∙ entries-lay n (suc i) _ (at-fifth k st a (entryFields * n) (getD keys i 0) d (getD numbers i 0)) (omega arith) _ _
 
 -- ---- the whole frame
 
@@ -344,9 +402,9 @@ good-length (suc m) st [] e = absurd (true≢false (sym e))
 good-length (suc m) st (u ∷ us) e =
     ap suc (good-length m (nextOf st u) us (both-right (ltb u (2 ^ widthOf st) && allowed st u) _ e))
 
-module _ (fixed keys numbers : List ℕ) (total : ℕ) (eight : length fixed ≡ fixedFields) where
+module _ (fixed keys badges numbers : List ℕ) (total : ℕ) (all-fixed : length fixed ≡ fixedFields) where
   abbrev values : List ℕ
-  values = valuesBy fixed keys numbers total
+  values = valuesBy fixed keys badges numbers total
 
   abbrev its-kind : ℕ
   its-kind = getD fixed 0 0
@@ -355,13 +413,13 @@ module _ (fixed keys numbers : List ℕ) (total : ℕ) (eight : length fixed ≡
   last = stateAt values entryPlace
 
   long : entryPlace ≤ length values
-  long = omega (arith, values-length fixed keys numbers total eight)
+  long = omega (arith, values-length fixed keys badges numbers total all-fixed)
 
   kind-same : getD values 0 0 ≡ its-kind
-  kind-same = sym (front-same fixed keys numbers total eight 0 (omega arith))
+  kind-same = sym (front-same fixed keys badges numbers total all-fixed 0 (omega arith))
 
   said-same : entriesSaid values ≡ entriesIn its-kind (getD fixed manyPlace 0)
-  said-same = ap₂ entriesIn kind-same (sym (front-same fixed keys numbers total eight manyPlace (omega arith)))
+  said-same = ap₂ entriesIn kind-same (sym (front-same fixed keys badges numbers total all-fixed manyPlace (omega arith)))
 
   at-last : Ahead its-kind entryPlace last
   at-last =
@@ -376,7 +434,7 @@ module _ (fixed keys numbers : List ℕ) (total : ℕ) (eight : length fixed ≡
   fixed-same : allBelow (rightAt values) entryPlace ≡ allBelow (rightAt fixed) entryPlace
   fixed-same =
       all-same (rightAt values) (rightAt fixed) entryPlace
-      (λ i h. right-same values fixed i (λ j l. sym (front-same fixed keys numbers total eight j (omega arith))))
+      (λ i h. right-same values fixed i (λ j l. sym (front-same fixed keys badges numbers total all-fixed j (omega arith))))
 
   good-behind :
       good format values
@@ -403,7 +461,7 @@ module _ (fixed keys numbers : List ℕ) (total : ℕ) (eight : length fixed ≡
         by-test (good format values)
         (λ t.
         let l = good-length _ last (drop entryPlace values) (sym good-last ∙ t) in
-        absurd (d (omega (arith, l, length-drop entryPlace values, values-length fixed keys numbers total eight))))
+        absurd (d (omega (arith, l, length-drop entryPlace values, values-length fixed keys badges numbers total all-fixed))))
         (λ t. sym t)
 
     module _ (en : total ≡ entriesIn its-kind (getD fixed manyPlace 0)) where
@@ -422,7 +480,7 @@ module _ (fixed keys numbers : List ℕ) (total : ℕ) (eight : length fixed ≡
       pub its-keyed : 0 < total → Keyed its-kind
       its-keyed h = said-keyed fixed-said (omega (arith, en))
 
-      pub entries-decide : entriesRight (numberBits its-kind) (numberLeast its-kind) keys numbers 0 total ≡ good format values
+      pub entries-decide : entriesRight (behindOf its-kind) keys badges numbers 0 total ≡ good format values
       unfolding good entries entriesRight
       entries-decide =
           sym
@@ -430,17 +488,17 @@ module _ (fixed keys numbers : List ℕ) (total : ℕ) (eight : length fixed ≡
           ∙ ap (λ (n : ℕ). good (entries (entryFields * n) last) (drop entryPlace values)) (sym en)
           ∙ by-equal total 0
           (λ z.
-          let l : entryPlace ≡ length values = omega (arith, values-length fixed keys numbers total eight) in
+          let l : entryPlace ≡ length values = omega (arith, values-length fixed keys badges numbers total all-fixed) in
           ap₂ (λ (n : ℕ) (us : List ℕ). good (entries (entryFields * n) last) us) z (ap (λ (n : ℕ). drop n values) l ∙ drop-length values)
-          ∙ sym (ap (entriesRight (numberBits its-kind) (numberLeast its-kind) keys numbers 0) z))
+          ∙ sym (ap (entriesRight (behindOf its-kind) keys badges numbers 0) z))
           (λ d.
           let k = its-keyed (omega arith) in
-          entries-good fixed keys numbers total eight k (k .numbered) total 0 last at-last (omega arith)))
+          entries-good fixed keys badges numbers total all-fixed k total 0 last at-last (omega arith)))
 
       pub entries-follow :
           (bytes : List ℕ)
           → lay format values bytes 0
-          ≡ entriesLaid (numberBits its-kind) keys numbers 0 total (laidTo fixed bytes entryPlace) (firstBit fixed entryPlace)
+          ≡ entriesLaid (behindOf its-kind) keys badges numbers 0 total (laidTo fixed bytes entryPlace) (firstBit fixed entryPlace)
       unfolding lay entries entriesLaid
       entries-follow bytes =
           lay-from values long bytes entryPlace (omega arith)
@@ -450,11 +508,11 @@ module _ (fixed keys numbers : List ℕ) (total : ℕ) (eight : length fixed ≡
           (λ z.
           ap (λ (n : ℕ). lay (entries (entryFields * n) last) (drop entryPlace values) (laidTo fixed bytes entryPlace)
           (firstBit fixed entryPlace)) z
-          ∙ sym (ap (λ (n : ℕ). entriesLaid (numberBits its-kind) keys numbers 0 n (laidTo fixed bytes entryPlace)
+          ∙ sym (ap (λ (n : ℕ). entriesLaid (behindOf its-kind) keys badges numbers 0 n (laidTo fixed bytes entryPlace)
           (firstBit fixed entryPlace)) z))
           (λ d.
           let k = its-keyed (omega arith) in
-          entries-lay fixed keys numbers total eight k (k .numbered) total 0 last at-last (omega arith) (laidTo fixed bytes entryPlace)
+          entries-lay fixed keys badges numbers total all-fixed k total 0 last at-last (omega arith) (laidTo fixed bytes entryPlace)
           (firstBit fixed entryPlace))
         where
           g : rest last ≡ entries (entryFields * total) last
@@ -462,7 +520,7 @@ module _ (fixed keys numbers : List ℕ) (total : ℕ) (eight : length fixed ≡
               ∙ ap (λ (m : ℕ). entries m last) (left-last ∙ ap (λ (n : ℕ). entryFields * n) (sym en))
 
           same : (j : ℕ) → j < entryPlace → getD values j 0 ≡ getD fixed j 0
-          same j h = sym (front-same fixed keys numbers total eight j h)
+          same j h = sym (front-same fixed keys badges numbers total all-fixed j h)
 
 -- ---- what the functions ask
 
@@ -472,13 +530,18 @@ pub record FixedIn (row fixed : List ℕ) (bytes : ℕ) : Type 0 where
   pub near : firstBit fixed entryPlace ≤ mostBits
   pub room : firstBit fixed entryPlace ≤ 8 * bytes
 
--- so many entries from a bit on, with room for them
-pub record EntriesIn (first width n keys numbers bytes : ℕ) : Type 0 where
-  pub narrow : width ≤ 32
-  pub near : first + n * (keyBits + width) ≤ mostBits
-  pub room : first + n * (keyBits + width) ≤ 8 * bytes
+-- so many entries in the slices; places for badges only where a badge has bits
+pub record Beside (b : Behind) (n keys badges numbers : ℕ) : Type 0 where
+  pub slim : Slim b
   pub for-keys : n ≤ keys
+  pub for-badges : (b .badge ≡ 0 → ⊥) → n ≤ badges
   pub for-numbers : n ≤ numbers
+
+-- and, from a bit on, room for them
+pub record EntriesIn (first : ℕ) (b : Behind) (n keys badges numbers bytes : ℕ) : Type 0 where
+  pub beside : Beside b n keys badges numbers
+  pub near : first + n * entryBits b ≤ mostBits
+  pub room : first + n * entryBits b ≤ 8 * bytes
 
 -- ---- the cases, as the code meets them
 
@@ -558,78 +621,174 @@ module _ (width least x : ℕ) where
   unfolding numberRight
   number-fits h e = rw (le-leb least x h) e
 
+-- the badge of an entry: none is right, and is put nowhere
+module _ (width : ℕ) (badges : List ℕ) (i : ℕ) where
+  pub badge-lacking : width ≡ 0 → true ≡ ltb (badgeOf width badges i) (2 ^ width)
+  unfolding badgeOf
+  badge-lacking z = rw (z, eq-eqb 0 0 refl)
+
+  pub badge-nowhere : (bytes : List ℕ) (at : ℕ) → width ≡ 0 → bytes ≡ putField bytes at width (badgeOf width badges i)
+  unfolding putField
+  badge-nowhere bytes at z = rw z
+
+  -- one that there is has a badge's bits
+  module _ (d : width ≡ 0 → ⊥) (w : width ≡ badgeWidth) where
+    badge-there : getD badges i 0 ≡ badgeOf width badges i
+    unfolding badgeOf
+    badge-there = rw (ne-eqb width 0 d)
+
+    pub badge-fits : {r : Bool} → r ≡ ltb (getD badges i 0) (2 ^ badgeWidth) → r ≡ ltb (badgeOf width badges i) (2 ^ width)
+    badge-fits e = e ∙ ap₂ (λ (v n : ℕ). ltb v (2 ^ n)) badge-there (sym w)
+
+    pub badge-put :
+        (bytes : List ℕ) (at : ℕ) {after : List ℕ}
+        → after ≡ putByBytes bytes at badgeWidth (getD badges i 0)
+        → after ≡ putField bytes at width (badgeOf width badges i)
+    badge-put bytes at e =
+        e ∙ put-by-bytes bytes at badgeWidth (getD badges i 0)
+        ∙ ap₂ (λ (n v : ℕ). putField bytes at n v) (sym w) badge-there
+
 -- a turn of the test of the entries, n of which are left
-module _ (width least : ℕ) (keys numbers : List ℕ) (i n : ℕ) (some : 0 < n) where
+module _ (b : Behind) (keys badges numbers : List ℕ) (i n : ℕ) (some : 0 < n) where
+  abbrev its-badge : Bool
+  its-badge = ltb (badgeOf (b .badge) badges i) (2 ^ b .badge)
+
+  abbrev its-number : Bool
+  its-number = numberRight (b .width) (b .least) (getD numbers i 0)
+
   right-more :
-      entriesRight width least keys numbers i n
-      ≡ ((keyRight (getD keys i 0) && numberRight width least (getD numbers i 0)) && entriesRight width least keys numbers (i + 1) (n - 1))
+      entriesRight b keys badges numbers i n
+      ≡ ((keyRight (getD keys i 0) && (its-badge && its-number)) && entriesRight b keys badges numbers (i + 1) (n - 1))
   unfolding entriesRight
   right-more = go n some
     where
       go :
           (m : ℕ)
           → 0 < m
-          → entriesRight width least keys numbers i m
-          ≡ ((keyRight (getD keys i 0) && numberRight width least (getD numbers i 0))
-          && entriesRight width least keys numbers (i + 1) (m - 1))
+          → entriesRight b keys badges numbers i m
+          ≡ ((keyRight (getD keys i 0) && (its-badge && its-number)) && entriesRight b keys badges numbers (i + 1) (m - 1))
       go zero h = let z : ⊥ = omega arith in absurd z
       go (suc m) h =
           let q : m ≡ suc m - 1 = omega arith in
-          ap₂ (λ (j k : ℕ). (keyRight (getD keys i 0) && numberRight width least (getD numbers i 0))
-          && entriesRight width least keys numbers j k)
+          ap₂ (λ (j k : ℕ). (keyRight (getD keys i 0) && (its-badge && its-number)) && entriesRight b keys badges numbers j k)
           (sym (add-one i)) q
 
   module _ {r : Bool} (e : r ≡ keyRight (getD keys i 0)) where
-    pub right-key : not r ≡ true → false ≡ entriesRight width least keys numbers i n
+    pub right-key : not r ≡ true → false ≡ entriesRight b keys badges numbers i n
     right-key d = sym (right-more ∙ rw (fails e d))
 
-    module _ (d : not r ≡ false) {s : Bool} (q : s ≡ numberRight width least (getD numbers i 0)) where
-      pub right-number : not s ≡ true → false ≡ entriesRight width least keys numbers i n
-      right-number f = sym (right-more ∙ rw (holds e d, fails q f))
+    module _ (d : not r ≡ false) {t : Bool} (p : t ≡ its-badge) where
+      pub right-badge : not t ≡ true → false ≡ entriesRight b keys badges numbers i n
+      right-badge f = sym (right-more ∙ rw (holds e d, fails p f))
 
-      pub right-on : not s ≡ false → entriesRight width least keys numbers (i + 1) (n - 1) ≡ entriesRight width least keys numbers i n
-      right-on f = sym (right-more ∙ rw (holds e d, holds q f))
+      module _ (f : not t ≡ false) {s : Bool} (q : s ≡ its-number) where
+        pub right-number : not s ≡ true → false ≡ entriesRight b keys badges numbers i n
+        right-number g = sym (right-more ∙ rw (holds e d, holds p f, fails q g))
 
-pub right-end : (width least : ℕ) (keys numbers : List ℕ) (i n : ℕ) → n ≡ 0 → true ≡ entriesRight width least keys numbers i n
+        pub right-on : not s ≡ false → entriesRight b keys badges numbers (i + 1) (n - 1) ≡ entriesRight b keys badges numbers i n
+        right-on g = sym (right-more ∙ rw (holds e d, holds p f, holds q g))
+
+  -- where all are right, so is the key of the next, and all behind it
+  pub right-next :
+      entriesRight b keys badges numbers i n ≡ true
+      → (keyRight (getD keys i 0) ≡ true) × (entriesRight b keys badges numbers (i + 1) (n - 1) ≡ true)
+  right-next e =
+      let r = sym right-more ∙ e in
+      let here = keyRight (getD keys i 0) && (its-badge && its-number) in
+      (both-left _ _ (both-left here _ r), both-right here _ r)
+
+pub right-end : (b : Behind) (keys badges numbers : List ℕ) (i n : ℕ) → n ≡ 0 → true ≡ entriesRight b keys badges numbers i n
 unfolding entriesRight
-right-end width least keys numbers i n z = rw z
+right-end b keys badges numbers i n z = rw z
 
 -- a turn of laying them
 pub laid-entry :
-    (width : ℕ) (keys numbers : List ℕ) (i n m : ℕ) (bytes : List ℕ) {after : List ℕ} (at : ℕ)
+    (b : Behind) (keys badges numbers : List ℕ) (i n m : ℕ) (bytes : List ℕ) {after : List ℕ} (at : ℕ)
     → 0 < n
     → m ≡ n - 1
-    → after ≡ entryLaid width (getD keys i 0) (getD numbers i 0) bytes at
-    → entriesLaid width keys numbers (i + 1) m after (at + (keyBits + width)) ≡ entriesLaid width keys numbers i n bytes at
+    → after ≡ entryLaid b (getD keys i 0) (badgeOf (b .badge) badges i) (getD numbers i 0) bytes at
+    → entriesLaid b keys badges numbers (i + 1) m after (at + entryBits b) ≡ entriesLaid b keys badges numbers i n bytes at
 unfolding entriesLaid
-laid-entry width keys numbers i zero m bytes at h em e = let z : ⊥ = omega arith in absurd z
-laid-entry width keys numbers i (suc n) m bytes at h em e =
+laid-entry b keys badges numbers i zero m bytes at h em e = let z : ⊥ = omega arith in absurd z
+laid-entry b keys badges numbers i (suc n) m bytes at h em e =
     let q : m ≡ n = omega arith in
-    λ j. entriesLaid width keys numbers (add-one i j) (q j) (e j) (at + (keyBits + width))
+    λ j. entriesLaid b keys badges numbers (add-one i j) (q j) (e j) (at + entryBits b)
 
-pub laid-none : (width : ℕ) (keys numbers : List ℕ) (i n : ℕ) {bytes : List ℕ} (at : ℕ) → n ≡ 0
-    → bytes ≡ entriesLaid width keys numbers i n bytes at
+pub laid-none : (b : Behind) (keys badges numbers : List ℕ) (i n : ℕ) {bytes : List ℕ} (at : ℕ) → n ≡ 0
+    → bytes ≡ entriesLaid b keys badges numbers i n bytes at
 unfolding entriesLaid
-laid-none width keys numbers i n at z = rw z
+laid-none b keys badges numbers i n at z = rw z
+
+-- a key's count and client, put one behind the other, are put as one field
+key-put :
+    (bytes : List ℕ) (at c o : ℕ)
+    → Bytes bytes
+    → at + keyBits ≤ 8 * length bytes
+    → c < 256
+    → o < 16
+    → putField bytes at keyBits (c * 16 + o) ≡ putField (putField bytes at countBits c) (at + countBits) ownerBits o
+key-put bytes at c o hb h hc ho =
+    let v = c * 16 + o in
+    let front = putField bytes at countBits c in
+    let one = putField bytes at keyBits v in
+    let two = putField front (at + countBits) ownerBits o in
+    let l₀ : length front ≡ length bytes = length-putField bytes at countBits c in
+    let l₁ : length one ≡ length bytes = length-putField bytes at keyBits v in
+    let l₂ : length two ≡ length front = length-putField front (at + countBits) ownerBits o in
+    let count-held : fieldAt two at countBits ≡ c =
+    field-same two front at countBits (λ j p q. put-other front (at + countBits) ownerBits o j (omega arith) (λ x y. omega arith))
+    ∙ put-found bytes at countBits c (omega arith) hc in
+    let owner-held : fieldAt two (at + countBits) ownerBits ≡ o = put-found front (at + countBits) ownerBits o (omega arith) ho in
+    let held : fieldAt one at keyBits ≡ fieldAt two at keyBits =
+    put-found bytes at keyBits v h (omega arith) ∙ sym (field-join two at countBits ownerBits ∙ omega (arith, count-held, owner-held)) in
+    let outside : (j : ℕ) → (at ≤ j → j < at + keyBits → ⊥) → bitAt one j ≡ bitAt two j =
+    λ j out.
+    put-other bytes at keyBits v j h out
+    ∙ sym
+    (put-other front (at + countBits) ownerBits o j (omega arith) (λ p q. out (omega arith) (omega arith))
+    ∙ put-other bytes at countBits c j (omega arith) (λ p q. out p (omega arith))) in
+    bytes-equal one two (put-bytes bytes at keyBits v hb)
+    (put-bytes front (at + countBits) ownerBits o (put-bytes bytes at countBits c hb))
+    (omega arith)
+    (λ j k.
+    by-test (leb at j)
+    (λ s.
+    by-test (ltb j (at + keyBits))
+    (λ t. field-bits one two at keyBits held j (leb-true _ _ s) (ltb-true _ _ t))
+    (λ t. outside j (λ p q. omega (arith, ltb-false j (at + keyBits) t))))
+    (λ s. outside j (λ p q. omega (arith, leb-false at j s))))
+
+-- a key that an entry may have fits its two fields
+key-small : (key : ℕ) → keyRight key ≡ true → (key / 256 ≤ 255) × (key % 256 ≤ 15)
+unfolding keyRight
+key-small key e =
+    let r = both-right (leb (key / 256) 255) _ e in
+    (leb-true _ _ (both-left _ _ e), leb-true _ _ (both-left _ _ r))
 
 -- by whole bytes, as the code lays it
 pub entry-put :
-    (width key number : ℕ) (bytes : List ℕ) (at : ℕ) {b d e : List ℕ}
-    → b ≡ putByBytes bytes at countBits (key / 256)
-    → d ≡ putByBytes b (at + countBits) ownerBits (key % 256)
-    → e ≡ putByBytes d (at + keyBits) width number
-    → e ≡ entryLaid width key number bytes at
+    (b : Behind) (key badge number : ℕ) (bytes : List ℕ) (at : ℕ) {keyed badged numbered : List ℕ}
+    → Bytes bytes
+    → at + keyBits ≤ 8 * length bytes
+    → keyRight key ≡ true
+    → keyed ≡ putByBytes bytes at keyBits (key / 256 * 16 + key % 256)
+    → badged ≡ putField keyed (at + keyBits) (b .badge) badge
+    → numbered ≡ putByBytes badged (at + keyBits + b .badge) (b .width) number
+    → numbered ≡ entryLaid b key badge number bytes at
 unfolding entryLaid
-entry-put width key number bytes at {b} {d} p q r =
-    r ∙ put-by-bytes d (at + keyBits) width number
-    ∙ ap (λ (u : List ℕ). putField u (at + keyBits) width number)
-    (q ∙ put-by-bytes b (at + countBits) ownerBits (key % 256)
-    ∙ ap (λ (u : List ℕ). putField u (at + countBits) ownerBits (key % 256)) (p ∙ put-by-bytes bytes at countBits (key / 256)))
+entry-put b key badge number bytes at {keyed} {badged} hb h e p r t =
+    let k = key-small key e in
+    t ∙ put-by-bytes badged (at + keyBits + b .badge) (b .width) number
+    ∙ ap (λ (u : List ℕ). putField u (at + keyBits + b .badge) (b .width) number)
+    (r ∙ ap (λ (u : List ℕ). putField u (at + keyBits) (b .badge) badge)
+    (p ∙ put-by-bytes bytes at keyBits (key / 256 * 16 + key % 256)
+    ∙ key-put bytes at (key / 256) (key % 256) hb h (omega (arith, k)) (omega (arith, k))))
 
-pub length-entryLaid : (width key number : ℕ) (bytes : List ℕ) (at : ℕ) → length (entryLaid width key number bytes at) ≡ length bytes
+pub length-entryLaid :
+    (b : Behind) (key badge number : ℕ) (bytes : List ℕ) (at : ℕ) → length (entryLaid b key badge number bytes at) ≡ length bytes
 unfolding entryLaid
-length-entryLaid width key number bytes at = length-putField _ _ _ _ ∙ length-putField _ _ _ _
-    ∙ length-putField bytes at countBits (key / 256)
+length-entryLaid b key badge number bytes at =
+    length-putField _ _ _ _ ∙ length-putField _ _ _ _ ∙ length-putField _ _ _ _ ∙ length-putField bytes at countBits (key / 256)
 
 -- a turn of laying the fixed values
 pub laid-more :
@@ -672,54 +831,54 @@ module _ (fixed : List ℕ) {row : List ℕ} (er : row ≡ rowOf (getD fixed 0 0
 
 -- ---- room for a good message's frame
 
-module _ (fixed keys numbers : List ℕ) (total : ℕ) (eight : length fixed ≡ fixedFields)
-    (g : good format (valuesBy fixed keys numbers total) ≡ true) where
+module _ (fixed keys badges numbers : List ℕ) (total : ℕ) (all-fixed : length fixed ≡ fixedFields)
+    (g : good format (valuesBy fixed keys badges numbers total) ≡ true) where
   abbrev all : List ℕ
-  all = valuesBy fixed keys numbers total
+  all = valuesBy fixed keys badges numbers total
 
   -- its fixed values are right, and say how many entries it has
   pub fixed-good : allBelow (rightAt fixed) entryPlace ≡ true
   fixed-good =
       by-test (allBelow (rightAt fixed) entryPlace)
       (λ t. t)
-      (λ t. absurd (true≢false (sym g ∙ sym (fixed-wrong fixed keys numbers total eight t))))
+      (λ t. absurd (true≢false (sym g ∙ sym (fixed-wrong fixed keys badges numbers total all-fixed t))))
 
   pub total-said : total ≡ entriesIn (getD fixed 0 0) (getD fixed manyPlace 0)
   total-said =
       by-equal total (entriesIn (getD fixed 0 0) (getD fixed manyPlace 0))
       (λ e. e)
-      (λ d. absurd (true≢false (sym g ∙ sym (many-wrong fixed keys numbers total eight fixed-good d))))
+      (λ d. absurd (true≢false (sym g ∙ sym (many-wrong fixed keys badges numbers total all-fixed fixed-good d))))
 
   bits-same : firstBit all entryPlace ≡ firstBit fixed entryPlace
-  bits-same = bit-same all fixed entryPlace (λ j h. sym (front-same fixed keys numbers total eight j h))
+  bits-same = bit-same all fixed entryPlace (λ j h. sym (front-same fixed keys badges numbers total all-fixed j h))
 
   pub fixed-room : firstBit fixed entryPlace ≤ size format all
-  fixed-room = omega (arith, bits-same, sized all g entryPlace (omega (arith, values-length fixed keys numbers total eight)))
+  fixed-room = omega (arith, bits-same, sized all g entryPlace (omega (arith, values-length fixed keys badges numbers total all-fixed)))
 
   pub good-keyed : 0 < total → Keyed (getD fixed 0 0)
-  good-keyed h = its-keyed fixed keys numbers total eight fixed-good total-said h
+  good-keyed h = its-keyed fixed keys badges numbers total all-fixed fixed-good total-said h
 
-  pub entries-room : firstBit fixed entryPlace + total * (keyBits + numberBits (getD fixed 0 0)) ≤ size format all
+  pub entries-room : firstBit fixed entryPlace + total * entryBits (behindOf (getD fixed 0 0)) ≤ size format all
   unfolding bitsFrom bitsOf
   entries-room =
       by-equal total 0
       (λ z.
-      let e : total * (keyBits + numberBits (getD fixed 0 0)) ≡ 0 * (keyBits + numberBits (getD fixed 0 0)) =
-      ap (λ (n : ℕ). n * (keyBits + numberBits (getD fixed 0 0))) z in
+      let e : total * entryBits (behindOf (getD fixed 0 0)) ≡ 0 * entryBits (behindOf (getD fixed 0 0)) =
+      ap (λ (n : ℕ). n * entryBits (behindOf (getD fixed 0 0))) z in
       omega (arith, fixed-room, e))
       (λ d.
       let k = good-keyed (omega arith) in
       let kind = getD fixed 0 0 in
-      let w : bitsFrom (getD all 0 0) entryPlace entryFields ≡ keyBits + numberBits kind =
-      ap (λ (m : ℕ). bitsFrom m entryPlace entryFields) (sym (front-same fixed keys numbers total eight 0 (omega arith)))
+      let w : bitsFrom (getD all 0 0) entryPlace entryFields ≡ entryBits (behindOf kind) =
+      ap (λ (m : ℕ). bitsFrom m entryPlace entryFields) (sym (front-same fixed keys badges numbers total all-fixed 0 (omega arith)))
       ∙ omega (arith, ap bitsOf (k .counts), ap bitsOf (k .owners), count-bits, owner-bits) in
-      let m : total * bitsFrom (getD all 0 0) entryPlace entryFields ≡ total * (keyBits + numberBits kind) = ap (λ (n : ℕ). total * n) w in
+      let m : total * bitsFrom (getD all 0 0) entryPlace entryFields ≡ total * (entryBits (behindOf kind)) = ap (λ (n : ℕ). total * n) w in
       omega (
         arith,
         bits-same,
         m,
         entry-bits all g total,
-        sized all g (valuesFor total) (omega (arith, values-length fixed keys numbers total eight)),
+        sized all g (valuesFor total) (omega (arith, values-length fixed keys badges numbers total all-fixed)),
       ))
     where
       count-bits : bitsOf count ≡ countBits
@@ -728,27 +887,41 @@ module _ (fixed keys numbers : List ℕ) (total : ℕ) (eight : length fixed ≡
       owner-bits : bitsOf of ≡ ownerBits
       owner-bits = refl
 
+-- the entries are in the slices, by what stands behind their key
+pub beside :
+    {kind n keys badges numbers : ℕ} {b : Behind}
+    → b ≡ behindOf kind
+    → Slim b
+    → Places kind n keys badges numbers
+    → Beside b n keys badges numbers
+beside {kind} {n} {keys} {badges} eb slim p =
+    record {
+      slim = slim;
+      for-keys = p .for-keys;
+      for-badges =
+          λ d.
+          by-test (hasBadges kind)
+          (λ t. p .for-badges t)
+          (λ t. absurd (d (ap (λ (u : Behind). u .badge) eb ∙ badge-none kind t)));
+      for-numbers = p .for-numbers;
+    }
+
 -- what laying asks, of values that are a frame's
-module _ {row fixed keys numbers : List ℕ} {n bytes : ℕ} (eight : length fixed ≡ fixedFields)
-    (p : Layable row fixed keys numbers n bytes) where
+module _ {row fixed keys badges numbers : List ℕ} {n bytes : ℕ} (all-fixed : length fixed ≡ fixedFields)
+    (p : Layable row fixed keys badges numbers n bytes) where
   pub fixed-in : FixedIn row fixed bytes
   fixed-in =
-      let r = fixed-room fixed keys numbers n eight (p .right) in
+      let r = fixed-room fixed keys badges numbers n all-fixed (p .right) in
       record { its-row = p .its-row; near = omega (arith, r, size-small _ (p .right)); room = omega (arith, r, p .fits) }
 
-  pub entries-in : {width : ℕ} → width ≡ numberBits (getD fixed 0 0) → width ≤ 32
-      → EntriesIn (firstBit fixed entryPlace) width n (length keys) (length numbers) bytes
-  entries-in {width} ew h =
+  pub entries-in : {b : Behind} → b ≡ behindOf (getD fixed 0 0) → Slim b
+      → EntriesIn (firstBit fixed entryPlace) b n (length keys) (length badges) (length numbers) bytes
+  entries-in {b} eb slim =
       let kind = getD fixed 0 0 in
-      let r = entries-room fixed keys numbers n eight (p .right) in
-      let m : n * (keyBits + width) ≡ n * (keyBits + numberBits kind) = ap (λ (w : ℕ). n * (keyBits + w)) ew in
+      let r = entries-room fixed keys badges numbers n all-fixed (p .right) in
+      let m : n * entryBits b ≡ n * entryBits (behindOf kind) = ap (λ (u : Behind). n * entryBits u) eb in
       record {
-        narrow = h;
+        beside = beside eb slim (p .packable .places);
         near = omega (arith, m, r, size-small _ (p .right));
         room = omega (arith, m, r, p .fits);
-        for-keys = p .packable .places .for-keys;
-        for-numbers =
-            by-equal n 0
-            (λ z. omega arith)
-            (λ d. p .packable .places .for-numbers (good-keyed fixed keys numbers n eight (p .right) (omega arith) .numbered));
       }

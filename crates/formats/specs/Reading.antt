@@ -180,7 +180,7 @@ pub record Come (bytes row : List ℕ) (at : ℕ) (st : State) : Type 0 where
   pub inside : at ≤ 8 * length bytes
   pub found : read format bytes 0 ≡ after values (read (rest st) bytes at)
   pub many : length values ≡ st .place
-  pub eight : length row ≡ fixedFields
+  pub all-fixed : length row ≡ fixedFields
   pub kept : (j : ℕ) → j < st .place → getD row j 0 ≡ getD values j 0
 
 -- no bytes at all
@@ -207,7 +207,7 @@ come-start bytes l =
       inside = omega arith;
       found = ap (λ (g : Grammar). read g bytes 0) rest-start ∙ sym (after-nothing (read (rest start) bytes 0));
       many = refl;
-      eight = l;
+      all-fixed = l;
       kept = λ j h. let z : ⊥ = omega arith in absurd z;
     }
 
@@ -257,7 +257,7 @@ module _ {bytes row : List ℕ} {at : ℕ} {st : State} (c : Come bytes row at s
         by-equal j (st .place)
         (λ q.
         ap (λ (m : ℕ). getD (set row (st .place) v) m 0) q
-        ∙ getD-set-same row (st .place) v 0 (omega (arith, c .eight))
+        ∙ getD-set-same row (st .place) v 0 (omega (arith, c .all-fixed))
         ∙ sym (ap (λ (m : ℕ). getD (c .values ++ (v ∷ [])) m 0) (q ∙ sym (c .many)) ∙ getD-append-seam (c .values) v [] 0))
         (λ d.
         getD-set-other row (st .place) j v 0 d
@@ -282,7 +282,7 @@ module _ {bytes row : List ℕ} {at : ℕ} {st : State} (c : Come bytes row at s
               ∙ ap (after (c .values)) (field-read .2)
               ∙ after-ahead (c .values) v (read (rest (nextOf st v)) bytes (at + widthOf st));
           many = omega (arith, n, next-here v);
-          eight = length-set row (st .place) v ∙ c .eight;
+          all-fixed = length-set row (st .place) v ∙ c .all-fixed;
           kept = λ j k. kept-on v j (omega (arith, next-here v));
         }
 
@@ -310,7 +310,7 @@ module _ {bytes row : List ℕ} {at : ℕ} {st : State} (c : Come bytes row at s
         let p : st .place ≡ manyPlace = omega (arith, ap (λ (s : State). s .place) en ∙ next-here v) in
         let q : st .kind ≡ kind = r .later (λ z. omega arith) in
         let here : getD (set row (st .place) v) manyPlace 0 ≡ v =
-        ap (λ (m : ℕ). getD (set row (st .place) v) m 0) (sym p) ∙ getD-set-same row (st .place) v 0 (omega (arith, c .eight)) in
+        ap (λ (m : ℕ). getD (set row (st .place) v) m 0) (sym p) ∙ getD-set-same row (st .place) v 0 (omega (arith, c .all-fixed)) in
         let m : mostOf (sortOf st) (st .client) (st .before) ≡ mostOf (sortAt kind manyPlace) (st .client) (st .before) =
         ap₂ (λ (k place : ℕ). mostOf (sortAt k place) (st .client) (st .before)) q p in
         rw here

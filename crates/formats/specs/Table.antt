@@ -45,78 +45,87 @@ of = 9
 abbrev pub own : ℕ
 own = 10
 
+-- "a 16-bit badge number, 0 allowed"
+abbrev pub badge : ℕ
+badge = 11
+
 -- a setpoint
 abbrev pub value : ℕ
-value = 11
+value = 12
 
 -- "A zero mask is broken"
 abbrev pub mask : ℕ
-mask = 12
+mask = 13
 
 -- "number 5 (1 to 16)"
 abbrev pub keys : ℕ
-keys = 13
+keys = 14
 
 -- "n−1 in 8"
 abbrev pub less : ℕ
-less = 14
+less = 15
 
 -- How the table is laid out: these numbers stand here only. A row's places, from 0: the first field of the fixed body, the field that says
--- how many entries there are, an entry's first field, which is its key's count, its key's client, and its last, which is its tag, setpoint
--- or mask; and how many places a row has.
+-- how many entries there are, an entry's first field, which is its key's count, its key's client, its badge, and its last, which is its
+-- tag, setpoint or mask; and how many places a row has.
 abbrev pub bodyPlace : ℕ
 bodyPlace = 3
 
 abbrev pub manyPlace : ℕ
-manyPlace = 7
+manyPlace = 8
 
 abbrev pub entryPlace : ℕ
-entryPlace = 8
+entryPlace = 9
 
 abbrev pub ownerPlace : ℕ
-ownerPlace = 9
+ownerPlace = 10
+
+abbrev pub badgePlace : ℕ
+badgePlace = 11
 
 abbrev pub numberPlace : ℕ
-numberPlace = 10
+numberPlace = 12
 
 abbrev pub rowPlaces : ℕ
-rowPlaces = 11
+rowPlaces = 13
 
--- how many fields the fixed body has, header and fixed body together, and an entry; how many kinds there are, with 0, and how many sorts of fields
+-- how many fields the fixed body has, header and fixed body together, and an entry; how many kinds there are, with 0, and how many sorts
+-- of fields
 abbrev pub bodyFields : ℕ
-bodyFields = 5
+bodyFields = 6
 
 abbrev pub fixedFields : ℕ
 fixedFields = entryPlace
 
 abbrev pub entryFields : ℕ
-entryFields = 3
+entryFields = 4
 
 abbrev pub kinds : ℕ
 kinds = 13
 
 abbrev pub sorts : ℕ
-sorts = 15
+sorts = 16
 
 -- "Header: kind 4 bits, panel 4, target 5"
 abbrev pub headerBits : ℕ
 headerBits = 13
 
 -- The table by kind: "station or head target, fixed body bits, bits per entry".
+-- "Version records hold it after the key, as do frame kinds 1 and 10; kind 8 has it before the setpoint"
 -- until the kind is read; set, set done, enter, entered, which keys, keys, get, got, get all, all, get log, log
 abbrev pub byKind : List (List ℕ)
 byKind =
     (server ∷ 0 ∷ 0 ∷ [])
-    ∷ (server ∷ 44 ∷ 0 ∷ [])
+    ∷ (server ∷ 60 ∷ 0 ∷ [])
     ∷ (server ∷ 0 ∷ 0 ∷ [])
     ∷ (coord ∷ 28 ∷ 0 ∷ [])
     ∷ (coord ∷ 8 ∷ 0 ∷ [])
     ∷ (coord ∷ 0 ∷ 0 ∷ [])
     ∷ (coord ∷ 13 ∷ 20 ∷ [])
     ∷ (server ∷ 12 ∷ 0 ∷ [])
-    ∷ (server ∷ 32 ∷ 0 ∷ [])
+    ∷ (server ∷ 48 ∷ 0 ∷ [])
     ∷ (server ∷ 0 ∷ 0 ∷ [])
-    ∷ (server ∷ 8 ∷ 44 ∷ [])
+    ∷ (server ∷ 8 ∷ 60 ∷ [])
     ∷ (coord ∷ 0 ∷ 0 ∷ [])
     ∷ (coord ∷ 8 ∷ 28 ∷ [])
     ∷ []
@@ -128,34 +137,37 @@ shape columns = record { target = getD columns 0 0; body = getD columns 1 0; ent
 abbrev pub shapeOf : ℕ → Shape
 shapeOf kind = shape (getD byKind kind [])
 
--- Beside the table, which fields make up those bits: of the fixed body tag, key's count and client, setpoint or mask, how many entries;
--- of an entry key's count and client, and tag, setpoint or mask. `row-right` proves that their bits are the table's.
-abbrev pub fields : ℕ → ℕ → ℕ → ℕ → ℕ → ℕ → ℕ → ℕ → List ℕ
-fields t c p x n c′ p′ x′ = t ∷ c ∷ p ∷ x ∷ n ∷ c′ ∷ p′ ∷ x′ ∷ []
+-- Beside the table, which fields make up those bits: of the fixed body tag, key's count and client, badge, setpoint or mask, how many
+-- entries; of an entry key's count and client, badge, and tag, setpoint or mask. `row-right` proves that their bits are the table's.
+abbrev pub fields : ℕ → ℕ → ℕ → ℕ → ℕ → ℕ → ℕ → ℕ → ℕ → ℕ → List ℕ
+fields t c p b x n c′ p′ b′ x′ = t ∷ c ∷ p ∷ b ∷ x ∷ n ∷ c′ ∷ p′ ∷ b′ ∷ x′ ∷ []
 
 abbrev pub bare : List ℕ
-bare = fields none none none none none none none none
+bare = fields none none none none none none none none none none
 
 abbrev pub bodies : List (List ℕ)
 bodies =
     bare
-    ∷ fields none count1 own value none none none none
+    ∷ fields none count1 own badge value none none none none none
     ∷ bare
-    ∷ fields none count1 own mask none none none none
-    ∷ fields tag1 none none none none none none none
+    ∷ fields none count1 own none mask none none none none none
+    ∷ fields tag1 none none none none none none none none none
     ∷ bare
-    ∷ fields tag none none none keys count of tag
-    ∷ fields none count of none none none none none
-    ∷ fields none none none value none none none none
+    ∷ fields tag none none none none keys count of none tag
+    ∷ fields none count of none none none none none none none
+    ∷ fields none none none badge value none none none none none
     ∷ bare
-    ∷ fields none none none none less count of value
+    ∷ fields none none none none none less count of badge value
     ∷ bare
-    ∷ fields none none none none less count of mask
+    ∷ fields none none none none none less count of none mask
     ∷ []
 
 -- what the fields of a frame hold, place by place: "Header: kind 4 bits, panel 4, target 5", then the body's and an entry's
+abbrev pub rowWith : ℕ → List ℕ → List ℕ
+rowWith target body = kind ∷ client ∷ target ∷ body
+
 abbrev pub rowOf : ℕ → List ℕ
-rowOf k = kind ∷ client ∷ shapeOf k .target ∷ getD bodies k bare
+rowOf k = rowWith (shapeOf k .target) (getD bodies k bare)
 
 unfoldable pub sortAt : ℕ → ℕ → ℕ
 sortAt kind place = getD (rowOf kind) place none
@@ -164,7 +176,7 @@ sortAt kind place = getD (rowOf kind) place none
 abbrev pub limitRow : ℕ → ℕ → ℕ → Field
 limitRow width least most = record { width = width; least = least; most = most }
 
--- by what it holds: none, kind, client, server, coord; tag, tag1, count, count1; of, own; value, mask, keys, less
+-- by what it holds: none, kind, client, server, coord; tag, tag1, count, count1; of, own; badge, value, mask, keys, less
 abbrev pub limitRows : List Field
 limitRows =
     limitRow 0 0 0
@@ -178,6 +190,7 @@ limitRows =
     ∷ limitRow 8 1 255
     ∷ limitRow 4 0 15
     ∷ limitRow 4 0 15
+    ∷ limitRow 16 0 65535
     ∷ limitRow 32 0 4294967295
     ∷ limitRow 16 1 65535
     ∷ limitRow 5 1 16
@@ -214,6 +227,6 @@ entriesSaid vs = entriesIn (getD vs 0 0) (getD vs manyPlace 0)
 abbrev pub valuesFor : ℕ → ℕ
 valuesFor entries = fixedFields + entryFields * entries
 
--- an entry has a number beside its key: its tag, setpoint or mask
-unfoldable pub hasNumbers : ℕ → Bool
-hasNumbers kind = not (eqb (sortAt kind numberPlace) none)
+-- an entry has a badge behind its key
+unfoldable pub hasBadges : ℕ → Bool
+hasBadges kind = not (eqb (sortAt kind badgePlace) none)

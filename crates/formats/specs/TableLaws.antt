@@ -2,7 +2,7 @@
 use Prim.Native.Nat.{ℕ, zero, suc, _+_, _*_, _≤_, _<_}
 use mathlib.Core.Path.{_≡_, refl, sym, ap, _∙_}
 use mathlib.Core.Bool.{Bool, true, false, cond, not, _&&_, _||_}
-use mathlib.Core.List.{List, [], _∷_}
+use mathlib.Core.List.{List, []}
 use native.Mathlib.Nat.{mul-le-mul}
 use native.Mathlib.Omega.{arith}
 use lib.Dec.{eqb, leb, ltb}
@@ -13,17 +13,18 @@ use Rattle.ranges.specs.All.{allBelow}
 use Rattle.ranges.specs.AllLaws.{all-at}
 use Rattle.formats.specs.declared.state.Field.{Field}
 use Rattle.formats.specs.declared.table.Shape.{Shape}
-use Rattle.formats.specs.Table.{none, server, coord, own, of, less, bodyPlace, manyPlace, entryPlace}
+use Rattle.formats.specs.Table.{none, server, coord, own, of, badge, less, bodyPlace, manyPlace, entryPlace, badgePlace}
 use Rattle.formats.specs.Table.{rowPlaces, bodyFields, entryFields, kinds}
 use Rattle.formats.specs.Table.{sorts, headerBits, mostEntries}
-use Rattle.formats.specs.Table.{shape, byKind, shapeOf, bare, bodies, rowOf, sortAt, bitsOf, leastOf, mostOf, limitsOf, entriesIn}
+use Rattle.formats.specs.Table.{shape, byKind, shapeOf, bare, bodies, rowWith, rowOf, sortAt, bitsOf, leastOf, mostOf, limitsOf}
+use Rattle.formats.specs.Table.{entriesIn}
 
 -- the bits of n fields of a kind from a place on
 unfoldable pub bitsFrom : ℕ → ℕ → ℕ → ℕ
 bitsFrom kind place zero = 0
 bitsFrom kind place (suc n) = bitsOf (sortAt kind place) + bitsFrom kind (place + 1) n
 
--- What holds of a kind: its fields are eleven, the header has 13 bits, the table's columns "fixed body bits" and "bits per entry" are
+-- What holds of a kind: its fields are thirteen, the header has 13 bits, the table's columns "fixed body bits" and "bits per entry" are
 -- the sums of the fields' bits, and a frame has at most 256 entries.
 pub record Row (kind : ℕ) : Type 0 where
   pub places : length (rowOf kind) ≡ rowPlaces
@@ -75,10 +76,10 @@ pub row-by :
     (kind : ℕ) {target : ℕ} {body : List ℕ}
     → target ≡ shapeOf kind .target
     → body ≡ getD bodies kind bare
-    → 1 ∷ 2 ∷ target ∷ body ≡ rowOf kind
-row-by kind e d i = 1 ∷ 2 ∷ e i ∷ d i
+    → rowWith target body ≡ rowOf kind
+row-by kind e d i = rowWith (e i) (d i)
 
-row-none : (kind : ℕ) → kinds ≤ kind → 1 ∷ 2 ∷ none ∷ bare ≡ rowOf kind
+row-none : (kind : ℕ) → kinds ≤ kind → rowWith none bare ≡ rowOf kind
 row-none kind h = row-by kind (ap (λ (s : Shape). s .target) (shape-none kind h)) (body-none kind h)
 
 -- the bits of the first field, which is the kind
@@ -90,7 +91,7 @@ pub row-at : (kind place : ℕ) → getD (rowOf kind) place none ≡ sortAt kind
 unfolding sortAt
 row-at kind place = refl
 
--- each cell is one of the fifteen sorts, also beyond the row
+-- each cell is one of the sixteen sorts, also beyond the row
 sort-in :
     (row : List ℕ)
     → length row ≡ rowPlaces
@@ -114,7 +115,7 @@ sort-small kind place =
     let t = all-at (λ k. allBelow (λ p. ltb (sortAt k p) sorts) rowPlaces) kinds refl kind h in
     sort-in (rowOf kind) (row-right kind h .places) t place)
     (λ e.
-    let header = 1 ∷ 2 ∷ none ∷ bare in
+    let header = rowWith none bare in
     let q : sortAt kind place ≡ getD header place none =
     ap (λ (r : List ℕ). getD r place none) (sym (row-none kind (ltb-false kind kinds e))) in
     omega (arith, q, sort-in header refl refl place))
@@ -131,9 +132,15 @@ pub bits-most : (sort : ℕ) → sort < sorts → bitsOf sort ≤ 32
 unfolding allBelow bitsOf
 bits-most sort h = leb-true _ _ (all-at (λ s. leb (bitsOf s) 32) sorts refl sort h)
 
--- the columns are small: nothing in them is above a count, a client and a setpoint
+-- a field that the kind has is some bits wide
+pub bits-some : (sort : ℕ) → sort < sorts → (sort ≡ none → ⊥) → 0 < bitsOf sort
+unfolding allBelow bitsOf
+bits-some sort h d =
+    ltb-true _ _ (rw (ne-eqb sort none d) at (all-at (λ s. eqb s none || ltb 0 (bitsOf s)) sorts refl sort h))
+
+-- the columns are small: nothing in them is above a count, a client, a badge and a setpoint
 abbrev pub mostColumn : ℕ
-mostColumn = 44
+mostColumn = 60
 
 pub columns-small : (kind : ℕ) → kind < kinds → (shapeOf kind .body ≤ mostColumn) × (shapeOf kind .entry ≤ mostColumn)
 unfolding allBelow
@@ -153,6 +160,17 @@ target-is kind {s} h e d =
 -- beyond the table there are no entries
 pub many-none : (kind : ℕ) → kinds ≤ kind → sortAt kind manyPlace ≡ none
 many-none kind h = sym (row-at kind manyPlace) ∙ ap (λ (r : List ℕ). getD r manyPlace none) (sym (row-none kind h))
+
+-- a badge behind a key is a badge wherever it has bits
+pub badge-wide : (kind : ℕ) → (bitsOf (sortAt kind badgePlace) ≡ 0 → ⊥) → bitsOf (sortAt kind badgePlace) ≡ bitsOf badge
+unfolding allBelow sortAt bitsOf
+badge-wide kind d =
+    by-test (ltb kind kinds)
+    (λ e.
+    let bits : ℕ → ℕ = λ k. bitsOf (sortAt k badgePlace) in
+    let a = all-at (λ k. eqb (bits k) 0 || eqb (bits k) (bitsOf badge)) kinds refl kind (ltb-true kind kinds e) in
+    eqb-true _ _ (rw (ne-eqb (bits kind) 0 d) at a))
+    (λ e. absurd (d (ap (λ (r : List ℕ). bitsOf (getD r badgePlace none)) (sym (row-none kind (ltb-false kind kinds e))))))
 
 -- a value that says how many entries there are is below the most
 pub few-entries : (kind client before : ℕ) → mostOf (sortAt kind manyPlace) client before < mostEntries

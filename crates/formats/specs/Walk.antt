@@ -16,7 +16,8 @@ use Rattle.ranges.specs.SumLaws.{sum-more}
 use Rattle.formats.specs.declared.state.State.{State}
 use Rattle.formats.specs.Grammar.{Grammar, good, size, frame}
 use Rattle.formats.specs.Columns.{lengthBy}
-use Rattle.formats.specs.Table.{manyPlace, entryPlace, ownerPlace, numberPlace, entryFields, kinds, headerBits, mostEntries}
+use Rattle.formats.specs.Table.{manyPlace, entryPlace, ownerPlace, badgePlace, numberPlace, entryFields, kinds, headerBits}
+use Rattle.formats.specs.Table.{mostEntries}
 use Rattle.formats.specs.Table.{sortAt, bitsOf, mostOf, shapeOf, entriesIn, entriesSaid, valuesFor}
 use Rattle.formats.specs.TableLaws.{row-right, bitsFrom, few-entries, entries-most}
 use Rattle.formats.specs.Format.{sortOf, widthOf, allowed, nextOf, start, format}
@@ -130,7 +131,7 @@ module _ (vs : List ℕ) (g : good format vs ≡ true) where
       (λ z. z)
       (λ d. absurd (true≢false (sym (tested-short vs (length vs) (stateAt vs (length vs)) c (omega arith) (omega arith) ∙ g))))
 
-  -- eight values, and three for each entry
+  -- nine values, and four for each entry
   pub values-length : length vs ≡ valuesFor (entriesSaid vs)
   values-length =
       let n = valuesFor (entriesSaid vs) in
@@ -199,6 +200,7 @@ module _ (vs : List ℕ) (g : good format vs ≡ true) where
         w 4 (omega arith) (omega arith),
         w 5 (omega arith) (omega arith),
         w 6 (omega arith) (omega arith),
+        w 7 (omega arith) (omega arith),
         w manyPlace (omega arith) (omega arith),
       )
 
@@ -209,13 +211,18 @@ module _ (vs : List ℕ) (g : good format vs ≡ true) where
       let f : ℕ → ℕ = λ j. widthOf (stateAt vs j) in
       let k = valuesFor m in
       let kind = getD vs 0 0 in
-      let q : valuesFor (suc m) ≡ k + 1 + 1 + 1 = omega arith in
+      let q : valuesFor (suc m) ≡ k + 1 + 1 + 1 + 1 = omega arith in
       let n₀ : sumBelow f (k + 1) ≡ sumBelow f k + f k = sum-more f k in
       let n₁ : sumBelow f (k + 1 + 1) ≡ sumBelow f (k + 1) + f (k + 1) = sum-more f (k + 1) in
       let n₂ : sumBelow f (k + 1 + 1 + 1) ≡ sumBelow f (k + 1 + 1) + f (k + 1 + 1) = sum-more f (k + 1 + 1) in
-      let w₀ : f k ≡ bitsOf (sortAt kind entryPlace) = width-at k entryPlace (omega arith) (place-late k (omega arith) ∙ omega arith) in
-      let w₁ : f (k + 1) ≡ bitsOf (sortAt kind ownerPlace) = width-at (k + 1) ownerPlace (omega arith) (place-late (k + 1) (omega arith) ∙ omega arith) in
-      let w₂ : f (k + 1 + 1) ≡ bitsOf (sortAt kind numberPlace) = width-at (k + 1 + 1) numberPlace (omega arith) (place-late (k + 1 + 1) (omega arith) ∙ omega arith) in
+      let n₃ : sumBelow f (k + 1 + 1 + 1 + 1) ≡ sumBelow f (k + 1 + 1 + 1) + f (k + 1 + 1 + 1) = sum-more f (k + 1 + 1 + 1) in
+      let at : (d p : ℕ) → d < entryFields → p ≡ entryPlace + d → f (k + d) ≡ bitsOf (sortAt kind p) =
+      λ d p h e. width-at (k + d) p (omega arith) (place-late (k + d) (omega arith) ∙ omega arith) in
+      let w₀ : f k ≡ bitsOf (sortAt kind entryPlace) = ap f (omega arith) ∙ at 0 entryPlace (omega arith) (omega arith) in
+      let w₁ : f (k + 1) ≡ bitsOf (sortAt kind ownerPlace) = at 1 ownerPlace (omega arith) (omega arith) in
+      let w₂ : f (k + 1 + 1) ≡ bitsOf (sortAt kind badgePlace) = ap f (omega arith) ∙ at 2 badgePlace (omega arith) (omega arith) in
+      let w₃ : f (k + 1 + 1 + 1) ≡ bitsOf (sortAt kind numberPlace) =
+      ap f (omega arith) ∙ at 3 numberPlace (omega arith) (omega arith) in
       ap (sumBelow f) q ∙ rw (suc-mul m (bitsFrom kind entryPlace entryFields)) (omega (arith, entry-bits m))
 
   -- where entry m begins

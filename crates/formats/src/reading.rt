@@ -4,6 +4,7 @@ use crate::state;
 use crate::state::Field;
 use crate::state::State;
 use crate::table;
+use crate::table::ENTRY_BADGE;
 use crate::table::ENTRY_FIELDS;
 use crate::table::FIXED_FIELDS;
 use crate::table::KEY_BITS;
@@ -131,8 +132,8 @@ fn key_fault(bytes: &[u8], at: usize) -> u8
     11
 }
 
-// What is wrong with the number of an entry: 10 where it is cut short, 11 where it is below its least, else 0. It is read only where it
-// has a least, and is a mask then.
+// What is wrong with what stands behind the key of an entry, a number or a badge and a number: 10 where it is cut short, 11 where it is
+// below its least, else 0. It is read only where it has a least, and is a mask then: no badge is wrong by itself.
 fn number_fault(bytes: &[u8], at: usize, width: usize, least: u32) -> u8
     requires { ⌜ Number at width least ⌝ }
     ensures { λ r. ⌜ r ≡ numberFault (now (bytes .entry)) at width least ⌝ }
@@ -149,7 +150,7 @@ fn number_fault(bytes: &[u8], at: usize, width: usize, least: u32) -> u8
     0
 }
 
-// What is wrong with an entry: its key, then its number.
+// What is wrong with an entry: its key, then the so many bits behind that.
 fn entry_fault(bytes: &[u8], at: usize, width: usize, least: u32) -> u8
     requires { ⌜ (at ≤ mostBits) × Number (at + keyBits) width least ⌝ }
     ensures { λ r. ⌜ r ≡ entryFault (now (bytes .entry)) at width least ⌝ }
@@ -221,8 +222,14 @@ pub fn scan_frame(bytes: &[u8]) -> Scan
         state = state::next(sort, state, value);
     }
     let entries = table::entries_in(row[MANY], fixed[MANY]);
-    let limits = table::limits_of(row[NUMBER]);
-    let number = rest_fault(bytes, at, limits.width, limits.least, entries);
+    let behind = table::behind_key(row[ENTRY_BADGE], row[NUMBER]);
+    let number = rest_fault(
+        bytes,
+        at,
+        behind.badge + behind.width,
+        behind.least,
+        entries,
+    );
     if number != 0 {
         return refused(number);
     }

@@ -1,4 +1,4 @@
-// Which field comes next: a frame's fields are the three of its header, the five of its fixed body, and three for each entry.
+// Which field comes next: a frame's fields are the three of its header, the six of its fixed body, and four for each entry.
 use crate::table;
 ghost use mathlib.Core.Path.{_≡_};
 ghost use Prim.Native.Nat.{_<_, _≤_};

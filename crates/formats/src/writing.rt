@@ -3,17 +3,18 @@ use crate::state;
 use crate::state::Field;
 use crate::state::State;
 use crate::table;
-use crate::table::COUNT_BITS;
+use crate::table::BADGE_BITS;
+use crate::table::Behind;
+use crate::table::ENTRY_BADGE;
 use crate::table::FIXED_FIELDS;
 use crate::table::KEY_BITS;
 use crate::table::LAST_KIND;
 use crate::table::MANY;
 use crate::table::NUMBER;
-use crate::table::OWNER_BITS;
 use crate::table::PLACES;
 ghost use mathlib.Core.Path.{_≡_};
 ghost use Prim.Native.Nat.{_+_, _*_, _^_, _≤_, _<_};
-ghost use mathlib.Core.Bool.{_&&_};
+ghost use mathlib.Core.Bool.{true, _&&_};
 ghost use lib.Dec.{ltb};
 ghost use lib.ListN.{length, getD};
 ghost use Rattle.formats.specs.Grammar.{good, lay, zeros};
@@ -23,12 +24,12 @@ ghost use Rattle.formats.specs.Table.{sorts, fixedFields, rowOf, bitsOf}
 ghost use Rattle.formats.specs.Format.{sortOf, widthOf, within, allowed, format};
 ghost use Rattle.formats.specs.Entries.{valuesBy};
 ghost use Rattle.formats.specs.Columns.{mostBits, Packable};
-ghost use Rattle.formats.specs.Entry.{keyBits};
+ghost use Rattle.formats.specs.Entry.{badgeWidth, Slim, entryBits};
 ghost use Rattle.formats.specs.Writing.{wroteOf, bytesAfter};
 ghost use Rattle.formats.specs.Walk.{firstBit};
 ghost use Rattle.formats.specs.Laying.{Layable};
-ghost use Rattle.formats.specs.Packing.{rightAt, keyRight, numberRight, entriesRight, laidTo};
-ghost use Rattle.formats.specs.Packing.{entryLaid, entriesLaid, FixedIn, EntriesIn};
+ghost use Rattle.formats.specs.Packing.{rightAt, keyRight, numberRight, badgeOf, entriesRight, laidTo};
+ghost use Rattle.formats.specs.Packing.{entryLaid, entriesLaid, FixedIn, Beside, EntriesIn};
 
 // Whether a value fits a width.
 fn fits_in(value: u32, width: usize) -> bool
@@ -114,17 +115,37 @@ fn number_right(number: u32, width: usize, least: u32) -> bool
     fits_in(number, width)
 }
 
+// Whether an entry may have its badge; one that has no bits is none.
+fn badge_right(width: usize, badges: &[u32], i: usize) -> bool
+    requires { ⌜ ((width ≡ 0 → ⊥) → (width ≡ badgeWidth) × (i < length (now badges))) ⌝ }
+    ensures { λ r. ⌜ r ≡ ltb (badgeOf width (now (badges .entry)) i) (2 ^ width) ⌝ }
+{
+    if width == 0 {
+        return true;
+    }
+    fits_in(badges[i], BADGE_BITS)
+}
+
 // Whether so many entries are those of a frame.
-fn entries_right(keys: &[u32], numbers: &[u32], width: usize, least: u32, entries: usize) -> bool
-    requires { ⌜ (width ≤ 32) × (entries ≤ length (now keys)) × (entries ≤ length (now numbers)) ⌝ }
-    ensures { λ r. ⌜ r ≡ entriesRight width least (now (keys .entry)) (now (numbers .entry)) 0 entries ⌝ }
+fn entries_right(
+    behind: Behind,
+    keys: &[u32],
+    badges: &[u32],
+    numbers: &[u32],
+    entries: usize,
+) -> bool
+    requires { ⌜ Beside behind entries (length (now keys)) (length (now badges)) (length (now numbers)) ⌝ }
+    ensures { λ r. ⌜ r ≡ entriesRight behind (now (keys .entry)) (now (badges .entry)) (now (numbers .entry)) 0 entries ⌝ }
 {
     let mut i: usize = 0;
     while i < entries {
         if !key_right(keys[i]) {
             return false;
         }
-        if !number_right(numbers[i], width, least) {
+        if !badge_right(behind.badge, badges, i) {
+            return false;
+        }
+        if !number_right(numbers[i], behind.width, behind.least) {
             return false;
         }
         i += 1;
@@ -137,11 +158,13 @@ fn writable(
     row: &[u8; PLACES],
     fixed: &[u32; FIXED_FIELDS],
     keys: &[u32],
+    badges: &[u32],
     numbers: &[u32],
     entries: usize,
 ) -> bool
-    requires { ⌜ (now row ≡ rowOf (getD (now fixed) 0 0)) × Packable (now fixed) (now keys) (now numbers) entries ⌝ }
-    ensures { λ r. ⌜ r ≡ good format (valuesBy (now (fixed .entry)) (now (keys .entry)) (now (numbers .entry)) entries) ⌝ }
+    requires { ⌜ (now row ≡ rowOf (getD (now fixed) 0 0)) × Packable (now fixed) (now keys) (now badges) (now numbers) entries ⌝ }
+    ensures { λ r. ⌜ r
+        ≡ good format (valuesBy (now (fixed .entry)) (now (keys .entry)) (now (badges .entry)) (now (numbers .entry)) entries) ⌝ }
 {
     if !fixed_right(row, fixed) {
         return false;
@@ -149,8 +172,8 @@ fn writable(
     if entries != table::entries_in(row[MANY], fixed[MANY]) {
         return false;
     }
-    let limits = table::limits_of(row[NUMBER]);
-    entries_right(keys, numbers, limits.width, limits.least, entries)
+    let behind = table::behind_key(row[ENTRY_BADGE], row[NUMBER]);
+    entries_right(behind, keys, badges, numbers, entries)
 }
 
 fn clear(bytes: &mut [u8])
@@ -192,34 +215,57 @@ fn lay_fixed(row: &[u8; PLACES], fixed: &[u32; FIXED_FIELDS], bytes: &mut [u8]) 
     at
 }
 
-// An entry at a bit: its key's count and client, and its number.
-fn lay_entry(at: usize, width: usize, key: u32, number: u32, bytes: &mut [u8])
-    requires { ⌜ (width ≤ 32) × (at + (keyBits + width) ≤ mostBits) × (at + (keyBits + width) ≤ 8 * length (now bytes)) ⌝ }
-    ensures { λ _. ⌜ now (bytes .exit) ≡ entryLaid width key number (now (bytes .entry)) at ⌝ }
+// The badge of an entry at a bit; one that has no bits is laid nowhere.
+fn lay_badge(at: usize, width: usize, badges: &[u32], i: usize, bytes: &mut [u8])
+    requires { ⌜ ((width ≡ 0 → ⊥) → (width ≡ badgeWidth) × (i < length (now badges))) × (at + width ≤ 8 * length (now bytes)) ⌝ }
+    ensures { λ _. ⌜ now (bytes .exit) ≡ putField (now (bytes .entry)) at width (badgeOf width (now (badges .entry)) i) ⌝ }
 {
-    fields::write_field(bytes, at, COUNT_BITS, key / 256);
-    fields::write_field(bytes, at + COUNT_BITS, OWNER_BITS, key % 256);
-    fields::write_field(bytes, at + KEY_BITS, width, number);
+    if width == 0 {
+        return;
+    }
+    fields::write_field(bytes, at, BADGE_BITS, badges[i]);
+}
+
+// An entry at a bit: its key, which is laid as one field, its badge, and its number.
+fn lay_entry(
+    at: usize,
+    behind: Behind,
+    key: u32,
+    badges: &[u32],
+    i: usize,
+    number: u32,
+    bytes: &mut [u8],
+)
+    requires { ⌜ Slim behind × ((behind .badge ≡ 0 → ⊥) → i < length (now badges)) × (at + entryBits behind ≤ mostBits)
+        × (at + entryBits behind ≤ 8 * length (now bytes)) × (keyRight key ≡ true) ⌝ }
+    ensures { λ _. ⌜ now (bytes .exit)
+        ≡ entryLaid behind key (badgeOf (behind .badge) (now (badges .entry)) i) number (now (bytes .entry)) at ⌝ }
+{
+    fields::write_field(bytes, at, KEY_BITS, key / 256 * 16 + key % 256);
+    lay_badge(at + KEY_BITS, behind.badge, badges, i, bytes);
+    fields::write_field(bytes, at + KEY_BITS + behind.badge, behind.width, number);
 }
 
 // So many entries, one behind the other, from a bit on.
 fn lay_entries(
     first: usize,
-    width: usize,
+    behind: Behind,
     keys: &[u32],
+    badges: &[u32],
     numbers: &[u32],
     entries: usize,
     bytes: &mut [u8],
 )
-    requires { ⌜ EntriesIn first width entries (length (now keys)) (length (now numbers)) (length (now bytes)) ⌝ }
+    requires { ⌜ EntriesIn first behind entries (length (now keys)) (length (now badges)) (length (now numbers)) (length (now bytes))
+        × (entriesRight behind (now keys) (now badges) (now numbers) 0 entries ≡ true) ⌝ }
     ensures { λ _. ⌜ now (bytes .exit)
-        ≡ entriesLaid width (now (keys .entry)) (now (numbers .entry)) 0 entries (now (bytes .entry)) first ⌝ }
+        ≡ entriesLaid behind (now (keys .entry)) (now (badges .entry)) (now (numbers .entry)) 0 entries (now (bytes .entry)) first ⌝ }
 {
     let mut at = first;
     let mut i: usize = 0;
     while i < entries {
-        lay_entry(at, width, keys[i], numbers[i], bytes);
-        at += KEY_BITS + width;
+        lay_entry(at, behind, keys[i], badges, i, numbers[i], bytes);
+        at += KEY_BITS + behind.badge + behind.width;
         i += 1;
     }
 }
@@ -229,19 +275,20 @@ fn fill(
     row: &[u8; PLACES],
     fixed: &[u32; FIXED_FIELDS],
     keys: &[u32],
+    badges: &[u32],
     numbers: &[u32],
     entries: usize,
     bytes: &mut [u8],
 )
-    requires { ⌜ Layable (now row) (now fixed) (now keys) (now numbers) entries (length (now bytes)) ⌝ }
+    requires { ⌜ Layable (now row) (now fixed) (now keys) (now badges) (now numbers) entries (length (now bytes)) ⌝ }
     ensures { λ _. ⌜ now (bytes .exit)
-        ≡ lay format (valuesBy (now (fixed .entry)) (now (keys .entry)) (now (numbers .entry)) entries)
+        ≡ lay format (valuesBy (now (fixed .entry)) (now (keys .entry)) (now (badges .entry)) (now (numbers .entry)) entries)
         (zeros (length (now (bytes .entry)))) 0 ⌝ }
 {
     clear(bytes);
     let first = lay_fixed(row, fixed, bytes);
-    let limits = table::limits_of(row[NUMBER]);
-    lay_entries(first, limits.width, keys, numbers, entries, bytes);
+    let behind = table::behind_key(row[ENTRY_BADGE], row[NUMBER]);
+    lay_entries(first, behind, keys, badges, numbers, entries, bytes);
 }
 
 // What writing did: the number that refuses it, or 0 and the frame's length in bytes.
@@ -255,14 +302,18 @@ pub struct Wrote {
 pub fn write_values(
     fixed: &[u32; FIXED_FIELDS],
     keys: &[u32],
+    badges: &[u32],
     numbers: &[u32],
     entries: usize,
     bytes: &mut [u8],
 ) -> Wrote
-    requires { ⌜ Packable (now fixed) (now keys) (now numbers) entries ⌝ }
-    ensures { λ r. ⌜ (r ≡ wroteOf (valuesBy (now (fixed .entry)) (now (keys .entry)) (now (numbers .entry)) entries) (now (bytes .entry)))
+    requires { ⌜ Packable (now fixed) (now keys) (now badges) (now numbers) entries ⌝ }
+    ensures { λ r. ⌜ (r
+        ≡ wroteOf (valuesBy (now (fixed .entry)) (now (keys .entry)) (now (badges .entry)) (now (numbers .entry)) entries)
+        (now (bytes .entry)))
         × (now (bytes .exit)
-        ≡ bytesAfter (valuesBy (now (fixed .entry)) (now (keys .entry)) (now (numbers .entry)) entries) (now (bytes .entry))) ⌝ }
+        ≡ bytesAfter (valuesBy (now (fixed .entry)) (now (keys .entry)) (now (badges .entry)) (now (numbers .entry)) entries)
+        (now (bytes .entry))) ⌝ }
 {
     let kind = fixed[0];
     if LAST_KIND < kind {
@@ -273,7 +324,7 @@ pub fn write_values(
     }
     let shape = table::shape_of(kind);
     let row = table::row_of(kind, table::target_of(shape));
-    if !writable(&row, fixed, keys, numbers, entries) {
+    if !writable(&row, fixed, keys, badges, numbers, entries) {
         return Wrote {
             fault: 11,
             length: 0,
@@ -286,7 +337,15 @@ pub fn write_values(
             length: 0,
         };
     }
-    fill(&row, fixed, keys, numbers, entries, &mut bytes[..length]);
+    fill(
+        &row,
+        fixed,
+        keys,
+        badges,
+        numbers,
+        entries,
+        &mut bytes[..length],
+    );
     Wrote {
         fault: 0,
         length: length,

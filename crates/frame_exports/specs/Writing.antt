@@ -12,8 +12,17 @@ use Rattle.frames.specs.Frames.{writtenOf, bytesWritten}
 use Rattle.frame_exports.specs.Numbers.{refusedNumber, writtenNumber}
 
 -- what is fixed in a message, from its numbers
-abbrev pub fixedFrom : ℕ → ℕ → ℕ → ℕ → ℕ → ℕ → ℕ → Fixed
-fixedFrom client server tag count owner number entries = record { client = client; server = server; tag = tag; key = keyOf count owner; number = number; entries = entries }
+abbrev pub fixedFrom : ℕ → ℕ → ℕ → ℕ → ℕ → ℕ → ℕ → ℕ → Fixed
+fixedFrom client server tag count owner badge number entries =
+    record {
+      client = client;
+      server = server;
+      tag = tag;
+      key = keyOf count owner;
+      badge = badge;
+      number = number;
+      entries = entries;
+    }
 
 -- the kinds are 1 to 12
 abbrev pub isKind : ℕ → Bool
@@ -27,8 +36,9 @@ module _ (kind : ℕ) where
   up-to-12 d = rw (ne-eqb kind 0 d)
 
 -- 11 "message not writable": a number that is no kind names no message, and the bytes are as before
-abbrev pub frameAnswer : ℕ → Fixed → List ℕ → List ℕ → List ℕ → ℕ
-frameAnswer kind f keys numbers bytes = cond (isKind kind) (writtenNumber (writtenOf (messageAt kind f) keys numbers bytes)) (refusedNumber 11)
+abbrev pub frameAnswer : ℕ → Fixed → List ℕ → List ℕ → List ℕ → List ℕ → ℕ
+frameAnswer kind f keys badges numbers bytes =
+    cond (isKind kind) (writtenNumber (writtenOf (messageAt kind f) keys badges numbers bytes)) (refusedNumber 11)
 
-abbrev pub frameLeft : ℕ → Fixed → List ℕ → List ℕ → List ℕ → List ℕ
-frameLeft kind f keys numbers bytes = cond (isKind kind) (bytesWritten (messageAt kind f) keys numbers bytes) bytes
+abbrev pub frameLeft : ℕ → Fixed → List ℕ → List ℕ → List ℕ → List ℕ → List ℕ
+frameLeft kind f keys badges numbers bytes = cond (isKind kind) (bytesWritten (messageAt kind f) keys badges numbers bytes) bytes

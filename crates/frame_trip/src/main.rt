@@ -27,6 +27,7 @@ fn sample(kind: u32) -> Message {
             client: 2,
             server: 3,
             key: Key::new(1, 2),
+            badge: 0,
             setpoint: 1800,
         },
         2 => Message::SetDone {
@@ -56,6 +57,7 @@ fn sample(kind: u32) -> Message {
         8 => Message::Got {
             client: 5,
             server: 6,
+            badge: 7,
             setpoint: 4294967295,
         },
         9 => Message::GetAll {
@@ -75,11 +77,12 @@ fn sample(kind: u32) -> Message {
     }
 }
 
-// Entries: the opening's key, then counts rising, clients in turn; numbers from 1.
-fn fill(keys: &mut [u32; 256], numbers: &mut [u32; 256]) {
+// Entries: the opening's key, then counts rising, clients in turn; badges from 65,535 down; numbers from 1.
+fn fill(keys: &mut [u32; 256], badges: &mut [u32; 256], numbers: &mut [u32; 256]) {
     let mut i: usize = 0;
     while i < 256 {
         keys[i] = (i * 256 + i % 16) as u32;
+        badges[i] = (65535 - i) as u32;
         numbers[i] = (i + 1) as u32;
         i += 1;
     }
@@ -97,8 +100,9 @@ fn is_cut(bytes: &[u8]) -> usize
     ensures { λ r. ⌜ r ≤ 1 ⌝ }
 {
     let mut keys = [0u32; 256];
+    let mut badges = [0u32; 256];
     let mut numbers = [0u32; 256];
-    match frames::read_frame(bytes, &mut keys, &mut numbers) {
+    match frames::read_frame(bytes, &mut keys, &mut badges, &mut numbers) {
         Reading::Read(_) => 0,
         Reading::Refused(number) => if number == 10 { 1 } else { 0 },
     }
@@ -116,10 +120,16 @@ fn cut(bytes: &[u8]) -> usize {
 }
 
 // 1 where a message with its entries is written as these bytes, else 0.
-fn is_frame(message: Message, keys: &[u32], numbers: &[u32], bytes: &[u8]) -> usize {
-    let mut copy = [0u8; 1411];
-    let n = length_of(frames::write_frame(message, keys, numbers, &mut copy));
-    if 1411 < n {
+fn is_frame(
+    message: Message,
+    keys: &[u32],
+    badges: &[u32],
+    numbers: &[u32],
+    bytes: &[u8],
+) -> usize {
+    let mut copy = [0u8; 1923];
+    let n = length_of(frames::write_frame(message, keys, badges, numbers, &mut copy));
+    if 1923 < n {
         return 0;
     }
     if check::same(&copy[..n], bytes) { 1 } else { 0 }
@@ -128,9 +138,10 @@ fn is_frame(message: Message, keys: &[u32], numbers: &[u32], bytes: &[u8]) -> us
 // 1 where the bytes are read as a message that is written as the same bytes, else 0.
 fn again(bytes: &[u8]) -> usize {
     let mut keys = [0u32; 256];
+    let mut badges = [0u32; 256];
     let mut numbers = [0u32; 256];
-    match frames::read_frame(bytes, &mut keys, &mut numbers) {
-        Reading::Read(message) => is_frame(message, &keys, &numbers, bytes),
+    match frames::read_frame(bytes, &mut keys, &mut badges, &mut numbers) {
+        Reading::Read(message) => is_frame(message, &keys, &badges, &numbers, bytes),
         Reading::Refused(_) => 0,
     }
 }
@@ -150,10 +161,10 @@ fn report(kind: u32, bytes: &[u8]) {
     io::write_all(STDOUT_FILENO, b"\n");
 }
 
-fn trip(kind: u32, keys: &[u32; 256], numbers: &[u32; 256]) {
-    let mut bytes = [0u8; 1411];
-    let n = length_of(frames::write_frame(sample(kind), keys, numbers, &mut bytes));
-    if 1411 < n {
+fn trip(kind: u32, keys: &[u32; 256], badges: &[u32; 256], numbers: &[u32; 256]) {
+    let mut bytes = [0u8; 1923];
+    let n = length_of(frames::write_frame(sample(kind), keys, badges, numbers, &mut bytes));
+    if 1923 < n {
         return;
     }
     report(kind, &bytes[..n]);
@@ -161,11 +172,12 @@ fn trip(kind: u32, keys: &[u32; 256], numbers: &[u32; 256]) {
 
 fn main() {
     let mut keys = [0u32; 256];
+    let mut badges = [0u32; 256];
     let mut numbers = [0u32; 256];
-    fill(&mut keys, &mut numbers);
+    fill(&mut keys, &mut badges, &mut numbers);
     let mut kind: u32 = 1;
     while kind <= 12 {
-        trip(kind, &keys, &numbers);
+        trip(kind, &keys, &badges, &numbers);
         kind += 1;
     }
 }

@@ -15,15 +15,16 @@ use Rattle.formats.specs.declared.reading.Scan.{Scan}
 use Rattle.formats.specs.declared.writing.Wrote.{Wrote}
 use Rattle.formats.specs.Grammar.{Outcome, got, fault, good, frame}
 use Rattle.formats.specs.RoundTrip.{read-good}
-use Rattle.formats.specs.Table.{mostEntries, fixedFields, entriesSaid, hasNumbers}
+use Rattle.formats.specs.Table.{mostEntries, fixedFields, entriesSaid, hasBadges}
 use Rattle.formats.specs.Format.{format}
-use Rattle.formats.specs.Entries.{keyIn, numberIn, valuesBy}
+use Rattle.formats.specs.Entries.{keyIn, badgeIn, numberIn, valuesBy}
 use Rattle.formats.specs.Columns.{Places, Packable}
-use Rattle.formats.specs.Entry.{Keyed, numberBits}
+use Rattle.formats.specs.Entry.{Keyed, behindOf, badge-none, badge-some}
 use Rattle.formats.specs.Reading.{scanOf, Got, scan-got, fault-some}
 use Rattle.formats.specs.Writing.{wroteOf, bytesAfter}
 use Rattle.formats.specs.Walk.{entries-few}
-use Rattle.formats.specs.Found.{entriesBit, keyAt, numberAt, Unpackable, key-found, number-found, found-keyed, found-unpackable}
+use Rattle.formats.specs.Found.{entriesBit, keyAt, badgeAt, numberAt, Unpackable, key-found, badge-found, number-found, found-keyed}
+use Rattle.formats.specs.Found.{found-unpackable}
 use Rattle.frames.specs.declared.Message.{Message}
 use Rattle.frames.specs.declared.Reading.{Reading}
 use Rattle.frames.specs.declared.Reading.the-variants as reading
@@ -34,7 +35,7 @@ use Rattle.frames.specs.MessageLaws.{Narrow, messageBy}
 use Rattle.frames.specs.Entries.{valuesOf}
 use Rattle.frames.specs.Good.{is-narrow, message-kept, kind-back, entries-back}
 use Rattle.frames.specs.Frames.{enough, hasPlaces, writable, frameOf, fits, writtenOf, bytesWritten, readingOf, keysRead}
-use Rattle.frames.specs.Frames.{numbersRead, found}
+use Rattle.frames.specs.Frames.{badgesRead, numbersRead, found}
 use Rattle.frames.specs.RoundTrip.{fixed-length, said, are-enough}
 
 -- ---- definitions
@@ -43,64 +44,85 @@ abbrev pub writtenBy : Wrote → Written
 writtenBy w = cond (eqb (w .fault) 0) (Length (w .length)) (Refused (w .fault))
 
 -- What storing asks: a kind that has entries, so many of them in the bytes, and places for them.
-pub record Storable (kind : ℕ) (bytes : List ℕ) (entries keys numbers : ℕ) : Type 0 where
-  pub keyed : Keyed kind
-  pub held : Unpackable bytes (entriesBit kind) (numberBits kind) entries
-  pub places : Places kind entries keys numbers
+pub record Storable (kind : ℕ) (bytes : List ℕ) (entries keys badges numbers : ℕ) : Type 0 where
+  pub held : Unpackable bytes (entriesBit kind) (behindOf kind) entries
+  pub places : Places kind entries keys badges numbers
 
 -- ---- the cases, as the code meets them
 
-module _ (kind entries keys numbers : ℕ) where
-  pub enough-keys : keys < entries → false ≡ enough kind entries keys numbers
+module _ (kind entries keys badges numbers : ℕ) where
+  pub enough-keys : keys < entries → false ≡ enough kind entries keys badges numbers
   enough-keys h = rw (lt-leb entries keys h)
 
   module _ (h : entries ≤ keys) where
-    pub enough-plain : hasNumbers kind ≡ false → true ≡ enough kind entries keys numbers
-    enough-plain e = rw (le-leb entries keys h, e)
+    pub enough-numbers : numbers < entries → false ≡ enough kind entries keys badges numbers
+    enough-numbers l = rw (le-leb entries keys h, lt-leb entries numbers l)
 
-    pub enough-numbers : hasNumbers kind ≡ true → leb entries numbers ≡ enough kind entries keys numbers
-    enough-numbers e = rw (le-leb entries keys h, e)
+    module _ (l : entries ≤ numbers) where
+      pub enough-plain : hasBadges kind ≡ false → true ≡ enough kind entries keys badges numbers
+      enough-plain e = rw (le-leb entries keys h, le-leb entries numbers l, e)
+
+      pub enough-badges : hasBadges kind ≡ true → leb entries badges ≡ enough kind entries keys badges numbers
+      enough-badges e = rw (le-leb entries keys h, le-leb entries numbers l, e)
 
 -- no entries need no places
-enough-none : (kind keys numbers : ℕ) → enough kind 0 keys numbers ≡ true
-enough-none kind keys numbers = rw (le-leb 0 keys (omega arith), le-leb 0 numbers (omega arith)) (go (hasNumbers kind))
+enough-none : (kind keys badges numbers : ℕ) → enough kind 0 keys badges numbers ≡ true
+enough-none kind keys badges numbers =
+    rw (le-leb 0 keys (omega arith), le-leb 0 numbers (omega arith), le-leb 0 badges (omega arith)) (go (hasBadges kind))
   where
     go : (b : Bool) → (not b || true) ≡ true
     go true = refl
     go false = refl
 
+-- what storing leaves of the badges: a kind that has none has no bits for them
+module _ (kind : ℕ) {width : ℕ} (e : width ≡ behindOf kind .badge) (new old : List ℕ) where
+  pub badges-alone : width ≡ 0 → old ≡ cond (hasBadges kind) new old
+  badges-alone z =
+      by-test (hasBadges kind)
+      (λ t. let f : ⊥ = omega (arith, badge-some kind t) in absurd f)
+      (λ t. rw t)
+
+  pub badges-stored : (width ≡ 0 → ⊥) → new ≡ cond (hasBadges kind) new old
+  badges-stored d = by-test (hasBadges kind) (λ t. rw t) (λ t. absurd (d (e ∙ badge-none kind t)))
+
 -- ---- the writer's answer
 
-module _ (m : Message) (keys numbers bytes : List ℕ) where
-  not-written : writable m keys numbers ≡ false → (Refused 11 ≡ writtenOf m keys numbers bytes) × (bytes ≡ bytesWritten m keys numbers bytes)
+module _ (m : Message) (keys badges numbers bytes : List ℕ) where
+  not-written : writable m keys badges numbers ≡ false
+      → (Refused 11 ≡ writtenOf m keys badges numbers bytes) × (bytes ≡ bytesWritten m keys badges numbers bytes)
   unfolding writtenOf bytesWritten
   not-written e = (rw e, rw e)
 
   -- the entries are not all there
-  pub written-missing : hasPlaces m keys numbers ≡ false → (Refused 11 ≡ writtenOf m keys numbers bytes) × (bytes ≡ bytesWritten m keys numbers bytes)
+  pub written-missing : hasPlaces m keys badges numbers ≡ false
+      → (Refused 11 ≡ writtenOf m keys badges numbers bytes) × (bytes ≡ bytesWritten m keys badges numbers bytes)
   unfolding writable
   written-missing e = not-written (rw e)
 
   -- more entries than any frame has
-  pub written-many : mostEntries < entriesOf m → (Refused 11 ≡ writtenOf m keys numbers bytes) × (bytes ≡ bytesWritten m keys numbers bytes)
+  pub written-many : mostEntries < entriesOf m
+      → (Refused 11 ≡ writtenOf m keys badges numbers bytes) × (bytes ≡ bytesWritten m keys badges numbers bytes)
   unfolding writable
   written-many h =
       not-written
-      (by-test (writable m keys numbers)
-      (λ w. let z : ⊥ = omega (arith, said m keys numbers w, entries-few (valuesOf m keys numbers) (both-right (hasPlaces m keys numbers) _ w)) in absurd z)
+      (by-test (writable m keys badges numbers)
+      (λ w.
+      let few = entries-few (valuesOf m keys badges numbers) (both-right (hasPlaces m keys badges numbers) _ w) in
+      let z : ⊥ = omega (arith, said m keys badges numbers w, few) in
+      absurd z)
       (λ w. w))
 
   written-values :
-      hasPlaces m keys numbers ≡ true
-      → (writtenBy (wroteOf (valuesOf m keys numbers) bytes) ≡ writtenOf m keys numbers bytes)
-      × (bytesAfter (valuesOf m keys numbers) bytes ≡ bytesWritten m keys numbers bytes)
+      hasPlaces m keys badges numbers ≡ true
+      → (writtenBy (wroteOf (valuesOf m keys badges numbers) bytes) ≡ writtenOf m keys badges numbers bytes)
+      × (bytesAfter (valuesOf m keys badges numbers) bytes ≡ bytesWritten m keys badges numbers bytes)
   unfolding writtenOf bytesWritten writable fits frameOf wroteOf bytesAfter
   written-values t =
       rw t
-      (by-test (good format (valuesOf m keys numbers))
+      (by-test (good format (valuesOf m keys badges numbers))
       (λ g.
       rw g
-      (by-test (leb (length (frame format (valuesOf m keys numbers))) (length bytes))
+      (by-test (leb (length (frame format (valuesOf m keys badges numbers))) (length bytes))
       (λ l. rw l (refl, refl))
       (λ l. rw l (refl, refl))))
       (λ g. rw g (refl, refl)))
@@ -108,10 +130,14 @@ module _ (m : Message) (keys numbers bytes : List ℕ) where
 -- ---- the reader's answer
 
 -- what a reader's answer and the slices that it leaves are, of what was found
-abbrev pub Answered : Outcome → List ℕ → List ℕ → Reading → List ℕ → List ℕ → Type 0
-Answered o keys numbers r k x = (r ≡ readingOf o keys numbers) × (k ≡ keysRead o keys numbers) × (x ≡ numbersRead o keys numbers)
+abbrev pub Answered : Outcome → List ℕ → List ℕ → List ℕ → Reading → List ℕ → List ℕ → List ℕ → Type 0
+Answered o keys badges numbers r k b x =
+    (r ≡ readingOf o keys badges numbers)
+    × (k ≡ keysRead o keys badges numbers)
+    × (b ≡ badgesRead o keys badges numbers)
+    × (x ≡ numbersRead o keys badges numbers)
 
-module _ (bytes : List ℕ) {fixed : List ℕ} {fields : ℕ} (s : Got (found bytes) fields fixed) (keys numbers : List ℕ) where
+module _ (bytes : List ℕ) {fixed : List ℕ} {fields : ℕ} (s : Got (found bytes) fields fixed) (keys badges numbers : List ℕ) where
   good-values : good format (s .values) ≡ true
   good-values = read-good format bytes 0 (s .values) (s .is-got)
 
@@ -131,10 +157,12 @@ module _ (bytes : List ℕ) {fixed : List ℕ} {fields : ℕ} (s : Got (found by
     said-entries : n ≡ entriesSaid (s .values)
     said-entries = its-entries ∙ entries-back (s .values) good-values
 
-    found-places : hasPlaces (messageOf (s .values)) keys numbers ≡ enough (getD fixed 0 0) n (length keys) (length numbers)
+    found-places :
+        hasPlaces (messageOf (s .values)) keys badges numbers ≡ enough (getD fixed 0 0) n (length keys) (length badges) (length numbers)
     unfolding hasPlaces
     found-places =
-        ap₂ (λ (k e : ℕ). enough k e (length keys) (length numbers)) (kind-back (s .values) good-values ∙ sym its-kind) (sym its-entries)
+        ap₂ (λ (k e : ℕ). enough k e (length keys) (length badges) (length numbers)) (kind-back (s .values) good-values ∙ sym its-kind)
+        (sym its-entries)
 
     is-keyed : (n ≡ 0 → ⊥) → Keyed (getD fixed 0 0)
     is-keyed some = rw its-kind (found-keyed bytes (s .values) (s .is-got) (omega (arith, said-entries)))
@@ -142,78 +170,84 @@ module _ (bytes : List ℕ) {fixed : List ℕ} {fields : ℕ} (s : Got (found by
     -- the entries can be stored
     pub are-storable :
         (n ≡ 0 → ⊥)
-        → enough (getD fixed 0 0) n (length keys) (length numbers) ≡ true
-        → Storable (getD fixed 0 0) bytes n (length keys) (length numbers)
+        → enough (getD fixed 0 0) n (length keys) (length badges) (length numbers) ≡ true
+        → Storable (getD fixed 0 0) bytes n (length keys) (length badges) (length numbers)
     are-storable some e =
         record {
-          keyed = is-keyed some;
           held = rw its-kind (found-unpackable bytes (s .values) (s .is-got) (rw its-kind at (is-keyed some)) said-entries);
-          places = are-enough (getD fixed 0 0) n (length keys) (length numbers) e;
+          places = are-enough (getD fixed 0 0) n (length keys) (length badges) (length numbers) e;
         }
 
     -- too few places
     pub read-small :
-        enough (getD fixed 0 0) n (length keys) (length numbers) ≡ false
-        → Answered (found bytes) keys numbers (reading.Refused 12) keys numbers
-    unfolding readingOf keysRead numbersRead
-    read-small e = let t = found-places ∙ e in rw (s .is-got) (rw t, rw t, rw t)
+        enough (getD fixed 0 0) n (length keys) (length badges) (length numbers) ≡ false
+        → Answered (found bytes) keys badges numbers (reading.Refused 12) keys badges numbers
+    unfolding readingOf keysRead badgesRead numbersRead
+    read-small e = let t = found-places ∙ e in rw (s .is-got) (rw t, rw t, rw t, rw t)
 
     -- the entries are stored
     pub read-done :
-        {k x : List ℕ}
-        → enough (getD fixed 0 0) n (length keys) (length numbers) ≡ true
+        {k b x : List ℕ}
+        → enough (getD fixed 0 0) n (length keys) (length badges) (length numbers) ≡ true
         → k ≡ laid (keyIn (s .values)) n keys
-        → x ≡ cond (hasNumbers (getD fixed 0 0)) (laid (numberIn (s .values)) n numbers) numbers
-        → Answered (found bytes) keys numbers (reading.Read m) k x
-    unfolding readingOf keysRead numbersRead
-    read-done e dk dx =
+        → b ≡ cond (hasBadges (getD fixed 0 0)) (laid (badgeIn (s .values)) n badges) badges
+        → x ≡ laid (numberIn (s .values)) n numbers
+        → Answered (found bytes) keys badges numbers (reading.Read m) k b x
+    unfolding readingOf keysRead badgesRead numbersRead
+    read-done e dk db dx =
         let vs = s .values in
         let t = found-places ∙ e in
         let q = its-kind ∙ sym (kind-back vs good-values) in
         rw (s .is-got) (
           rw t (ap reading.Read its-message),
           rw t (dk ∙ ap (λ (j : ℕ). laid (keyIn vs) j keys) its-entries),
-          rw t (dx ∙ (λ i. cond (hasNumbers (q i)) (laid (numberIn vs) (its-entries i) numbers) numbers)),
+          rw t (db ∙ (λ i. cond (hasBadges (q i)) (laid (badgeIn vs) (its-entries i) badges) badges)),
+          rw t (dx ∙ ap (λ (j : ℕ). laid (numberIn vs) j numbers) its-entries),
         )
 
     -- as they stand in the bytes
     pub read-stored :
-        {k x : List ℕ}
+        {k b x : List ℕ}
         → (n ≡ 0 → ⊥)
-        → enough (getD fixed 0 0) n (length keys) (length numbers) ≡ true
-        → let kind = getD fixed 0 0 in k ≡ laid (keyAt bytes (entriesBit kind) (numberBits kind)) n keys
-        → x ≡ laid (numberAt bytes (entriesBit kind) (numberBits kind)) n numbers
-        → Answered (found bytes) keys numbers (reading.Read m) k x
-    read-stored some e dk dx =
+        → enough (getD fixed 0 0) n (length keys) (length badges) (length numbers) ≡ true
+        → let kind = getD fixed 0 0 in k ≡ laid (keyAt bytes (entriesBit kind) (behindOf kind)) n keys
+        → b ≡ cond (hasBadges kind) (laid (badgeAt bytes (entriesBit kind) (behindOf kind)) n badges) badges
+        → x ≡ laid (numberAt bytes (entriesBit kind) (behindOf kind)) n numbers
+        → Answered (found bytes) keys badges numbers (reading.Read m) k b x
+    read-stored some e dk db dx =
         let vs = s .values in
         let keyed = rw its-kind at (is-keyed some) in
         let same : (f g : ℕ → ℕ) (row : List ℕ) → ((i : ℕ) → i < n → f i ≡ g i) → laid f n row ≡ laid g n row =
         λ f g row h. ap (λ (l : List ℕ). l ++ drop n row) (built-same f g n h) in
         read-done e
         (dk ∙ same _ _ keys (λ i h. rw its-kind (key-found bytes vs (s .is-got) keyed i (omega (arith, said-entries)))))
-        (rw (is-keyed some .numbered)
-        (dx ∙ same _ _ numbers (λ i h. rw its-kind (number-found bytes vs (s .is-got) keyed i (omega (arith, said-entries))))))
+        (db ∙ ap (λ (l : List ℕ). cond (hasBadges (getD fixed 0 0)) l badges)
+        (same _ _ badges (λ i h. rw its-kind (badge-found bytes vs (s .is-got) keyed i (omega (arith, said-entries))))))
+        (dx ∙ same _ _ numbers (λ i h. rw its-kind (number-found bytes vs (s .is-got) keyed i (omega (arith, said-entries)))))
 
     -- there are none
-    pub read-bare : n ≡ 0 → Answered (found bytes) keys numbers (reading.Read m) keys numbers
+    pub read-bare : n ≡ 0 → Answered (found bytes) keys badges numbers (reading.Read m) keys badges numbers
     read-bare z =
         let k = getD fixed 0 0 in
         let vs = s .values in
-        read-done (ap (λ (j : ℕ). enough k j (length keys) (length numbers)) z ∙ enough-none k (length keys) (length numbers))
-        (laid-none (keyIn vs) keys ∙ ap (λ (j : ℕ). laid (keyIn vs) j keys) (sym z))
-        (by-test (hasNumbers k)
-        (λ b. rw b (laid-none (numberIn vs) numbers ∙ ap (λ (j : ℕ). laid (numberIn vs) j numbers) (sym z)))
-        (λ b. rw b))
+        let none : (f : ℕ → ℕ) (row : List ℕ) → row ≡ laid f n row =
+        λ f row. laid-none f row ∙ ap (λ (j : ℕ). laid f j row) (sym z) in
+        read-done
+        (ap (λ (j : ℕ). enough k j (length keys) (length badges) (length numbers)) z
+        ∙ enough-none k (length keys) (length badges) (length numbers))
+        (none (keyIn vs) keys)
+        (by-test (hasBadges k) (λ b. rw b (none (badgeIn vs) badges)) (λ b. rw b))
+        (none (numberIn vs) numbers)
 
 -- the bytes are refused
 pub read-refused :
-    (o : Outcome) {scan : Scan} (keys numbers : List ℕ)
+    (o : Outcome) {scan : Scan} (keys badges numbers : List ℕ)
     → scan ≡ scanOf o
     → (scan .fault ≡ 0 → ⊥)
-    → Answered o keys numbers (reading.Refused (scan .fault)) keys numbers
-unfolding scanOf readingOf keysRead numbersRead
-read-refused (got vs) keys numbers e d = absurd (d (ap (λ (s : Scan). s .fault) e))
-read-refused (fault n) keys numbers e d = (ap (λ (s : Scan). reading.Refused (s .fault)) e, refl, refl)
+    → Answered o keys badges numbers (reading.Refused (scan .fault)) keys badges numbers
+unfolding scanOf readingOf keysRead badgesRead numbersRead
+read-refused (got vs) keys badges numbers e d = absurd (d (ap (λ (s : Scan). s .fault) e))
+read-refused (fault n) keys badges numbers e d = (ap (λ (s : Scan). reading.Refused (s .fault)) e, refl, refl, refl)
 
 -- the bytes are those of a frame
 pub scan-found :
@@ -231,26 +265,33 @@ pub written-length : (w : Wrote) → w .fault ≡ 0 → Length (w .length) ≡ w
 written-length w e = rw (eq-eqb (w .fault) 0 e)
 
 -- a message's own fixed values and number of entries, as the code has them
-module _ (m : Message) (keys numbers : List ℕ) {fixed : List ℕ} {n : ℕ} (ef : fixed ≡ fixedOf m) (en : n ≡ entriesOf m) where
-  pub enough-is : enough (getD fixed 0 0) n (length keys) (length numbers) ≡ hasPlaces m keys numbers
+module _ (m : Message) (keys badges numbers : List ℕ) {fixed : List ℕ} {n : ℕ} (ef : fixed ≡ fixedOf m) (en : n ≡ entriesOf m) where
+  pub enough-is : enough (getD fixed 0 0) n (length keys) (length badges) (length numbers) ≡ hasPlaces m keys badges numbers
   unfolding hasPlaces
-  enough-is i = enough (getD (ef i) 0 0) (en i) (length keys) (length numbers)
+  enough-is i = enough (getD (ef i) 0 0) (en i) (length keys) (length badges) (length numbers)
 
   -- no entries need no places
-  pub bare-enough : n ≡ 0 → enough (getD fixed 0 0) n (length keys) (length numbers) ≡ true
+  pub bare-enough : n ≡ 0 → enough (getD fixed 0 0) n (length keys) (length badges) (length numbers) ≡ true
   bare-enough z =
       let k = getD fixed 0 0 in
-      ap (λ (e : ℕ). enough k e (length keys) (length numbers)) z ∙ enough-none k (length keys) (length numbers)
+      ap (λ (e : ℕ). enough k e (length keys) (length badges) (length numbers)) z
+      ∙ enough-none k (length keys) (length badges) (length numbers)
 
   -- what writing the values answers
-  pub written-sent : (bytes : List ℕ) → enough (getD fixed 0 0) n (length keys) (length numbers) ≡ true →
-      let vs = valuesBy fixed keys numbers n in
-      (writtenBy (wroteOf vs bytes) ≡ writtenOf m keys numbers bytes) × (bytesAfter vs bytes ≡ bytesWritten m keys numbers bytes)
+  pub written-sent : (bytes : List ℕ) → enough (getD fixed 0 0) n (length keys) (length badges) (length numbers) ≡ true →
+      let vs = valuesBy fixed keys badges numbers n in
+      (writtenBy (wroteOf vs bytes) ≡ writtenOf m keys badges numbers bytes)
+      × (bytesAfter vs bytes ≡ bytesWritten m keys badges numbers bytes)
   unfolding valuesOf
   written-sent bytes e =
-      let same : valuesBy fixed keys numbers n ≡ valuesOf m keys numbers = λ i. valuesBy (ef i) keys numbers (en i) in
-      rw same (written-values m keys numbers bytes (sym enough-is ∙ e))
+      let same : valuesBy fixed keys badges numbers n ≡ valuesOf m keys badges numbers = λ i. valuesBy (ef i) keys badges numbers (en i) in
+      rw same (written-values m keys badges numbers bytes (sym enough-is ∙ e))
 
-  pub is-packable : enough (getD fixed 0 0) n (length keys) (length numbers) ≡ true → n ≤ mostEntries → Packable fixed keys numbers n
+  pub is-packable : enough (getD fixed 0 0) n (length keys) (length badges) (length numbers) ≡ true → n ≤ mostEntries
+      → Packable fixed keys badges numbers n
   is-packable e h =
-      record { eight = ap length ef ∙ fixed-length m; few = h; places = are-enough (getD fixed 0 0) n (length keys) (length numbers) e }
+      record {
+        all-fixed = ap length ef ∙ fixed-length m;
+        few = h;
+        places = are-enough (getD fixed 0 0) n (length keys) (length badges) (length numbers) e;
+      }

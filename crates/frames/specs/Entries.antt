@@ -9,5 +9,5 @@ use Rattle.frames.specs.Messages.{entriesOf, fixedOf}
 abbrev pub kindOf : Message → ℕ
 kindOf m = getD (fixedOf m) 0 0
 
-unfoldable pub valuesOf : Message → List ℕ → List ℕ → List ℕ
-valuesOf m keys numbers = valuesBy (fixedOf m) keys numbers (entriesOf m)
+unfoldable pub valuesOf : Message → List ℕ → List ℕ → List ℕ → List ℕ
+valuesOf m keys badges numbers = valuesBy (fixedOf m) keys badges numbers (entriesOf m)

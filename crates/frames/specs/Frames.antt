@@ -5,9 +5,9 @@ use mathlib.Core.Bool.{Bool, cond, not, _&&_, _||_}
 use lib.Dec.{leb}
 use lib.ListN.{length, drop}
 use Rattle.formats.specs.Grammar.{Outcome, got, fault, read, good, frame}
-use Rattle.formats.specs.Table.{hasNumbers}
+use Rattle.formats.specs.Table.{hasBadges}
 use Rattle.formats.specs.Format.{format}
-use Rattle.formats.specs.Entries.{keyIn, numberIn}
+use Rattle.formats.specs.Entries.{keyIn, badgeIn, numberIn}
 use Rattle.frames.specs.declared.Message.{Message}
 use Rattle.frames.specs.declared.Reading.{Reading}
 use Rattle.frames.specs.declared.Reading.the-variants as reading
@@ -17,61 +17,67 @@ use Rattle.ranges.specs.Laid.{laid}
 use Rattle.frames.specs.Messages.{entriesOf, messageOf}
 use Rattle.frames.specs.Entries.{kindOf, valuesOf}
 
--- as many places for keys as there are entries, and for numbers where the kind has entries with a number beside the key: kinds 6, 10, 12
-abbrev pub enough : ℕ → ℕ → ℕ → ℕ → Bool
-enough kind entries keys numbers = leb entries keys && (not (hasNumbers kind) || leb entries numbers)
+-- as many places for keys and for numbers as there are entries, and for badges where the kind's entries have them, which is kind 10
+abbrev pub enough : ℕ → ℕ → ℕ → ℕ → ℕ → Bool
+enough kind entries keys badges numbers = leb entries keys && (leb entries numbers && (not (hasBadges kind) || leb entries badges))
 
 -- the lent slices have a place for each entry of a message
-unfoldable pub hasPlaces : Message → List ℕ → List ℕ → Bool
-hasPlaces m keys numbers = enough (kindOf m) (entriesOf m) (length keys) (length numbers)
+unfoldable pub hasPlaces : Message → List ℕ → List ℕ → List ℕ → Bool
+hasPlaces m keys badges numbers = enough (kindOf m) (entriesOf m) (length keys) (length badges) (length numbers)
 
 -- ---- writing
 
 -- a message with its entries that can be written: "message not writable" otherwise
-unfoldable pub writable : Message → List ℕ → List ℕ → Bool
-writable m keys numbers = hasPlaces m keys numbers && good format (valuesOf m keys numbers)
+unfoldable pub writable : Message → List ℕ → List ℕ → List ℕ → Bool
+writable m keys badges numbers = hasPlaces m keys badges numbers && good format (valuesOf m keys badges numbers)
 
 -- its frame
-unfoldable pub frameOf : Message → List ℕ → List ℕ → List ℕ
-frameOf m keys numbers = frame format (valuesOf m keys numbers)
+unfoldable pub frameOf : Message → List ℕ → List ℕ → List ℕ → List ℕ
+frameOf m keys badges numbers = frame format (valuesOf m keys badges numbers)
 
-unfoldable pub fits : Message → List ℕ → List ℕ → List ℕ → Bool
-fits m keys numbers bytes = leb (length (frameOf m keys numbers)) (length bytes)
+unfoldable pub fits : Message → List ℕ → List ℕ → List ℕ → List ℕ → Bool
+fits m keys badges numbers bytes = leb (length (frameOf m keys badges numbers)) (length bytes)
 
 -- 11 where it is not writable, then 12 where the lent bytes are too few, else the frame's length
-unfoldable pub writtenOf : Message → List ℕ → List ℕ → List ℕ → Written
-writtenOf m keys numbers bytes =
-    cond (writable m keys numbers)
-    (cond (fits m keys numbers bytes) (written.Length (length (frameOf m keys numbers))) (written.Refused 12))
+unfoldable pub writtenOf : Message → List ℕ → List ℕ → List ℕ → List ℕ → Written
+writtenOf m keys badges numbers bytes =
+    cond (writable m keys badges numbers)
+    (cond (fits m keys badges numbers bytes) (written.Length (length (frameOf m keys badges numbers))) (written.Refused 12))
     (written.Refused 11)
 
 -- the frame, and the bytes behind it as before; all as before where it is refused
-unfoldable pub bytesWritten : Message → List ℕ → List ℕ → List ℕ → List ℕ
-bytesWritten m keys numbers bytes =
-    cond (writable m keys numbers && fits m keys numbers bytes)
-    (frameOf m keys numbers ++ drop (length (frameOf m keys numbers)) bytes)
+unfoldable pub bytesWritten : Message → List ℕ → List ℕ → List ℕ → List ℕ → List ℕ
+bytesWritten m keys badges numbers bytes =
+    cond (writable m keys badges numbers && fits m keys badges numbers bytes)
+    (frameOf m keys badges numbers ++ drop (length (frameOf m keys badges numbers)) bytes)
     bytes
 
 -- ---- reading
 
 -- what was found in the bytes, with the slices lent for its entries: "12 is for frames otherwise good"
-unfoldable pub readingOf : Outcome → List ℕ → List ℕ → Reading
-readingOf (fault n) keys numbers = reading.Refused n
-readingOf (got vs) keys numbers =
-    cond (hasPlaces (messageOf vs) keys numbers) (reading.Read (messageOf vs)) (reading.Refused 12)
+unfoldable pub readingOf : Outcome → List ℕ → List ℕ → List ℕ → Reading
+readingOf (fault n) keys badges numbers = reading.Refused n
+readingOf (got vs) keys badges numbers =
+    cond (hasPlaces (messageOf vs) keys badges numbers) (reading.Read (messageOf vs)) (reading.Refused 12)
 
 -- the entries' keys at the first places, and those behind as before; all as before where it is refused
-unfoldable pub keysRead : Outcome → List ℕ → List ℕ → List ℕ
-keysRead (fault n) keys numbers = keys
-keysRead (got vs) keys numbers =
-    cond (hasPlaces (messageOf vs) keys numbers) (laid (keyIn vs) (entriesOf (messageOf vs)) keys) keys
+unfoldable pub keysRead : Outcome → List ℕ → List ℕ → List ℕ → List ℕ
+keysRead (fault n) keys badges numbers = keys
+keysRead (got vs) keys badges numbers =
+    cond (hasPlaces (messageOf vs) keys badges numbers) (laid (keyIn vs) (entriesOf (messageOf vs)) keys) keys
 
-unfoldable pub numbersRead : Outcome → List ℕ → List ℕ → List ℕ
-numbersRead (fault n) keys numbers = numbers
-numbersRead (got vs) keys numbers =
-    cond (hasPlaces (messageOf vs) keys numbers && hasNumbers (kindOf (messageOf vs)))
-    (laid (numberIn vs) (entriesOf (messageOf vs)) numbers)
-    numbers
+-- their badges likewise, and all as before where the kind's entries have none
+unfoldable pub badgesRead : Outcome → List ℕ → List ℕ → List ℕ → List ℕ
+badgesRead (fault n) keys badges numbers = badges
+badgesRead (got vs) keys badges numbers =
+    cond (hasPlaces (messageOf vs) keys badges numbers && hasBadges (kindOf (messageOf vs)))
+    (laid (badgeIn vs) (entriesOf (messageOf vs)) badges)
+    badges
+
+unfoldable pub numbersRead : Outcome → List ℕ → List ℕ → List ℕ → List ℕ
+numbersRead (fault n) keys badges numbers = numbers
+numbersRead (got vs) keys badges numbers =
+    cond (hasPlaces (messageOf vs) keys badges numbers) (laid (numberIn vs) (entriesOf (messageOf vs)) numbers) numbers
 
 abbrev pub found : List ℕ → Outcome
 found bytes = read format bytes 0

@@ -1,7 +1,7 @@
 -- What is known of a frame's values: they are narrow enough for a message's types, and the message's own values are those that it was made of.
-use Prim.Native.Nat.{ℕ, zero, suc, _+_, _-_, _*_, _/_, _≤_, _<_}
+use Prim.Native.Nat.{ℕ, zero, suc, _+_, _-_, _*_, _/_, _^_, _≤_, _<_}
 use mathlib.Core.Path.{_≡_, refl, sym, ap, ap₂, _∙_}
-use mathlib.Core.Bool.{Bool, true, false, cond, _||_}
+use mathlib.Core.Bool.{true, false, cond, _||_}
 use mathlib.Core.List.{List, [], _∷_}
 use native.Mathlib.Omega.{arith}
 use native.Mathlib.Nat.{lt-of-lt-of-le}
@@ -15,7 +15,9 @@ use Rattle.ranges.specs.All.{allBelow}
 use Rattle.ranges.specs.AllLaws.{all-at}
 use Rattle.keys.specs.Keys.{keyOf}
 use Rattle.formats.specs.Grammar.{good}
-use Rattle.formats.specs.Table.{none, coord, sortAt, bitsOf, leastOf, mostOf, entriesIn, entriesSaid, hasNumbers, entryPlace, ownerPlace, numberPlace, manyPlace, rowPlaces, kinds, fixedFields, entryFields}
+use Rattle.formats.specs.Table.{none, coord, sortAt, bitsOf, leastOf, mostOf, entriesIn, entriesSaid}
+use Rattle.formats.specs.Table.{hasBadges, entryPlace, ownerPlace, badgePlace, numberPlace, manyPlace, rowPlaces, kinds, fixedFields}
+use Rattle.formats.specs.Table.{entryFields}
 use Rattle.formats.specs.Format.{sortOf, widthOf, format}
 use Rattle.formats.specs.FormatLaws.{at-most, at-least}
 use Rattle.formats.specs.Walk.{stateAt, placeAt, place-early, place-late, walk-place, walk-kind, values-length, entries-few, value-fits, value-allowed, value-width, kind-below}
@@ -26,15 +28,16 @@ use Rattle.frames.specs.Messages.{entriesOf, fixedOf, fixedAt, messageAt
 use Rattle.frames.specs.MessageLaws.{Narrow, messageBy}
 use Rattle.frames.specs.Entries.{kindOf}
 
--- only the places of setpoints and masks are wider than a byte
-wide : ℕ → Bool
-wide place = eqb place 6 || eqb place numberPlace
+-- the most bits at a place: only those of setpoints and masks and those of badges are wider than a byte
+wide : ℕ → ℕ
+wide place = cond (eqb place 7 || eqb place numberPlace) 32 (cond (eqb place 6 || eqb place badgePlace) 16 8)
 
-narrow-place : (kind place : ℕ) → kind < kinds → place < rowPlaces → wide place ≡ false → bitsOf (sortAt kind place) ≤ 8
+narrow-place : (kind place : ℕ) → kind < kinds → place < rowPlaces → bitsOf (sortAt kind place) ≤ wide place
 unfolding allBelow sortAt bitsOf wide
-narrow-place kind place h l e =
+narrow-place kind place h l =
     leb-true _ _
-    (rw e at (all-at (λ p. wide p || leb (bitsOf (sortAt kind p)) 8) rowPlaces (all-at (λ k. allBelow (λ p. wide p || leb (bitsOf (sortAt k p)) 8) rowPlaces) kinds refl kind h) place l))
+    (all-at (λ p. leb (bitsOf (sortAt kind p)) (wide p)) rowPlaces
+    (all-at (λ k. allBelow (λ p. leb (bitsOf (sortAt k p)) (wide p)) rowPlaces) kinds refl kind h) place l)
 
 -- what a field holds where it can hold one value only: none 0, and the coordinator's target 16
 unfoldable pub settled : ℕ → ℕ → ℕ
@@ -49,9 +52,12 @@ module _ (vs : List ℕ) (g : good format vs ≡ true) where
     at-sort : sortOf (stateAt vs i) ≡ sortAt (getD vs 0 0) (placeAt i)
     at-sort = ap₂ sortAt (walk-kind vs i some) (walk-place vs i)
 
-    byte-at : placeAt i < rowPlaces → wide (placeAt i) ≡ false → getD vs i 0 < 256
-    byte-at l e =
-        lt-of-lt-of-le (value-fits vs g i h) (pow-mono (let b : widthOf (stateAt vs i) ≤ 8 = omega (arith, value-width vs g i some, narrow-place (getD vs 0 0) (placeAt i) (kind-below vs g) l e) in b))
+    below-at : (p : ℕ) → placeAt i ≡ p → p < rowPlaces → getD vs i 0 < 2 ^ wide p
+    below-at p e l =
+        let w : widthOf (stateAt vs i) ≡ bitsOf (sortAt (getD vs 0 0) p) =
+        value-width vs g i some ∙ ap (λ (q : ℕ). bitsOf (sortAt (getD vs 0 0) q)) e in
+        let b : widthOf (stateAt vs i) ≤ wide p = omega (arith, w, narrow-place (getD vs 0 0) p (kind-below vs g) l) in
+        lt-of-lt-of-le (value-fits vs g i h) (pow-mono b)
 
     -- a field that can hold one value only holds it
     is-settled : getD vs i 0 ≡ settled (sortAt (getD vs 0 0) (placeAt i)) (getD vs i 0)
@@ -69,29 +75,21 @@ module _ (vs : List ℕ) (g : good format vs ≡ true) where
         rw (ne-eqb s none d, eq-eqb s coord e) (omega (arith, rw n at (at-most st (getD vs i 0) a), rw n at (at-least st (getD vs i 0) a))))
         (λ f. rw (ne-eqb s none d, ne-eqb s coord f)))
 
-  -- the fixed values
-  fixed-byte : (i : ℕ) → i < fixedFields → wide i ≡ false → getD vs i 0 < 256
-  unfolding wide
-  fixed-byte i l e =
-      by-equal i 0
-      (λ z. omega (arith, kind-below vs g, ap (λ (k : ℕ). getD vs k 0) z))
-      (λ d.
-      let p : placeAt i ≡ i = place-early i l in
-      byte-at i (omega arith) (omega (arith, long)) (omega arith) (ap wide p ∙ e))
-
-  -- the first of them, as the reader has kept them
-  kept-byte : (i : ℕ) → i < fixedFields → wide i ≡ false → getD (take fixedFields vs) i 0 < 256
-  kept-byte i l e = rw (getD-take fixedFields vs i 0 l) (fixed-byte i l e)
+  -- the first of the fixed values but the kind, as the reader has kept them
+  kept-below : (i : ℕ) → 0 < i → i < fixedFields → getD (take fixedFields vs) i 0 < 2 ^ wide i
+  kept-below i some l =
+      rw (getD-take fixedFields vs i 0 l) (below-at i some (omega (arith, long)) i (place-early i l) (omega arith))
 
   pub is-narrow : Narrow (take fixedFields vs) (length vs)
   unfolding wide
   is-narrow =
       record {
-        client = kept-byte 1 (omega arith) refl;
-        server = kept-byte 2 (omega arith) refl;
-        tag = kept-byte 3 (omega arith) refl;
-        count = kept-byte 4 (omega arith) refl;
-        owner = kept-byte 5 (omega arith) refl;
+        client = kept-below 1 (omega arith) (omega arith);
+        server = kept-below 2 (omega arith) (omega arith);
+        tag = kept-below 3 (omega arith) (omega arith);
+        count = kept-below 4 (omega arith) (omega arith);
+        owner = kept-below 5 (omega arith) (omega arith);
+        badge = kept-below 6 (omega arith) (omega arith);
         long = long;
         few = omega (arith, values-length vs g, entries-few vs g);
       }
@@ -108,7 +106,8 @@ module _ (vs : List ℕ) (g : good format vs ≡ true) where
         server = e 2 (omega arith) j;
         tag = e 3 (omega arith) j;
         key = keyOf (e 4 (omega arith) j) (e 5 (omega arith) j);
-        number = e 6 (omega arith) j;
+        badge = e 6 (omega arith) j;
+        number = e 7 (omega arith) j;
         entries = n j;
       })
 
@@ -127,7 +126,8 @@ settledFixed k f v =
     ∷ settled (sortAt k 3) (f .tag)
     ∷ settled (sortAt k 4) (f .key .count)
     ∷ settled (sortAt k 5) (f .key .client)
-    ∷ settled (sortAt k 6) (f .number)
+    ∷ settled (sortAt k 6) (f .badge)
+    ∷ settled (sortAt k 7) (f .number)
     ∷ settled (sortAt k manyPlace) v
     ∷ []
 
@@ -162,13 +162,13 @@ each-kind =
     (record { back = λ f v e. refl; said = λ f v e. refl })
     (record { back = λ f v e. refl; said = λ f v e. refl })
     (record { back = λ f v e. refl; said = λ f v e. refl })
-    (record { back = λ f v e. ap (λ (n : ℕ). 6 ∷ f .client ∷ 16 ∷ f .tag ∷ 0 ∷ 0 ∷ 0 ∷ n ∷ []) e; said = λ f v e. e })
+    (record { back = λ f v e. ap (λ (n : ℕ). 6 ∷ f .client ∷ 16 ∷ f .tag ∷ 0 ∷ 0 ∷ 0 ∷ 0 ∷ n ∷ []) e; said = λ f v e. e })
     (record { back = λ f v e. refl; said = λ f v e. refl })
     (record { back = λ f v e. refl; said = λ f v e. refl })
     (record { back = λ f v e. refl; said = λ f v e. refl })
-    (record { back = λ f v e. ap (λ (n : ℕ). 10 ∷ f .client ∷ f .server ∷ 0 ∷ 0 ∷ 0 ∷ 0 ∷ n ∷ []) (omega arith); said = λ f v e. e })
+    (record { back = λ f v e. ap (λ (n : ℕ). 10 ∷ f .client ∷ f .server ∷ 0 ∷ 0 ∷ 0 ∷ 0 ∷ 0 ∷ n ∷ []) (omega arith); said = λ f v e. e })
     (record { back = λ f v e. refl; said = λ f v e. refl })
-    (record { back = λ f v e. ap (λ (n : ℕ). 12 ∷ f .client ∷ 16 ∷ 0 ∷ 0 ∷ 0 ∷ 0 ∷ n ∷ []) (omega arith); said = λ f v e. e })
+    (record { back = λ f v e. ap (λ (n : ℕ). 12 ∷ f .client ∷ 16 ∷ 0 ∷ 0 ∷ 0 ∷ 0 ∷ 0 ∷ n ∷ []) (omega arith); said = λ f v e. e })
 
 module _ (vs : List ℕ) (g : good format vs ≡ true) where
   kind-some : 0 < getD vs 0 0
@@ -178,9 +178,9 @@ module _ (vs : List ℕ) (g : good format vs ≡ true) where
   its-kind : Kind (getD vs 0 0)
   its-kind = each-kind (getD vs 0 0) kind-some (kind-below vs g)
 
-  first-eight : settledFixed (getD vs 0 0) (fixedAt vs) (getD vs manyPlace 0) ≡ take fixedFields vs
+  all-fixed : settledFixed (getD vs 0 0) (fixedAt vs) (getD vs manyPlace 0) ≡ take fixedFields vs
   unfolding settledFixed built
-  first-eight =
+  all-fixed =
       let e : (i : ℕ) → 0 < i → i < fixedFields → settled (sortAt (getD vs 0 0) i) (getD vs i 0) ≡ getD vs i 0 = λ i p q. sym (fixed-settled vs g i p q) in
       (λ j.
       getD vs 0 0
@@ -191,13 +191,14 @@ module _ (vs : List ℕ) (g : good format vs ≡ true) where
       ∷ e 5 (omega arith) (omega arith) j
       ∷ e 6 (omega arith) (omega arith) j
       ∷ e 7 (omega arith) (omega arith) j
+      ∷ e 8 (omega arith) (omega arith) j
       ∷ [])
       ∙ built-take vs fixedFields (long vs g)
 
   -- the message of a frame's values has those values
   pub fixed-back : fixedOf (messageOf vs) ≡ take fixedFields vs
   unfolding messageOf
-  fixed-back = its-kind .back (fixedAt vs) (getD vs manyPlace 0) refl ∙ first-eight
+  fixed-back = its-kind .back (fixedAt vs) (getD vs manyPlace 0) refl ∙ all-fixed
 
   pub entries-back : entriesOf (messageOf vs) ≡ entriesSaid vs
   unfolding messageOf
@@ -216,11 +217,13 @@ module _ (vs : List ℕ) (g : good format vs ≡ true) where
 
     pub client-byte : getD vs (ownerPlace + entryFields * i) 0 < 256
     unfolding wide
-    client-byte = byte-at vs g (ownerPlace + entryFields * i) (omega arith) (entry-inside 1 (omega arith)) (omega (arith, entry-place 1 (omega arith))) (ap wide (entry-place 1 (omega arith)))
+    client-byte =
+        below-at vs g (ownerPlace + entryFields * i) (omega arith) (entry-inside 1 (omega arith)) ownerPlace (entry-place 1 (omega arith))
+        (omega arith)
 
-    pub no-number : hasNumbers (getD vs 0 0) ≡ false → getD vs (numberPlace + entryFields * i) 0 ≡ 0
-    unfolding hasNumbers settled
-    no-number e =
-        is-settled vs g (numberPlace + entryFields * i) (omega arith) (entry-inside 2 (omega arith))
-        ∙ ap (λ (p : ℕ). settled (sortAt (getD vs 0 0) p) (getD vs (numberPlace + entryFields * i) 0)) (entry-place 2 (omega arith))
-        ∙ rw (not-false (eqb (sortAt (getD vs 0 0) numberPlace) none) e)
+    pub no-badge : hasBadges (getD vs 0 0) ≡ false → getD vs (badgePlace + entryFields * i) 0 ≡ 0
+    unfolding hasBadges settled
+    no-badge e =
+        is-settled vs g (badgePlace + entryFields * i) (omega arith) (entry-inside 2 (omega arith))
+        ∙ ap (λ (p : ℕ). settled (sortAt (getD vs 0 0) p) (getD vs (badgePlace + entryFields * i) 0)) (entry-place 2 (omega arith))
+        ∙ rw (not-false (eqb (sortAt (getD vs 0 0) badgePlace) none) e)

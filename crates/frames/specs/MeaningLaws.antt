@@ -39,7 +39,8 @@ fixedBack n vs =
       server = getD vs 2 0;
       tag = getD vs 3 0;
       key = keyOf (getD vs 4 0) (getD vs 5 0);
-      number = getD vs 6 0;
+      badge = getD vs 6 0;
+      number = getD vs 7 0;
       entries = n;
     }
 
@@ -53,14 +54,14 @@ readingBack refusal (n ∷ vs) = reading.Read (messageBack n vs)
 reading-back : (r : Reading) → readingBack (readingMeaning r .refusal) (readingMeaning r .values) ≡ r
 unfolding messageAt
 reading-back (reading.Refused n) = refl
-reading-back (reading.Read (Set client server key setpoint)) = refl
+reading-back (reading.Read (Set client server key badge setpoint)) = refl
 reading-back (reading.Read (SetDone client server)) = refl
 reading-back (reading.Read (Enter client key mask)) = refl
 reading-back (reading.Read (Entered client tag)) = refl
 reading-back (reading.Read (WhichKeys client)) = refl
 reading-back (reading.Read (Keys client tag entries)) = refl
 reading-back (reading.Read (Get client server key)) = refl
-reading-back (reading.Read (Got client server setpoint)) = refl
+reading-back (reading.Read (Got client server badge setpoint)) = refl
 reading-back (reading.Read (GetAll client server)) = refl
 reading-back (reading.Read (All client server entries)) = refl
 reading-back (reading.Read (GetLog client)) = refl
@@ -79,13 +80,14 @@ by-both true false l = refl
 by-both false b l = refl
 
 -- writing: 11, then 12, else the frame's length
-pub written-means : (m : Message) (keys numbers bytes : List ℕ) →
-    writtenMeaning (writtenOf m keys numbers bytes)
-    ≡ cond (writable m keys numbers)
-    (cond (fits m keys numbers bytes) (accepted (length (frameOf m keys numbers) ∷ [])) (refusedBy 12))
+pub written-means : (m : Message) (keys badges numbers bytes : List ℕ) →
+    writtenMeaning (writtenOf m keys badges numbers bytes)
+    ≡ cond (writable m keys badges numbers)
+    (cond (fits m keys badges numbers bytes) (accepted (length (frameOf m keys badges numbers) ∷ [])) (refusedBy 12))
     (refusedBy 11)
 unfolding writtenOf
-written-means m keys numbers bytes = by-both (writable m keys numbers) (fits m keys numbers bytes) (length (frameOf m keys numbers))
+written-means m keys badges numbers bytes =
+    by-both (writable m keys badges numbers) (fits m keys badges numbers bytes) (length (frameOf m keys badges numbers))
 
 by-places : (b : Bool) (m : Message) →
     readingMeaning (cond b (reading.Read m) (reading.Refused 12)) ≡ cond b (accepted (messageValues m)) (refusedBy 12)
@@ -93,12 +95,12 @@ by-places true m = refl
 by-places false m = refl
 
 -- reading: the fault's number; of good bytes 12 where places are missing, else the message's values
-pub faulty-means : (n : ℕ) (keys numbers : List ℕ) → readingMeaning (readingOf (fault n) keys numbers) ≡ refusedBy n
+pub faulty-means : (n : ℕ) (keys badges numbers : List ℕ) → readingMeaning (readingOf (fault n) keys badges numbers) ≡ refusedBy n
 unfolding readingOf
-faulty-means n keys numbers = refl
+faulty-means n keys badges numbers = refl
 
-pub good-means : (vs keys numbers : List ℕ) →
-    readingMeaning (readingOf (got vs) keys numbers)
-    ≡ cond (hasPlaces (messageOf vs) keys numbers) (accepted (messageValues (messageOf vs))) (refusedBy 12)
+pub good-means : (vs keys badges numbers : List ℕ) →
+    readingMeaning (readingOf (got vs) keys badges numbers)
+    ≡ cond (hasPlaces (messageOf vs) keys badges numbers) (accepted (messageValues (messageOf vs))) (refusedBy 12)
 unfolding readingOf
-good-means vs keys numbers = by-places (hasPlaces (messageOf vs) keys numbers) (messageOf vs)
+good-means vs keys badges numbers = by-places (hasPlaces (messageOf vs) keys badges numbers) (messageOf vs)

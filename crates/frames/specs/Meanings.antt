@@ -24,7 +24,7 @@ abbrev pub writtenMeaning : Written → Meaning
 writtenMeaning (written.Length n) = accepted (n ∷ [])
 writtenMeaning (written.Refused n) = refusedBy n
 
--- reading: how many entries, then kind, client, target, tag, key, setpoint or mask
+-- reading: how many entries, then kind, client, target, tag, key, badge, setpoint or mask
 abbrev pub messageValues : Message → List ℕ
 messageValues m = entriesOf m ∷ fixedOf m
 

@@ -19,6 +19,7 @@ pub record Narrow (fixed : List ℕ) (fields : ℕ) : Type 0 where
   pub tag : getD fixed 3 0 < 256
   pub count : getD fixed 4 0 < 256
   pub owner : getD fixed 5 0 < 256
+  pub badge : getD fixed 6 0 < 65536
   pub long : fixedFields ≤ fields
   pub few : fields ≤ mostValues
 
@@ -29,7 +30,8 @@ fixedBy fixed fields =
       server = getD fixed 2 0;
       tag = getD fixed 3 0;
       key = keyOf (getD fixed 4 0) (getD fixed 5 0);
-      number = getD fixed 6 0;
+      badge = getD fixed 6 0;
+      number = getD fixed 7 0;
       entries = (fields - fixedFields) / entryFields;
     }
 

@@ -1,6 +1,6 @@
 // Frames: the messages that cross the wire, from bytes and to bytes.
-// A message holds what is fixed; the entries of kinds 6, 10 and 12 stand beside it, in two lent slices: keys, as numbers, and the numbers
-// beside them: tags of kind 6, setpoints of kind 10, masks of kind 12.
+// A message holds what is fixed; the entries of kinds 6, 10 and 12 stand beside it, in three lent slices: keys, as numbers, badges, which
+// only kind 10 has, and the numbers beside them: tags of kind 6, setpoints of kind 10, masks of kind 12.
 use formats::table::ENTRY_FIELDS;
 use formats::table::FIXED_FIELDS;
 use formats::table::MOST_ENTRIES;
@@ -14,7 +14,7 @@ ghost use Rattle.formats.specs.Entries.{valuesBy};
 ghost use Rattle.formats.specs.Columns.{Packable};
 ghost use Rattle.formats.specs.Reading.{Got};
 ghost use Rattle.formats.specs.Writing.{wroteOf, bytesAfter};
-ghost use Rattle.frames.specs.Frames.{readingOf, keysRead, numbersRead, found, writtenOf, bytesWritten};
+ghost use Rattle.frames.specs.Frames.{readingOf, keysRead, badgesRead, numbersRead, found, writtenOf, bytesWritten};
 ghost use Rattle.frames.specs.Answers.{writtenBy};
 ghost use Rattle.frames.specs.Messages.{entriesOf, fixedOf, messageAt};
 ghost use Rattle.frames.specs.MessageLaws.{Narrow, fixedBy, messageBy};
@@ -26,6 +26,7 @@ pub enum Message {
         client: u8,
         server: u8,
         key: Key,
+        badge: u16,
         setpoint: u32,
     },
     SetDone {
@@ -57,6 +58,7 @@ pub enum Message {
     Got {
         client: u8,
         server: u8,
+        badge: u16,
         setpoint: u32,
     },
     GetAll {
@@ -127,6 +129,7 @@ fn fixed_of(message: Message) -> [u32; FIXED_FIELDS]
             client,
             server,
             key,
+            badge,
             setpoint,
         } => [
             1,
@@ -135,10 +138,11 @@ fn fixed_of(message: Message) -> [u32; FIXED_FIELDS]
             0,
             key.count as u32,
             key.client as u32,
+            badge as u32,
             setpoint,
             0,
         ],
-        Message::SetDone { client, server } => [2, client as u32, server as u32, 0, 0, 0, 0, 0],
+        Message::SetDone { client, server } => [2, client as u32, server as u32, 0, 0, 0, 0, 0, 0],
         Message::Enter { client, key, mask } => [
             3,
             client as u32,
@@ -146,16 +150,17 @@ fn fixed_of(message: Message) -> [u32; FIXED_FIELDS]
             0,
             key.count as u32,
             key.client as u32,
+            0,
             mask,
             0,
         ],
-        Message::Entered { client, tag } => [4, client as u32, 16, tag as u32, 0, 0, 0, 0],
-        Message::WhichKeys { client } => [5, client as u32, 16, 0, 0, 0, 0, 0],
+        Message::Entered { client, tag } => [4, client as u32, 16, tag as u32, 0, 0, 0, 0, 0],
+        Message::WhichKeys { client } => [5, client as u32, 16, 0, 0, 0, 0, 0, 0],
         Message::Keys {
             client,
             tag,
             entries,
-        } => [6, client as u32, 16, tag as u32, 0, 0, 0, entries],
+        } => [6, client as u32, 16, tag as u32, 0, 0, 0, 0, entries],
         Message::Get {
             client,
             server,
@@ -169,13 +174,25 @@ fn fixed_of(message: Message) -> [u32; FIXED_FIELDS]
             key.client as u32,
             0,
             0,
+            0,
         ],
         Message::Got {
             client,
             server,
+            badge,
             setpoint,
-        } => [8, client as u32, server as u32, 0, 0, 0, setpoint, 0],
-        Message::GetAll { client, server } => [9, client as u32, server as u32, 0, 0, 0, 0, 0],
+        } => [
+            8,
+            client as u32,
+            server as u32,
+            0,
+            0,
+            0,
+            badge as u32,
+            setpoint,
+            0,
+        ],
+        Message::GetAll { client, server } => [9, client as u32, server as u32, 0, 0, 0, 0, 0, 0],
         Message::All {
             client,
             server,
@@ -188,10 +205,21 @@ fn fixed_of(message: Message) -> [u32; FIXED_FIELDS]
             0,
             0,
             0,
+            0,
             less_one(entries),
         ],
-        Message::GetLog { client } => [11, client as u32, 16, 0, 0, 0, 0, 0],
-        Message::Log { client, entries } => [12, client as u32, 16, 0, 0, 0, 0, less_one(entries)],
+        Message::GetLog { client } => [11, client as u32, 16, 0, 0, 0, 0, 0, 0],
+        Message::Log { client, entries } => [
+            12,
+            client as u32,
+            16,
+            0,
+            0,
+            0,
+            0,
+            0,
+            less_one(entries),
+        ],
     }
 }
 
@@ -201,11 +229,12 @@ pub struct Fixed {
     pub server: u8,
     pub tag: u8,
     pub key: Key,
+    pub badge: u16,
     pub number: u32,
     pub entries: u32,
 }
 
-// What a frame's fixed values hold, and its number of entries: three of all its values are an entry's.
+// What a frame's fixed values hold, and its number of entries: four of all its values are an entry's.
 fn fixed_at(fixed: &[u32; FIXED_FIELDS], fields: usize) -> Fixed
     requires { ⌜ Narrow (now fixed) fields ⌝ }
     ensures { λ r. ⌜ r ≡ fixedBy (now (fixed .entry)) fields ⌝ }
@@ -214,13 +243,15 @@ fn fixed_at(fixed: &[u32; FIXED_FIELDS], fields: usize) -> Fixed
     let server = fixed[2] as u8;
     let tag = fixed[3] as u8;
     let key = Key::new(fixed[4] as u8, fixed[5] as u8);
+    let badge = fixed[6] as u16;
     let entries = ((fields - FIXED_FIELDS) / ENTRY_FIELDS) as u32;
     Fixed {
         client: client,
         server: server,
         tag: tag,
         key: key,
-        number: fixed[6],
+        badge: badge,
+        number: fixed[7],
         entries: entries,
     }
 }
@@ -233,6 +264,7 @@ pub fn message_at(kind: u32, fixed: Fixed) -> Message
     let server = fixed.server;
     let tag = fixed.tag;
     let key = fixed.key;
+    let badge = fixed.badge;
     let number = fixed.number;
     let entries = fixed.entries;
     match kind {
@@ -240,6 +272,7 @@ pub fn message_at(kind: u32, fixed: Fixed) -> Message
             client: client,
             server: server,
             key: key,
+            badge: badge,
             setpoint: number,
         },
         2 => Message::SetDone {
@@ -269,6 +302,7 @@ pub fn message_at(kind: u32, fixed: Fixed) -> Message
         8 => Message::Got {
             client: client,
             server: server,
+            badge: badge,
             setpoint: number,
         },
         9 => Message::GetAll {
@@ -302,12 +336,15 @@ fn deliver(
     fixed: &[u32; FIXED_FIELDS],
     fields: usize,
     keys: &mut [u32],
+    badges: &mut [u32],
     numbers: &mut [u32],
 ) -> Reading
     requires { ⌜ Got (found (now bytes)) fields (now fixed) ⌝ }
-    ensures { λ r. ⌜ (r ≡ readingOf (found (now (bytes .entry))) (now (keys .entry)) (now (numbers .entry)))
-        × (now (keys .exit) ≡ keysRead (found (now (bytes .entry))) (now (keys .entry)) (now (numbers .entry)))
-        × (now (numbers .exit) ≡ numbersRead (found (now (bytes .entry))) (now (keys .entry)) (now (numbers .entry))) ⌝ }
+    ensures { λ r. ⌜ (r ≡ readingOf (found (now (bytes .entry))) (now (keys .entry)) (now (badges .entry)) (now (numbers .entry)))
+        × (now (keys .exit) ≡ keysRead (found (now (bytes .entry))) (now (keys .entry)) (now (badges .entry)) (now (numbers .entry)))
+        × (now (badges .exit) ≡ badgesRead (found (now (bytes .entry))) (now (keys .entry)) (now (badges .entry)) (now (numbers .entry)))
+        × (now (numbers .exit)
+        ≡ numbersRead (found (now (bytes .entry))) (now (keys .entry)) (now (badges .entry)) (now (numbers .entry))) ⌝ }
 {
     let message = message_of(fixed, fields);
     let entries = entries_of(message) as usize;
@@ -315,17 +352,26 @@ fn deliver(
         return Reading::Read(message);
     }
     let kind = fixed[0];
-    if !entries::enough_places(kind, entries, keys.len(), numbers.len()) {
+    if !entries::enough_places(kind, entries, keys.len(), badges.len(), numbers.len()) {
         return Reading::Refused(12);
     }
-    entries::store(kind, bytes, keys, numbers, entries);
+    entries::store(kind, bytes, keys, badges, numbers, entries);
     Reading::Read(message)
 }
 
-// Reads a frame: the message, and its entries at the front of the two lent slices. The bytes may be any.
-// Refused by 10, 11 or 12, and then the slices are as before.
-pub fn read_frame(bytes: &[u8], keys: &mut [u32], numbers: &mut [u32]) -> Reading
-    ensures { λ r. ⌜ (r ≡ readingOf (found (now (bytes .entry))) (now (keys .entry)) (now (numbers .entry))) × (now (keys .exit) ≡ keysRead (found (now (bytes .entry))) (now (keys .entry)) (now (numbers .entry))) × (now (numbers .exit) ≡ numbersRead (found (now (bytes .entry))) (now (keys .entry)) (now (numbers .entry))) ⌝ }
+// Reads a frame: the message, and its entries at the front of the three lent slices; that of badges is left alone by kinds that have none.
+// The bytes may be any. Refused by 10, 11 or 12, and then the slices are as before.
+pub fn read_frame(
+    bytes: &[u8],
+    keys: &mut [u32],
+    badges: &mut [u32],
+    numbers: &mut [u32],
+) -> Reading
+    ensures { λ r. ⌜ (r ≡ readingOf (found (now (bytes .entry))) (now (keys .entry)) (now (badges .entry)) (now (numbers .entry)))
+        × (now (keys .exit) ≡ keysRead (found (now (bytes .entry))) (now (keys .entry)) (now (badges .entry)) (now (numbers .entry)))
+        × (now (badges .exit) ≡ badgesRead (found (now (bytes .entry))) (now (keys .entry)) (now (badges .entry)) (now (numbers .entry)))
+        × (now (numbers .exit)
+        ≡ numbersRead (found (now (bytes .entry))) (now (keys .entry)) (now (badges .entry)) (now (numbers .entry))) ⌝ }
 {
     let scan = formats::reading::scan_frame(bytes);
     let fault = scan.fault;
@@ -334,24 +380,27 @@ pub fn read_frame(bytes: &[u8], keys: &mut [u32], numbers: &mut [u32]) -> Readin
     if fault != 0 {
         return Reading::Refused(fault);
     }
-    deliver(bytes, &fixed, fields, keys, numbers)
+    deliver(bytes, &fixed, fields, keys, badges, numbers)
 }
 
 // The frame of a message whose entries are there, with the answer as an enum.
 fn send(
     fixed: &[u32; FIXED_FIELDS],
     keys: &[u32],
+    badges: &[u32],
     numbers: &[u32],
     entries: usize,
     bytes: &mut [u8],
 ) -> Written
-    requires { ⌜ Packable (now fixed) (now keys) (now numbers) entries ⌝ }
+    requires { ⌜ Packable (now fixed) (now keys) (now badges) (now numbers) entries ⌝ }
     ensures { λ r. ⌜ (r
-        ≡ writtenBy (wroteOf (valuesBy (now (fixed .entry)) (now (keys .entry)) (now (numbers .entry)) entries) (now (bytes .entry))))
+        ≡ writtenBy (wroteOf (valuesBy (now (fixed .entry)) (now (keys .entry)) (now (badges .entry)) (now (numbers .entry)) entries)
+        (now (bytes .entry))))
         × (now (bytes .exit)
-        ≡ bytesAfter (valuesBy (now (fixed .entry)) (now (keys .entry)) (now (numbers .entry)) entries) (now (bytes .entry))) ⌝ }
+        ≡ bytesAfter (valuesBy (now (fixed .entry)) (now (keys .entry)) (now (badges .entry)) (now (numbers .entry)) entries)
+        (now (bytes .entry))) ⌝ }
 {
-    let wrote = formats::writing::write_values(fixed, keys, numbers, entries, bytes);
+    let wrote = formats::writing::write_values(fixed, keys, badges, numbers, entries, bytes);
     let refusal = wrote.fault;
     let length = wrote.length;
     if refusal != 0 {
@@ -360,23 +409,31 @@ fn send(
     Written::Length(length)
 }
 
-// Writes a message with its entries, the first of the two slices: the frame stands at the front of the lent bytes.
+// Writes a message with its entries, the first of the three slices: the frame stands at the front of the lent bytes.
 // Refused by 11, then 12, and then the bytes are as before.
-pub fn write_frame(message: Message, keys: &[u32], numbers: &[u32], bytes: &mut [u8]) -> Written
-    ensures { λ r. ⌜ (r ≡ writtenOf message (now (keys .entry)) (now (numbers .entry)) (now (bytes .entry))) × (now (bytes .exit) ≡ bytesWritten message (now (keys .entry)) (now (numbers .entry)) (now (bytes .entry))) ⌝ }
+pub fn write_frame(
+    message: Message,
+    keys: &[u32],
+    badges: &[u32],
+    numbers: &[u32],
+    bytes: &mut [u8],
+) -> Written
+    ensures { λ r. ⌜ (r ≡ writtenOf message (now (keys .entry)) (now (badges .entry)) (now (numbers .entry)) (now (bytes .entry)))
+        × (now (bytes .exit)
+        ≡ bytesWritten message (now (keys .entry)) (now (badges .entry)) (now (numbers .entry)) (now (bytes .entry))) ⌝ }
 {
     let entries = entries_of(message) as usize;
     let fixed = fixed_of(message);
     // No entries need no places.
     if entries == 0 {
-        return send(&fixed, keys, numbers, entries, bytes);
+        return send(&fixed, keys, badges, numbers, entries, bytes);
     }
     let kind = fixed[0];
-    if !entries::enough_places(kind, entries, keys.len(), numbers.len()) {
+    if !entries::enough_places(kind, entries, keys.len(), badges.len(), numbers.len()) {
         return Written::Refused(11);
     }
     if MOST_ENTRIES < entries {
         return Written::Refused(11);
     }
-    send(&fixed, keys, numbers, entries, bytes)
+    send(&fixed, keys, badges, numbers, entries, bytes)
 }

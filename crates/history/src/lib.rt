@@ -7,15 +7,23 @@ ghost use Rattle.history.specs.Ready.{BeginReady};
 use tables::counts;
 use tables::records;
 
-// A transaction begins: its record goes to the next place of its kind, with no tag and no end; the kind's count and the step number grow.
-pub fn begin(counts: &mut [u32], records: &mut [u32], kind: usize, client: u32, number: u32)
+// A transaction begins: its record goes to the next place of its kind, with a badge (0 for a READ), no tag and no end; the kind's count and
+// the step number grow.
+pub fn begin(
+    counts: &mut [u32],
+    records: &mut [u32],
+    kind: usize,
+    client: u32,
+    number: u32,
+    badge: u32,
+)
     requires { ⌜ BeginReady (now counts) (now records) kind ⌝ }
     ensures counts { λ _. ⌜ now (counts .exit) ≡ begunCounts kind (now (counts .entry)) ⌝ }
-    ensures records { λ _. ⌜ now (records .exit) ≡ begunRecords kind (now (counts .entry)) client number (now (records .entry)) ⌝ }
+    ensures records { λ _. ⌜ now (records .exit) ≡ begunRecords kind (now (counts .entry)) client number badge (now (records .entry)) ⌝ }
 {
     let begun = counts::count_at(counts, kind);
     let step = counts::count_at(counts, counts::STEP);
-    records::put_begun(records, begun as usize, client, number, step + 1);
+    records::put_begun(records, begun as usize, client, number, step + 1, badge);
     counts::put_count(counts, kind, begun + 1);
     counts::put_count(counts, counts::STEP, step + 1);
 }

@@ -8,7 +8,8 @@ use lib.ListN.{length}
 use lib.Dec.{eqb, leb, ltb}
 use borrow.Author.Tests.{eqb-true, ltb-true, leb-false, not-false}
 use Rattle.ranges.specs.Tests.{by-test, both-left, both-right}
-use Rattle.keys.specs.Masks.{maskWithin, Within, within-true}
+use Rattle.keys.specs.Masks.{maskWithin, Within}
+use Rattle.keys.specs.MaskLaws.{within-true}
 use Rattle.tables.specs.Layout.{lastStep, recordPlaces}
 use Rattle.tables.specs.Links.{targets}
 use Rattle.tables.specs.Tables.{Tables, methodOf, serversOf, clientsOf, stepOf, writesOf, readsOf, stateOf}

@@ -11,22 +11,26 @@ use Rattle.keys.specs.declared.Key.{Key}
 use Rattle.keys.specs.Keys.{keyWord}
 use Rattle.keys.specs.Masks.{Within}
 use Rattle.tables.specs.Rows.{word-same, word-other, row-same, row-other, row-length}
-use Rattle.tables.specs.Layout.{countAt, entriesField, heldField, serverPlaces, logPlaces, versionWord, entryWidth, recordWord, clientOfRecord, numberOfRecord, tagOfRecord, putEntry, clientsField, methodField, readsField, serversField, stepField, writesField}
+use Rattle.tables.specs.Layout.{countAt, entriesField, heldField, serverPlaces, logPlaces, versionWord, versionBadge, entryWidth}
+use Rattle.tables.specs.Layout.{recordWord, putEntry}
+use Rattle.tables.specs.Layout.{clientOfRecord, numberOfRecord, tagOfRecord, badgeOfRecord}
+use Rattle.tables.specs.Layout.{clientsField, methodField, readsField, serversField, stepField, writesField}
+use Rattle.tables.specs.Values.{badge-same, value-other, value-length}
 use Rattle.tables.specs.Tables.{Tables, serversOf, clientsOf, stepOf, entriesOf, writesOf, heldOf, recordOf}
 use Rattle.server.specs.Held.{stored}
 use Rattle.coordinator.specs.Log.{enterLeft}
 use Rattle.rules.specs.Request.{storedBy, enteredBy}
 use Rattle.soundness.specs.Sound.{keyInRange}
 use Rattle.soundness.specs.Facts.{EntryFacts, WriteFacts, Sound}
-use Rattle.soundness.specs.Room.{few-servers, server-fits, keys-row, next-entry}
+use Rattle.soundness.specs.Room.{few-servers, server-fits, keys-row, values-row, next-entry}
 use Rattle.keeping.specs.Frame.{Numbers, Grows, Kept, kept, client-kept, write-kept, read-kept}
 use Rattle.keeping.specs.Records.{tagged-word, tagged-other, tagged-here, tagged-open, open-kept}
 
 -- a version behind those that server i holds
-module _ (q i : ℕ) (key : Key) (setpoint : ℕ) (t : Tables) (s : Sound t) (client : q < clientsOf t)
-    (server : i < serversOf t) (room : heldOf t i < serverPlaces) (good : keyInRange (clientsOf t) (keyWord key) ≡ true) where
+module _ (q i : ℕ) (key : Key) (badge setpoint : ℕ) (t : Tables) (s : Sound t) (client : q < clientsOf t) (server : i < serversOf t)
+    (room : heldOf t i < serverPlaces) (good : keyInRange (clientsOf t) (keyWord key) ≡ true) (small : badge < 65536) where
   abbrev after : Tables
-  after = storedBy (stored (t .counts) (t .keys) (t .values) i key setpoint) t
+  after = storedBy (stored (t .counts) (t .keys) (t .values) i key badge setpoint) t
 
   same : (f : ℕ) → (f ≡ heldField + i → ⊥) → countAt (after .counts) f ≡ countAt (t .counts) f
   same f d = getD-set-other (t .counts) (heldField + i) f _ 0 d
@@ -50,21 +54,36 @@ module _ (q i : ℕ) (key : Key) (setpoint : ℕ) (t : Tables) (s : Sound t) (cl
         held = λ j h. by-equal j i (λ e. rw e (omega (arith, one-more))) (λ d. omega (arith, held-other j d));
       }
 
-  -- a word of a version held stays, in either table
-  version-kept : (words : List ℕ) (v j place : ℕ) → j < serversOf t → place < heldOf t j → versionWord (set words (serverPlaces * i + heldOf t i) v) j place ≡ versionWord words j place
-  version-kept words v j place h l =
-      word-other serverPlaces words i (heldOf t i) v j place room (omega (arith, s .server j h .held .most))
-      (λ e. let z : heldOf t j ≡ heldOf t i = rw (e .0) in omega (arith, e .1))
+  -- a version held stays, in either table
+  module _ (j place : ℕ) (h : j < serversOf t) (l : place < heldOf t j) where
+    within : place < serverPlaces
+    within = omega (arith, s .server j h .held .most)
+
+    apart : (j ≡ i) × (place ≡ heldOf t i) → ⊥
+    apart e = let z : heldOf t j ≡ heldOf t i = rw (e .0) in omega (arith, e .1)
+
+    key-kept : versionWord (after .keys) j place ≡ versionWord (t .keys) j place
+    key-kept = word-other serverPlaces (t .keys) i (heldOf t i) (keyWord key) j place room within apart
 
   stored-grows : Grows q t after
   stored-grows =
       record {
         numbers = stored-numbers;
-        lengths = record { counts = length-set (t .counts) _ _; clients = refl; links = refl; keys = length-set (t .keys) _ _; values = length-set (t .values) _ _; log = refl; writes = refl; reads = refl };
+        lengths =
+            record {
+              counts = length-set (t .counts) _ _;
+              clients = refl;
+              links = refl;
+              keys = length-set (t .keys) _ _;
+              values = value-length (t .values) i (heldOf t i) badge setpoint;
+              log = refl;
+              writes = refl;
+              reads = refl;
+            };
         row = λ p f d h. refl;
         link = λ p j f d h l. refl;
-        key = version-kept (t .keys) (keyWord key);
-        value = version-kept (t .values) setpoint;
+        key = key-kept;
+        value = λ j place f h l g. value-other (t .values) i (heldOf t i) badge setpoint j place f room (within j place h l) (apart j place h l) g;
         entry = λ tag f h l. refl;
       }
 
@@ -76,6 +95,16 @@ module _ (q i : ℕ) (key : Key) (setpoint : ℕ) (t : Tables) (s : Sound t) (cl
       let y : heldOf after j ≡ heldOf after i = rw e in
       let here : place ≡ heldOf t i = omega (arith, one-more) in
       rw (e, here, word-same serverPlaces (t .keys) i (heldOf t i) (keyWord key) (keys-row t s i server) room) good)
+      (λ d. let z : ⊥ = omega (arith, held-other j d) in absurd z)
+
+  new-badge : (j place : ℕ) → heldOf t j ≤ place → place < heldOf after j → versionBadge (after .values) j place < 65536
+  new-badge j place h l =
+      by-equal j i
+      (λ e.
+      let z : heldOf t j ≡ heldOf t i = rw e in
+      let y : heldOf after j ≡ heldOf after i = rw e in
+      let here : place ≡ heldOf t i = omega (arith, one-more) in
+      rw (e, here, badge-same (t .values) i (heldOf t i) badge setpoint (omega (arith, values-row t s i server))) small)
       (λ d. let z : ⊥ = omega (arith, held-other j d) in absurd z)
 
   pub stored-kept : Kept q t after
@@ -90,10 +119,11 @@ module _ (q i : ℕ) (key : Key) (setpoint : ℕ) (t : Tables) (s : Sound t) (cl
         reads = rw reads (s .scalars .reads);
         held = λ j h. by-equal j i (λ e. rw (e, one-more) (omega arith)) (λ d. rw (held-other j d) (s .server j h .held .most));
         key = λ j place h l m. new-key j place l m;
+        badge = λ j place h l m. new-badge j place l m;
         entry = λ tag l m. let z : ⊥ = omega (arith, entries) in absurd z;
         client = client-kept t after stored-numbers q (few-servers t s) (λ f l. refl) (λ j f l m. refl) (s .client q client);
         counts = rw writes (s .counts);
-        write = λ n h. write-kept t after stored-numbers n refl refl (rw entries (s .write n (rw writes at h) .tag)) (s .write n (rw writes at h));
+        write = λ n h. write-kept t after stored-numbers n refl refl refl (rw entries (s .write n (rw writes at h) .tag)) (s .write n (rw writes at h));
         read = λ n h. read-kept t after stored-numbers n refl refl (rw entries (s .read n (rw reads at h) .tag)) (s .read n (rw reads at h));
         records = λ p h. record { write = rw writes (s .records p h .write); read = rw reads (s .records p h .read) };
       })
@@ -137,7 +167,7 @@ module _ (q : ℕ) (key : Key) (mask : ℕ) (t : Tables) (s : Sound t) (client :
         row = λ p f d h. refl;
         link = λ p j f d h l. refl;
         key = λ j place h l. refl;
-        value = λ j place h l. refl;
+        value = λ j place f h l g. refl;
         entry = λ tag f h l. row-other entryWidth (t .log) (entriesOf t) row tag f (omega arith) l (λ e. omega arith);
       }
 
@@ -162,6 +192,7 @@ module _ (q : ℕ) (key : Key) (mask : ℕ) (t : Tables) (s : Sound t) (client :
       write-kept t longer entered-numbers n
       (tagged-word (t .writes) (recordOf t q) (entriesOf t) n clientOfRecord (omega arith) (λ e. omega arith))
       (tagged-word (t .writes) (recordOf t q) (entriesOf t) n numberOfRecord (omega arith) (λ e. omega arith))
+      (tagged-word (t .writes) (recordOf t q) (entriesOf t) n badgeOfRecord (omega arith) (λ e. omega arith))
       (tag-within n h) (s .write n h)
 
   pub entered-kept : Kept q t longer
@@ -175,6 +206,7 @@ module _ (q : ℕ) (key : Key) (mask : ℕ) (t : Tables) (s : Sound t) (client :
         reads = rw reads (s .scalars .reads);
         held = λ j h. rw (held-alike j) (s .server j h .held .most);
         key = λ j place h l m. let z : ⊥ = omega (arith, held-alike j) in absurd z;
+        badge = λ j place h l m. let z : ⊥ = omega (arith, held-alike j) in absurd z;
         entry = new-entry;
         client = client-kept t longer entered-numbers q (few-servers t s) (λ f l. refl) (λ j f l m. refl) (s .client q client);
         counts = rw writes (s .counts);

@@ -1,4 +1,4 @@
--- The row of a client that asks: some words put, all below the setpoints, and the tags of servers kept or not. The other rows stay.
+-- The row of a client that asks: some words put, all below the setpoints, the tags of servers kept or not, no badge. Other rows stay.
 use Prim.Native.Nat.{ℕ, _+_, _≤_, _<_}
 use mathlib.Core.Path.{_≡_, _∙_, refl}
 use mathlib.Core.Bool.{true}
@@ -10,8 +10,9 @@ use Rattle.keys.specs.Masks.{hasServer}
 use Rattle.coordinator.specs.Latest.{latestTagAt}
 use Rattle.coordinator.specs.LatestLaws.{latest-within}
 use Rattle.tables.specs.Rows.{HasRow}
-use Rattle.tables.specs.Layout.{clientWidth, clientWord, setpointsField, tagsField}
-use Rattle.tables.specs.Tables.{Tables, serversOf, entriesOf, keptTagOf}
+use Rattle.tables.specs.Layout.{clientWidth, clientWord, setpointsField, tagsField, badgesField}
+use Rattle.tables.specs.Tables.{Tables, withClients, serversOf, entriesOf}
+use Rattle.soundness.specs.Facts.{KeptFacts}
 use Rattle.rules.specs.WordsLaws.{kept-other, kept-length, kept-there, kept-not}
 use Rattle.rules.specs.Begin.{keptTags}
 use Rattle.keeping.specs.Rows.{Put, putAll, lastPut, inRow, under, put-read, put-before, put-elsewhere, put-length}
@@ -21,10 +22,10 @@ pub record Asked (q : ℕ) (puts : List Put) (t : Tables) (clients′ : List ℕ
   pub beyond : (g : ℕ) → setpointsField ≤ g → g < tagsField → clientWord clients′ q g ≡ clientWord (t .clients) q g
   pub elsewhere : (p g : ℕ) → (p ≡ q → ⊥) → g < clientWidth → clientWord clients′ p g ≡ clientWord (t .clients) p g
   pub long : length clients′ ≡ length (t .clients)
-  pub tags : (i : ℕ) → i < serversOf t → clientWord clients′ q (tagsField + i) < entriesOf t
+  pub kept : (i : ℕ) → i < serversOf t → KeptFacts (withClients clients′ t) q i
 
 module _ (q : ℕ) (puts : List Put) (t : Tables) (row : HasRow clientWidth (t .clients) q) (low : under setpointsField puts ≡ true) (inside : inRow puts ≡ true)
-    (kept : (i : ℕ) → i < serversOf t → keptTagOf t q i < entriesOf t) where
+    (kept : (i : ℕ) → i < serversOf t → KeptFacts t q i) where
   abbrev put′ : List ℕ
   put′ = putAll puts q (t .clients)
 
@@ -36,7 +37,10 @@ module _ (q : ℕ) (puts : List Put) (t : Tables) (row : HasRow clientWidth (t .
         beyond = λ g h l. put-before q puts (t .clients) setpointsField g low h;
         elsewhere = λ p g d h. put-elsewhere q puts (t .clients) p g inside h d;
         long = put-length q puts (t .clients);
-        tags = λ i h. rw (put-before q puts (t .clients) setpointsField (tagsField + i) low (omega arith)) (kept i h);
+        kept = λ i h. record {
+          tag = rw (put-before q puts (t .clients) setpointsField (tagsField + i) low (omega arith)) (kept i h .tag);
+          badge = rw (put-before q puts (t .clients) setpointsField (badgesField + i) low (omega arith)) (kept i h .badge);
+        };
       }
 
   -- and the tags of the masked servers kept, at a tag of the log
@@ -60,8 +64,11 @@ module _ (q : ℕ) (puts : List Put) (t : Tables) (row : HasRow clientWidth (t .
           beyond = λ g h l. other q g (omega arith) (λ y. omega (arith, y .1)) ∙ p .beyond g h l;
           elsewhere = λ r g d h. other r g h (λ y. d (y .0)) ∙ p .elsewhere r g d h;
           long = kept-length tagsField (hasServer mask) tag-of q (serversOf t) fits put′ ∙ p .long;
-          tags = λ i h.
-              by-test (hasServer mask i)
-              (λ e. rw (kept-there tagsField (hasServer mask) tag-of q (serversOf t) fits put′ i room h e) (omega (arith, latest-within (t .log) i tag)))
-              (λ e. rw (kept-not tagsField (hasServer mask) tag-of q (serversOf t) fits put′ i room e) (p .tags i h));
+          kept = λ i h. record {
+            tag =
+                by-test (hasServer mask i)
+                (λ e. rw (kept-there tagsField (hasServer mask) tag-of q (serversOf t) fits put′ i room h e) (omega (arith, latest-within (t .log) i tag)))
+                (λ e. rw (kept-not tagsField (hasServer mask) tag-of q (serversOf t) fits put′ i room e) (p .kept i h .tag));
+            badge = rw (other q (badgesField + i) (omega arith) (λ y. omega (arith, y .2))) (p .kept i h .badge);
+          };
         }

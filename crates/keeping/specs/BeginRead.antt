@@ -15,18 +15,21 @@ use Rattle.keys.specs.Masks.{hasServer}
 use Rattle.coordinator.specs.Latest.{latestKey}
 use Rattle.tables.specs.Rows.{HasRow}
 use Rattle.tables.specs.Layout.{writesField, readsField, clientWidth, clientWord, recordPlaces, recordWidth, clientOfRecord, countField, maskField, numberOfRecord, receivedField, recordField, setpointsField, stateField, tagField, tagOfRecord}
-use Rattle.tables.specs.Links.{targets, HasLinks, linkWidth, link-length}
-use Rattle.tables.specs.Tables.{Tables, methodOf, serversOf, clientsOf, stepOf, entriesOf, writesOf, readsOf, stateOf, countOf, maskOf, recordOf, receivedOf, keptTagOf}
+use Rattle.tables.specs.Links.{targets, HasLinks, linkWidth}
+use Rattle.tables.specs.LinkLaws.{link-length}
+use Rattle.tables.specs.Tables.{Tables, methodOf, serversOf, clientsOf, stepOf, entriesOf, writesOf, readsOf, stateOf, countOf, maskOf}
+use Rattle.tables.specs.Tables.{recordOf, receivedOf}
 use Rattle.tables.specs.declared.links.Content.{Content}
-use Rattle.rules.specs.Common.{askingKeys, askingSetpoints, askingAll, coordinator, request}
+use Rattle.rules.specs.Common.{writing, askingKeys, askingSetpoints, askingAll, coordinator, request}
 use Rattle.rules.specs.Begin.{lastTag, sentGets, keptTags, sendAsk, sentAsks, asking, begunReadWith, begunRead}
 use Rattle.soundness.specs.Sound.{isWriting, isReading, uses}
-use Rattle.soundness.specs.Facts.{ClientFacts, ReadFacts, RecordsFacts, Sound}
+use Rattle.soundness.specs.Facts.{KeptFacts, ClientFacts, ReadFacts, RecordsFacts, Sound}
 use Rattle.soundness.specs.Room.{few-servers, client-row, client-links, link-row, next-read}
 use Rattle.keeping.specs.Accepted.{neither, Beginnable, Readable}
-use Rattle.keeping.specs.Links.{linkWord, put-same, put-other, put-beside}
-use Rattle.keeping.specs.States.{masked-below, not-all, received-none, allowed-by-A, allowed-by-B, allowed-by-C, uses-keys, uses-all, request-keys, request-all}
-use Rattle.keeping.specs.Frame.{Kept, write-kept, read-kept}
+use Rattle.keeping.specs.Links.{badgeOn, linkWord, put-same, put-other, put-beside}
+use Rattle.keeping.specs.States.{masked-below, not-all, received-none, allowed-by-A, allowed-by-B, allowed-by-C, uses-keys}
+use Rattle.keeping.specs.States.{uses-all, request-keys, request-all, no-badge}
+use Rattle.keeping.specs.Frame.{Kept, write-kept, read-kept, kept-in}
 use Rattle.keeping.specs.Moves.{Moves, moves-numbers, same-entries, moved-kept}
 use Rattle.keeping.specs.Records.{begun-word, begun-here, begun-places, records-begun, records-idle}
 use Rattle.keeping.specs.Rows.{put, Put, putAll, lastPut}
@@ -73,12 +76,12 @@ module _ (q mask : ℕ) (puts : List Put) (clients′ links′ : List ℕ) (t : 
           values = refl;
           log = refl;
           writes = refl;
-          reads = begun-places (t .reads) (readsOf t) q mask (stepOf t + 1);
+          reads = begun-places (t .reads) (readsOf t) q mask (stepOf t + 1) 0;
         };
       }
 
-  tags-within : Moves q t after → (i : ℕ) → i < serversOf after → keptTagOf after q i < entriesOf after
-  tags-within m i h = rw (same-entries q t after m) (asked .tags i (rw (moves-numbers q t after m .servers) at h))
+  kept-within : Moves q t after → (i : ℕ) → i < serversOf after → KeptFacts after q i
+  kept-within m = kept-in t after (moves-numbers q t after m) q (asked .kept)
 
   module _ (m : Moves q t after) (reading : isReading (stateOf after q) ≡ true) (writes : isWriting (stateOf after q) ≡ false) (count : countOf after q ≡ countOf t q)
       (place : recordOf after q ≡ readsOf t) (c : ClientFacts after q) where
@@ -88,8 +91,8 @@ module _ (q mask : ℕ) (puts : List Put) (clients′ links′ : List ℕ) (t : 
     begun-record : (n : ℕ) → n < readsOf t + 1 → ReadFacts after n
     begun-record n h =
         let num = moves-numbers q t after m in
-        let new = begun-here (t .reads) (readsOf t) q mask (stepOf t + 1) in
-        let kept = begun-word (t .reads) (readsOf t) q mask (stepOf t + 1) n in
+        let new = begun-here (t .reads) (readsOf t) q mask (stepOf t + 1) 0 in
+        let kept = begun-word (t .reads) (readsOf t) q mask (stepOf t + 1) 0 n in
         by-equal n (readsOf t)
         (λ e. rw e (record {
           client = rw (new clientOfRecord (omega arith) record-room, num .clients) (b .client);
@@ -103,7 +106,7 @@ module _ (q mask : ℕ) (puts : List Put) (clients′ links′ : List ℕ) (t : 
     begun-records p h =
         record {
           write = rw same-writes (records-idle isWriting q t after (t .writes) (writesOf t) (λ x d. m .row x stateField d (omega arith)) (λ x d. m .row x recordField d (omega arith)) (λ x g. s .records x g .write) (rw (b .free)) writes p h);
-          read = rw more-reads (records-begun isReading q t after (t .reads) (readsOf t) (λ x d. m .row x stateField d (omega arith)) (λ x d. m .row x recordField d (omega arith)) (λ x g. s .records x g .read) mask (stepOf t + 1) record-room (rw (b .free)) reading place p h);
+          read = rw more-reads (records-begun isReading q t after (t .reads) (readsOf t) (λ x d. m .row x stateField d (omega arith)) (λ x d. m .row x recordField d (omega arith)) (λ x g. s .records x g .read) mask (stepOf t + 1) 0 record-room (rw (b .free)) reading place p h);
         }
 
     begun-kept : Kept q t after
@@ -115,7 +118,7 @@ module _ (q mask : ℕ) (puts : List Put) (clients′ links′ : List ℕ) (t : 
           reads = rw more-reads (omega arith);
           client = c;
           counts = begun-sum;
-          write = λ n h. write-kept t after num n refl refl (rw (same-entries q t after m) (s .write n (rw same-writes at h) .tag)) (s .write n (rw same-writes at h));
+          write = λ n h. write-kept t after num n refl refl refl (rw (same-entries q t after m) (s .write n (rw same-writes at h) .tag)) (s .write n (rw same-writes at h));
           read = λ n h. begun-record n (rw more-reads at h);
           records = begun-records;
         })
@@ -185,7 +188,7 @@ module _ (q mask : ℕ) (t : Tables) (s : Sound t) (b : Beginnable q mask t) (fe
         (allowed-by-A (methodOf t) q part reader)
         (rw (wordA countField (omega arith)) counted)
         (rw (wordA tagField (omega arith), same-entries q t afterA movesA) last-within)
-        (tags-within q mask putsA rowA linksA t s b few row-askedA movesA)
+        (kept-within q mask putsA rowA linksA t s b few row-askedA movesA)
         (none-received q mask putsA rowA linksA t s b few row-askedA)
 
     keptA : Kept q t afterA
@@ -229,10 +232,11 @@ module _ (q mask : ℕ) (t : Tables) (s : Sound t) (b : Beginnable q mask t) (fe
           count = rw (state, wordB countField (omega arith)) (record { least = omega arith; most = counted });
           mask = rw (masked, n .servers) (b .masked);
           tag = rw (wordB tagField (omega arith), same-entries q t afterB movesB) (c .tag);
-          kept = tags-within q mask putsB rowB linksB t s b few row-askedB movesB;
+          kept = kept-within q mask putsB rowB linksB t s b few row-askedB movesB;
           some = (coordinator, omega arith, used coordinator);
           asked = λ i h u. let e = eqb-true i coordinator (sym (used i) ∙ u) in rw e (put-same (t .links) q coordinator ask 0 (link-row t s q (b .client) coordinator (omega arith)) (omega arith));
           good = λ i h u. rw state (request-keys afterB q _ _);
+          badged = λ i h u. no-badge writing (stateOf afterB q) (badgeOn afterB q i) (λ e. omega (arith, state));
           rest = λ i h u. put-beside (t .links) q coordinator ask i 0 (eqb-false i coordinator (sym (used i) ∙ u)) (omega arith) ∙ empty i h;
           received = none-received q mask putsB rowB linksB t s b few row-askedB;
         }
@@ -299,10 +303,11 @@ module _ (q mask : ℕ) (t : Tables) (s : Sound t) (b : Beginnable q mask t) (fe
           count = rw (state, wordC countField (omega arith)) (record { least = omega arith; most = counted });
           mask = rw (masked, n .servers) (b .masked);
           tag = rw (wordC tagField (omega arith), same-entries q t afterC movesC) (c .tag);
-          kept = tags-within q mask putsC rowC linksC t s b few row-askedC movesC;
+          kept = kept-within q mask putsC rowC linksC t s b few row-askedC movesC;
           some = (coordinator, omega arith, used coordinator ∙ or-true (hasServer mask coordinator));
           asked = λ i h u. askedC i (sym (used i) ∙ u);
           good = λ i h u. rw state (request-all afterC q _ _);
+          badged = λ i h u. no-badge writing (stateOf afterC q) (badgeOn afterC q i) (λ e. omega (arith, state));
           rest = λ i h u. restC i h (sym (used i) ∙ u);
           received = none-received q mask putsC rowC linksC t s b few row-askedC;
         }

@@ -10,15 +10,18 @@ use Rattle.ranges.specs.Tests.{by-equal}
 use Rattle.ranges.specs.Sum.{sumBelow}
 use Rattle.ranges.specs.SumLaws.{sum-set, sum-part}
 use Rattle.keys.specs.Keys.{keyOf}
-use Rattle.keys.specs.Masks.{hasServer, some-server}
+use Rattle.keys.specs.Masks.{hasServer}
+use Rattle.keys.specs.MaskLaws.{some-server}
 use Rattle.tables.specs.Rows.{HasRow}
-use Rattle.tables.specs.Layout.{writesField, readsField, clientWidth, clientWord, recordPlaces, recordWidth, clientOfRecord, countField, maskField, numberOfRecord, receivedField, recordField, setpointsField, stateField, tagField, tagOfRecord, tagsField}
+use Rattle.tables.specs.Layout.{writesField, readsField, clientWidth, clientWord, recordPlaces, recordWidth, clientOfRecord, countField}
+use Rattle.tables.specs.Layout.{maskField, numberOfRecord, receivedField, recordField, setpointsField, stateField, tagField, tagOfRecord}
+use Rattle.tables.specs.Layout.{badgeOfRecord}
 use Rattle.tables.specs.Links.{targets, HasLinks, linkWidth, contentWords}
 use Rattle.tables.specs.declared.links.Content.{Content}
 use Rattle.tables.specs.Tables.{Tables, tablesOf, methodOf, serversOf, clientsOf, stepOf, writesOf, readsOf, stateOf, countOf, maskOf, recordOf, receivedOf}
 use Rattle.rules.specs.Words.{every}
 use Rattle.rules.specs.WordsLaws.{kept-other, kept-length}
-use Rattle.rules.specs.Common.{writing, request, begunCounts, begunRecords}
+use Rattle.rules.specs.Common.{writing, setRequest, begunCounts, begunRecords}
 use Rattle.rules.specs.Begin.{nextCount, storedSetpoints, sentSets, begunWrite}
 use Rattle.soundness.specs.Sound.{isWriting, isReading, uses}
 use Rattle.soundness.specs.Facts.{ClientFacts, WriteFacts, RecordsFacts, Sound}
@@ -26,7 +29,8 @@ use Rattle.soundness.specs.Room.{few-servers, client-fits, client-row, client-l
 use Rattle.keeping.specs.Accepted.{Beginnable, Writable}
 use Rattle.keeping.specs.Links.{linkWord}
 use Rattle.keeping.specs.States.{masked-below, key-own, not-all, received-none, allowed-writing, uses-writing, request-writing}
-use Rattle.keeping.specs.Frame.{Kept, write-kept, read-kept, tags-stay}
+use Rattle.keeping.specs.States.{carried-badge}
+use Rattle.keeping.specs.Frame.{Kept, write-kept, read-kept, kept-stay}
 use Rattle.keeping.specs.Moves.{Moves, moves-numbers, same-entries, moved-kept}
 use Rattle.keeping.specs.Records.{begun-word, begun-here, begun-places, records-begun, records-idle}
 use Rattle.keeping.specs.Rows.{put, Put, putAll, lastPut, put-read, put-before, put-elsewhere, put-length}
@@ -34,9 +38,13 @@ use Rattle.keeping.specs.Rounds.{Sent, sent-client, idle-empty, sent-the
 use Rattle.keeping.specs.Begins.{begun-other, begun-more, begun-step, begun-length}
 
 -- A begin of a WRITE, whatever rows and links it leaves.
-module _ (q mask : ℕ) (clients′ links′ : List ℕ) (t : Tables) (s : Sound t) (b : Beginnable q mask t) (few : writesOf t < recordPlaces) where
+module _ (q mask badge : ℕ) (clients′ links′ : List ℕ) (t : Tables) (s : Sound t) (b : Beginnable q mask t)
+    (few : writesOf t < recordPlaces)
+    (fits : badge < 65536) where
   abbrev wrote : Tables
-  wrote = tablesOf (begunCounts writesField (t .counts)) clients′ links′ (t .keys) (t .values) (t .log) (begunRecords writesField (t .counts) q (nextCount t q) (t .writes)) (t .reads)
+  wrote =
+      tablesOf (begunCounts writesField (t .counts)) clients′ links′ (t .keys) (t .values) (t .log)
+      (begunRecords writesField (t .counts) q (nextCount t q) badge (t .writes)) (t .reads)
 
   more-writes : writesOf wrote ≡ writesOf t + 1
   more-writes = begun-more writesField (t .counts) (s .long .counts) (omega arith) (λ e. omega arith)
@@ -58,21 +66,24 @@ module _ (q mask : ℕ) (clients′ links′ : List ℕ) (t : Tables) (s : Sound
     wrote-record : (n : ℕ) → n < writesOf t + 1 → WriteFacts wrote n
     wrote-record n h =
         let num = moves-numbers q t wrote m in
-        let new = begun-here (t .writes) (writesOf t) q (nextCount t q) (stepOf t + 1) in
-        let kept = begun-word (t .writes) (writesOf t) q (nextCount t q) (stepOf t + 1) n in
+        let new = begun-here (t .writes) (writesOf t) q (nextCount t q) (stepOf t + 1) badge in
+        let kept = begun-word (t .writes) (writesOf t) q (nextCount t q) (stepOf t + 1) badge n in
         by-equal n (writesOf t)
         (λ e. rw e (record {
           client = rw (new clientOfRecord (omega arith) record-room, num .clients) (b .client);
           count = rw (new numberOfRecord (omega arith) record-room) (record { least = omega arith; most = next-few });
           tag = rw (new tagOfRecord (omega arith) record-room, same-entries q t wrote m) (s .scalars .entries .least);
+          badge = rw (new badgeOfRecord (omega arith) record-room) fits;
         }))
         (λ d. let l : n < writesOf t = omega arith in
-        write-kept t wrote num n (kept clientOfRecord (omega arith) d) (kept numberOfRecord (omega arith) d) (rw (kept tagOfRecord (omega arith) d, same-entries q t wrote m) (s .write n l .tag)) (s .write n l))
+        write-kept t wrote num n (kept clientOfRecord (omega arith) d) (kept numberOfRecord (omega arith) d)
+        (kept badgeOfRecord (omega arith) d)
+        (rw (kept tagOfRecord (omega arith) d, same-entries q t wrote m) (s .write n l .tag)) (s .write n l))
 
     wrote-records : (p : ℕ) → p < clientsOf t → RecordsFacts wrote p
     wrote-records p h =
         record {
-          write = rw more-writes (records-begun isWriting q t wrote (t .writes) (writesOf t) (λ x d. m .row x stateField d (omega arith)) (λ x d. m .row x recordField d (omega arith)) (λ x g. s .records x g .write) (nextCount t q) (stepOf t + 1) record-room (rw (b .free)) (rw state) place p h);
+          write = rw more-writes (records-begun isWriting q t wrote (t .writes) (writesOf t) (λ x d. m .row x stateField d (omega arith)) (λ x d. m .row x recordField d (omega arith)) (λ x g. s .records x g .write) (nextCount t q) (stepOf t + 1) badge record-room (rw (b .free)) (rw state) place p h);
           read = rw same-reads (records-idle isReading q t wrote (t .reads) (readsOf t) (λ x d. m .row x stateField d (omega arith)) (λ x d. m .row x recordField d (omega arith)) (λ x g. s .records x g .read) (rw (b .free)) (rw state) p h);
         }
 
@@ -91,16 +102,17 @@ module _ (q mask : ℕ) (clients′ links′ : List ℕ) (t : Tables) (s : Sound
         })
 
 -- "Begin a WRITE: next count; a request to each masked station; state 1."
-module _ (q mask : ℕ) (setpoints : List ℕ) (t : Tables) (s : Sound t) (b : Beginnable q mask t) (few : writesOf t < recordPlaces) (part : (eqb (methodOf t) 1 && eqb q 0) ≡ false) where
+module _ (q mask badge : ℕ) (setpoints : List ℕ) (t : Tables) (s : Sound t) (b : Beginnable q mask t) (few : writesOf t < recordPlaces)
+    (part : (eqb (methodOf t) 1 && eqb q 0) ≡ false) (fits : badge < 65536) where
   abbrev puts : List Put
   puts = put stateField writing ∷ put maskField mask ∷ put recordField (writesOf t) ∷ put countField (nextCount t q) ∷ []
 
   abbrev after : Tables
   after =
-      wrote q mask
+      wrote q mask badge
       (storedSetpoints q setpoints (serversOf t) (putAll puts q (t .clients)))
-      (sentSets q mask (keyOf (nextCount t q) q) setpoints (serversOf t) (t .links))
-      t s b few
+      (sentSets q mask (keyOf (nextCount t q) q) badge setpoints (serversOf t) (t .links))
+      t s b few fits
 
   servers-few : serversOf t ≤ targets
   servers-few = omega (arith, few-servers t s)
@@ -125,9 +137,9 @@ module _ (q mask : ℕ) (setpoints : List ℕ) (t : Tables) (s : Sound t) (b : B
       spared q (receivedField + i) (omega arith) (λ y. omega (arith, y .2, setpoints-room))
       ∙ (put-before q puts (t .clients) setpointsField (receivedField + i) refl (omega arith) ∙ received-none t q i (not-all t q i (λ e. omega (arith, b .free))) (c .received i h))
 
-  -- the request to a server: the key and its setpoint
+  -- the request to a server: the key, the badge and its setpoint
   abbrev set : ℕ → Content
-  set i = request (keyOf (nextCount t q) q) (getD setpoints i 0)
+  set i = setRequest (keyOf (nextCount t q) q) badge (getD setpoints i 0)
 
   sent : (i f : ℕ) → f < linkWidth → i < serversOf t → hasServer mask i ≡ true → linkWord (after .links) q i f ≡ getD (contentWords (set i)) f 0
   sent i f g h e = sent-there q (serversOf t) (hasServer mask) set (t .links) servers-few links-room f g i h e
@@ -154,7 +166,7 @@ module _ (q mask : ℕ) (setpoints : List ℕ) (t : Tables) (s : Sound t) (b : B
           keys = refl;
           values = refl;
           log = refl;
-          writes = begun-places (t .writes) (writesOf t) q (nextCount t q) (stepOf t + 1);
+          writes = begun-places (t .writes) (writesOf t) q (nextCount t q) (stepOf t + 1) badge;
           reads = refl;
         };
       }
@@ -165,8 +177,8 @@ module _ (q mask : ℕ) (setpoints : List ℕ) (t : Tables) (s : Sound t) (b : B
       let c = s .client q (b .client) in
       let state = word stateField (omega arith) in
       let masked = word maskField (omega arith) in
-      let small = next-few q mask (t .clients) (t .links) t s b few in
-      let fits = client-fits t s q (b .client) in
+      let small = next-few q mask badge (t .clients) (t .links) t s b few fits in
+      let low = client-fits t s q (b .client) in
       let has : (i : ℕ) → uses (stateOf after q) (maskOf after q) i ≡ hasServer mask i = λ i. rw (state, masked) (uses-writing mask i) in
       let below : (i : ℕ) → hasServer mask i ≡ true → i < serversOf t = λ i e. masked-below mask (serversOf t) i (b .masked .below) e in
       record {
@@ -174,24 +186,27 @@ module _ (q mask : ℕ) (setpoints : List ℕ) (t : Tables) (s : Sound t) (b : B
         count = rw (state, word countField (omega arith)) (record { least = omega arith; most = small });
         mask = rw (masked, n .servers) (b .masked);
         tag = rw (word tagField (omega arith), same-entries q t after begun-moves) (c .tag);
-        kept = tags-stay t after n q (few-servers t s)
-            (λ i h. spared q (tagsField + i) (omega arith) (λ y. omega (arith, y .2, setpoints-room))
-            ∙ put-before q puts (t .clients) setpointsField (tagsField + i) refl (omega arith)) (c .kept);
+        kept = kept-stay t after n q (few-servers t s)
+            (λ f g h. spared q f h (λ y. omega (arith, y .2, setpoints-room)) ∙ put-before q puts (t .clients) setpointsField f refl (omega arith))
+            (c .kept);
         some = let x = some-server mask (serversOf t) (b .masked) in (x .0, omega (arith, x .1, servers-few), has (x .0) ∙ x .2);
         asked = λ i h u. let e = sym (has i) ∙ u in sent i 0 (omega arith) (below i e) e;
         good = λ i h u.
             let e = sym (has i) ∙ u in
             rw (state, sent i 1 (omega arith) (below i e) e, request-writing)
-            (key-own (clientsOf t) q (nextCount t q * 256 + q) (record { least = omega arith; most = omega (arith, small, fits) }) (omega (arith, fits)));
+            (key-own (clientsOf t) q (nextCount t q * 256 + q) (record { least = omega arith; most = omega (arith, small, low) })
+            (omega (arith, low)));
+        badged = λ i h u. let e = sym (has i) ∙ u in rw (sent i 3 (omega arith) (below i e) e) (carried-badge writing (stateOf after q) badge fits);
         rest = λ i h u. unsent i 0 (omega arith) (sym (has i) ∙ u) ∙ idle-empty t q i c (b .free) h;
         received = none-received;
       }
 
   begun-write : Kept q t after
   begun-write =
-      wrote-kept q mask (after .clients) (after .links) t s b few begun-moves (word stateField (omega arith)) (word countField (omega arith)) (word recordField (omega arith)) (sent-client after q begun-sent)
+      wrote-kept q mask badge (after .clients) (after .links) t s b few fits begun-moves (word stateField (omega arith))
+      (word countField (omega arith)) (word recordField (omega arith)) (sent-client after q begun-sent)
 
-module _ (q mask : ℕ) (setpoints : List ℕ) (t : Tables) (s : Sound t) (a : Writable q mask setpoints t) where
-  pub begunWrite-kept : Kept q t (begunWrite q mask setpoints t)
+module _ (q mask badge : ℕ) (setpoints : List ℕ) (t : Tables) (s : Sound t) (a : Writable q mask setpoints t) (fits : badge < 65536) where
+  pub begunWrite-kept : Kept q t (begunWrite q mask badge setpoints t)
   unfolding begunWrite
-  begunWrite-kept = begun-write q mask setpoints t s (a .begin) (a .few) (a .part)
+  begunWrite-kept = begun-write q mask badge setpoints t s (a .begin) (a .few) (a .part) fits

@@ -10,18 +10,19 @@ use borrow.Author.Tests.{ne-eqb, eqb-true}
 use Rattle.ranges.specs.Tests.{by-equal}
 use Rattle.keys.specs.Masks.{Within}
 use Rattle.tables.specs.Rows.{HasRow}
-use Rattle.tables.specs.Layout.{lastStep, clientWidth, clientWord, countField, maskField, recordField, stateField, tagField, setpointsField, tagsField}
-use Rattle.tables.specs.Links.{targets, linkWidth, link-length}
-use Rattle.tables.specs.Tables.{Tables, serversOf, clientsOf, stepOf, stateOf, maskOf, receivedOf, keptTagOf}
+use Rattle.tables.specs.Layout.{lastStep, clientWidth, clientWord, countField, maskField, recordField, stateField, tagField, setpointsField}
+use Rattle.tables.specs.Links.{targets, linkWidth}
+use Rattle.tables.specs.LinkLaws.{link-length}
+use Rattle.tables.specs.Tables.{Tables, serversOf, clientsOf, stepOf, stateOf, maskOf, receivedOf, withClients}
 use Rattle.tables.specs.declared.links.Content.the-variants.{Nothing}
 use Rattle.rules.specs.Common.{idle, askingAll, coordinator, pending}
 use Rattle.rules.specs.Reply.{emptied, receivedIn}
 use Rattle.soundness.specs.Sound.{uses, receivedSound}
-use Rattle.soundness.specs.Facts.{ClientFacts, Sound}
-use Rattle.soundness.specs.Room.{client-row, link-row, few-servers}
+use Rattle.soundness.specs.Facts.{KeptFacts, ClientFacts, Sound}
+use Rattle.soundness.specs.Room.{client-row, link-row}
 use Rattle.keeping.specs.Links.{linkWord, kindOn, LinkAsks, link-asks, put-same, put-other, put-beside}
 use Rattle.keeping.specs.States.{received-none, not-all}
-use Rattle.keeping.specs.Frame.{Kept, link-kept, received-kept, tags-stay}
+use Rattle.keeping.specs.Frame.{Kept, link-kept, received-kept, kept-in}
 use Rattle.keeping.specs.Moves.{Moves, moves-numbers, same-entries}
 use Rattle.keeping.specs.Rounds.{link-empty, unused-empty}
 use Rattle.keeping.specs.Replied.{repliedTables, Moving, going-moves, going-kept}
@@ -80,9 +81,9 @@ module _ {q i : ℕ} {t : Tables} (a : Came q i t) where
       (λ e. let here : i ≡ coordinator = eqb-true i coordinator (sym (only i) ∙ used) in
       beside j 0 e (omega arith) ∙ unused-empty t q j (facts .link j h) (only j ∙ ne-eqb j coordinator (λ z. e (z ∙ sym here))))
 
-  -- "wait": replies are still to come. The row stays but for a setpoint or an n.
+  -- "wait": replies are still to come. The row stays but for a setpoint and its badge, or an n.
   module _ (clients′ : List ℕ) (v : Moving q clients′ rest t) (same : (f : ℕ) → f < setpointsField → clientWord clients′ q f ≡ clientWord (t .clients) q f)
-      (tags : (j : ℕ) → j < 16 → clientWord clients′ q (tagsField + j) ≡ keptTagOf t q j)
+      (kept : (j : ℕ) → j < serversOf t → KeptFacts (withClients clients′ t) q j)
       (received : (j : ℕ) → j < targets → (j ≡ i → ⊥) → receivedIn clients′ q j ≡ receivedOf t q j) (more : pending rest q ≡ true) where
     abbrev waiting : Tables
     waiting = repliedTables clients′ rest (t .writes) (t .reads) t
@@ -102,7 +103,7 @@ module _ {q i : ℕ} {t : Tables} (a : Came q i t) where
           mask = rw (n .servers, mask) (c .mask);
           masked = λ e. rw mask (c .masked (λ z. e (state ∙ z)));
           tag = rw (same tagField (omega arith), same-entries q t waiting waiting-moves) (c .tag);
-          kept = tags-stay t waiting n q (few-servers t (a .sound)) tags (c .kept);
+          kept = kept-in t waiting n q kept;
           link = λ j h. by-equal j i (λ e. rw e (link-empty waiting q i gone)) (λ e. link-kept t waiting n q j h state mask (λ f g. beside j f e g) (c .link j h));
           received = λ j h. by-equal j i (λ e. rw e here) (λ e. received-kept t waiting n q j h state mask (λ f g. beside j f e g) (received j h e) (c .received j h));
           busy = λ e. more;

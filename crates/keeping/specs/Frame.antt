@@ -10,12 +10,17 @@ use borrow.Author.Tests.{eq-eqb, ne-eqb, ltb-true, ltb-false, lt-ltb}
 use Rattle.ranges.specs.Tests.{by-test, by-equal, both, both-left, both-right}
 use Rattle.ranges.specs.Sum.{sumBelow}
 use Rattle.tables.specs.Rows.{wordAt}
-use Rattle.tables.specs.Layout.{lastStep, clientWidth, clientWord, serverPlaces, logPlaces, recordPlaces, entryWidth, versionWord, recordWord, clientOfRecord, numberOfRecord, tagOfRecord, countField, maskField, stateField, tagField, tagsField}
+use Rattle.tables.specs.Layout.{lastStep, clientWidth, clientWord, serverPlaces, logPlaces, recordPlaces, entryWidth, versionWord}
+use Rattle.tables.specs.Layout.{versionBadge}
+use Rattle.tables.specs.Layout.{valueWidth, valueRow, recordWord, clientOfRecord, numberOfRecord, tagOfRecord, badgeOfRecord}
+use Rattle.tables.specs.Layout.{countField, maskField, stateField, tagField, tagsField, badgesField}
 use Rattle.tables.specs.Links.{targets, linkWidth, isEmpty}
-use Rattle.tables.specs.Tables.{Tables, methodOf, serversOf, clientsOf, stepOf, entriesOf, writesOf, readsOf, heldOf, stateOf, countOf, maskOf, tagOf, receivedOf, contentAt, keptTagOf}
+use Rattle.tables.specs.Tables.{Tables, withClients, methodOf, serversOf, clientsOf, stepOf, entriesOf, writesOf, readsOf, heldOf}
+use Rattle.tables.specs.Tables.{stateOf, countOf, maskOf, tagOf, receivedOf, contentAt}
 use Rattle.rules.specs.Common.{entering, askingKeys, askingAll, coordinator}
 use Rattle.soundness.specs.Sound.{between, uses, holding, keyInRange, requestSound, replySound, receivedSound}
-use Rattle.soundness.specs.Facts.{Between, between-facts, facts-between, Long, Press, ServerFacts, EntryFacts, LogFacts, LinkFacts, ClientFacts, WriteFacts, ReadFacts, RecordsFacts, Sound}
+use Rattle.soundness.specs.Facts.{Between, between-facts, facts-between, Long, Press, ServerFacts, EntryFacts, LogFacts, LinkFacts}
+use Rattle.soundness.specs.Facts.{KeptFacts, ClientFacts, WriteFacts, ReadFacts, RecordsFacts, Sound}
 use Rattle.soundness.specs.Room.{server-fits, few-servers}
 use Rattle.keeping.specs.Links.{linkWord, empty-same-words, pending-same, link-asks, asks-link}
 
@@ -61,6 +66,8 @@ module _ (t t′ : Tables) (n : Numbers t t′) where
           used = λ d. rw (state, mask) (a .used (λ e. d (k ∙ e)));
           request = λ e. rw (state, words 1 (omega arith), words 2 (omega arith)) (request-kept _ _ _ _ (a .request (sym k ∙ e)));
           reply = λ e. rw (state, words 2 (omega arith)) (reply-kept _ _ _ h (a .reply (sym k ∙ e)));
+          set-badge = λ e. rw (state, words 3 (omega arith)) (a .set-badge (sym k ∙ e));
+          got-badge = λ e. rw (state, words 3 (omega arith)) (a .got-badge (sym k ∙ e));
         })
 
     pub received-kept : receivedOf t′ q i ≡ receivedOf t q i → receivedSound t q i ≡ true → receivedSound t′ q i ≡ true
@@ -69,12 +76,19 @@ module _ (t t′ : Tables) (n : Numbers t t′) where
         rw (state, mask, r, empty-same-words (t .links) (t′ .links) q i words)
         (received-more (eqb (stateOf t q) askingAll && (uses (stateOf t q) (maskOf t q) i && isEmpty (contentAt t q i))) (receivedOf t q i) (holding t i) (holding t′ i) (holding-more i h) e)
 
-  -- the tags that a client keeps, where their words stay
-  pub tags-stay : (q : ℕ) → serversOf t ≤ 16 → ((i : ℕ) → i < 16 → keptTagOf t′ q i ≡ keptTagOf t q i) →
-      ((i : ℕ) → i < serversOf t → keptTagOf t q i < entriesOf t) → (i : ℕ) → i < serversOf t′ → keptTagOf t′ q i < entriesOf t′
-  tags-stay q few same c i h =
-      let l : i < serversOf t = rw (n .servers) at h in
-      rw (same i (omega arith)) (omega (arith, c i l, n .entries))
+  -- the tags and badges that a client keeps: those of the row that it has now, and where its words stay
+  pub kept-in : (q : ℕ) → ((i : ℕ) → i < serversOf t → KeptFacts (withClients (t′ .clients) t) q i) → (i : ℕ) → i < serversOf t′ →
+      KeptFacts t′ q i
+  kept-in q c i h = let f = c i (rw (n .servers) at h) in record { tag = omega (arith, f .tag, n .entries); badge = f .badge }
+
+  pub kept-stay : (q : ℕ) → serversOf t ≤ 16 →
+      ((f : ℕ) → tagsField ≤ f → f < clientWidth → clientWord (t′ .clients) q f ≡ clientWord (t .clients) q f) →
+      ((i : ℕ) → i < serversOf t → KeptFacts t q i) → (i : ℕ) → i < serversOf t′ → KeptFacts t′ q i
+  kept-stay q few same c =
+      kept-in q (λ i h. record {
+        tag = rw (same (tagsField + i) (omega arith) (omega arith)) (c i h .tag);
+        badge = rw (same (badgesField + i) (omega arith) (omega arith)) (c i h .badge);
+      })
 
   -- a client whose row and links stay
   pub client-kept : (q : ℕ) → serversOf t ≤ 16 → ((f : ℕ) → f < clientWidth → clientWord (t′ .clients) q f ≡ clientWord (t .clients) q f) →
@@ -90,7 +104,7 @@ module _ (t t′ : Tables) (n : Numbers t t′) where
         mask = rw (n .servers, mask) (c .mask);
         masked = λ d. rw mask (c .masked (λ e. d (state ∙ e)));
         tag = omega (arith, c .tag, n .entries);
-        kept = tags-stay q few (λ i h. row (tagsField + i) (omega arith)) (c .kept);
+        kept = kept-stay q few (λ f g h. row f h) (c .kept);
         link = λ i h. link-kept q i h state mask (λ f g. words i f h g) (c .link i h);
         received = λ i h. received-kept q i h state mask (λ f g. words i f h g) (row _ (omega arith)) (c .received i h);
         busy = λ d. rw (pending-same (t .links) (t′ .links) q words) (c .busy (λ e. d (state ∙ e)));
@@ -98,8 +112,10 @@ module _ (t t′ : Tables) (n : Numbers t t′) where
 
   -- a record whose client and number stay, and whose tag is within the log
   pub write-kept : (m : ℕ) → recordWord (t′ .writes) m clientOfRecord ≡ recordWord (t .writes) m clientOfRecord →
-      recordWord (t′ .writes) m numberOfRecord ≡ recordWord (t .writes) m numberOfRecord → recordWord (t′ .writes) m tagOfRecord < entriesOf t′ → WriteFacts t m → WriteFacts t′ m
-  write-kept m c k h w = record { client = rw (c, n .clients) (w .client); count = rw k (w .count); tag = h }
+      recordWord (t′ .writes) m numberOfRecord ≡ recordWord (t .writes) m numberOfRecord →
+      recordWord (t′ .writes) m badgeOfRecord ≡ recordWord (t .writes) m badgeOfRecord →
+      recordWord (t′ .writes) m tagOfRecord < entriesOf t′ → WriteFacts t m → WriteFacts t′ m
+  write-kept m c k b h w = record { client = rw (c, n .clients) (w .client); count = rw k (w .count); tag = h; badge = rw b (w .badge) }
 
   pub read-kept : (m : ℕ) → recordWord (t′ .reads) m clientOfRecord ≡ recordWord (t .reads) m clientOfRecord →
       recordWord (t′ .reads) m numberOfRecord ≡ recordWord (t .reads) m numberOfRecord → recordWord (t′ .reads) m tagOfRecord < entriesOf t′ → ReadFacts t m → ReadFacts t′ m
@@ -123,7 +139,8 @@ pub record Grows (q : ℕ) (t t′ : Tables) : Type 0 where
   pub row : (p f : ℕ) → (p ≡ q → ⊥) → f < clientWidth → clientWord (t′ .clients) p f ≡ clientWord (t .clients) p f
   pub link : (p i f : ℕ) → (p ≡ q → ⊥) → i < targets → f < linkWidth → linkWord (t′ .links) p i f ≡ linkWord (t .links) p i f
   pub key : (i place : ℕ) → i < serversOf t → place < heldOf t i → versionWord (t′ .keys) i place ≡ versionWord (t .keys) i place
-  pub value : (i place : ℕ) → i < serversOf t → place < heldOf t i → versionWord (t′ .values) i place ≡ versionWord (t .values) i place
+  pub value : (i place f : ℕ) → i < serversOf t → place < heldOf t i → f < valueWidth →
+      wordAt valueWidth (t′ .values) (valueRow i place) f ≡ wordAt valueWidth (t .values) (valueRow i place) f
   pub entry : (tag f : ℕ) → tag < entriesOf t → f < entryWidth → wordAt entryWidth (t′ .log) tag f ≡ wordAt entryWidth (t .log) tag f
 
 -- What a step of client q proves anew: the scalars, what was appended, the client itself, the records.
@@ -134,6 +151,7 @@ pub record Renewed (q : ℕ) (t t′ : Tables) : Type 0 where
   pub reads : readsOf t′ ≤ recordPlaces
   pub held : (i : ℕ) → i < serversOf t → heldOf t′ i ≤ serverPlaces
   pub key : (i place : ℕ) → i < serversOf t → heldOf t i ≤ place → place < heldOf t′ i → keyInRange (clientsOf t) (versionWord (t′ .keys) i place) ≡ true
+  pub badge : (i place : ℕ) → i < serversOf t → heldOf t i ≤ place → place < heldOf t′ i → versionBadge (t′ .values) i place < 65536
   pub entry : (tag : ℕ) → entriesOf t ≤ tag → tag < entriesOf t′ → EntryFacts t′ tag
   pub client : ClientFacts t′ q
   pub counts : sumBelow (countOf t′) (clientsOf t) ≡ writesOf t′
@@ -172,6 +190,9 @@ module _ (q : ℕ) (t t′ : Tables) (s : Sound t) (g : Grows q t t′) where
         key = λ place l. rw (g .numbers .clients) (by-test (ltb place (heldOf t i))
             (λ b. rw (g .key i place h (ltb-true _ _ b)) (f .key place (ltb-true _ _ b)))
             (λ b. r .key i place h (ltb-false _ _ b) l));
+        badge = λ place l. by-test (ltb place (heldOf t i))
+            (λ b. rw (g .value i place 0 h (ltb-true _ _ b) (omega arith)) (f .badge place (ltb-true _ _ b)))
+            (λ b. r .badge i place h (ltb-false _ _ b) l);
       }
 
   log-kept : Renewed q t t′ → LogFacts t′
@@ -224,7 +245,7 @@ kept-same q t s =
         row = λ p f d h. refl;
         link = λ p i f d h l. refl;
         key = λ i place h l. refl;
-        value = λ i place h l. refl;
+        value = λ i place f h l g. refl;
         entry = λ tag f h l. refl;
       };
     }
@@ -261,7 +282,7 @@ module _ (q : ℕ) (t t₁ t₂ : Tables) (s : Sound t) (a : Grows q t t₁) (b 
         row = λ p f d h. b .row p f d h ∙ a .row p f d h;
         link = λ p i f d h l. b .link p i f d h l ∙ a .link p i f d h l;
         key = λ i place h l. b .key i place (rw (m .servers) h) (held-then i place h l) ∙ a .key i place h l;
-        value = λ i place h l. b .value i place (rw (m .servers) h) (held-then i place h l) ∙ a .value i place h l;
+        value = λ i place f h l g. b .value i place f (rw (m .servers) h) (held-then i place h l) g ∙ a .value i place f h l g;
         entry = λ tag f h l. b .entry tag f (omega (arith, m .entries)) l ∙ a .entry tag f h l;
       }
 

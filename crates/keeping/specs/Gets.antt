@@ -5,22 +5,24 @@ use mathlib.Core.Bool.{true}
 use mathlib.Core.List.{List, [], _∷_}
 use native.Mathlib.Omega.{arith}
 use lib.ListN.{getD}
-use Rattle.keys.specs.Keys.{keyWord, key-back}
-use Rattle.keys.specs.Masks.{hasServer, Within, some-server}
+use Rattle.keys.specs.Keys.{keyWord}
+use Rattle.keys.specs.KeyLaws.{key-back}
+use Rattle.keys.specs.Masks.{hasServer, Within}
+use Rattle.keys.specs.MaskLaws.{some-server}
 use Rattle.coordinator.specs.Latest.{latestKey, latestTag}
 use Rattle.coordinator.specs.LatestLaws.{latest-within}
 use Rattle.tables.specs.Rows.{wordAt}
 use Rattle.tables.specs.Layout.{entryWidth}
 use Rattle.tables.specs.Links.{targets, HasLinks, linkWidth}
-use Rattle.tables.specs.Tables.{Tables, methodOf, serversOf, clientsOf, entriesOf, stateOf, countOf, maskOf, tagOf, receivedOf, keptTagOf}
+use Rattle.tables.specs.Tables.{Tables, methodOf, serversOf, clientsOf, entriesOf, stateOf, countOf, maskOf, tagOf, receivedOf}
 use Rattle.tables.specs.declared.links.Content.{Content}
-use Rattle.rules.specs.Common.{askingSetpoints, request}
+use Rattle.rules.specs.Common.{writing, askingSetpoints, request}
 use Rattle.rules.specs.Begin.{sentGets}
 use Rattle.soundness.specs.Sound.{keyInRange, uses, stateAllowed}
-use Rattle.soundness.specs.Facts.{Sound}
+use Rattle.soundness.specs.Facts.{KeptFacts, Sound}
 use Rattle.soundness.specs.Room.{few-servers}
-use Rattle.keeping.specs.Links.{linkWord}
-use Rattle.keeping.specs.States.{masked-below, range-below, uses-setpoints, request-setpoints}
+use Rattle.keeping.specs.Links.{linkWord, badgeOn}
+use Rattle.keeping.specs.States.{masked-below, range-below, uses-setpoints, request-setpoints, no-badge}
 use Rattle.keeping.specs.Frame.{Numbers}
 use Rattle.keeping.specs.Rounds.{Sent, sent-there, sent-not}
 
@@ -48,11 +50,12 @@ module _ (q mask tag : ℕ) (links : List ℕ) (t t′ : Tables) (s : Sound t) (
   below : (i : ℕ) → hasServer mask i ≡ true → i < serversOf t
   below i e = masked-below mask (serversOf t) i (masked .below) e
 
-  got : (i f : ℕ) → f < linkWidth → hasServer mask i ≡ true → linkWord (t′ .links) q i f ≡ getD (1 ∷ keyWord (latestKey (t .log) i tag) ∷ 0 ∷ []) f 0
+  got : (i f : ℕ) → f < linkWidth → hasServer mask i ≡ true →
+      linkWord (t′ .links) q i f ≡ getD (1 ∷ keyWord (latestKey (t .log) i tag) ∷ 0 ∷ 0 ∷ []) f 0
   got i f g e = ap (λ (xs : List ℕ). linkWord xs q i f) sends ∙ sent-there q (serversOf t) (hasServer mask) get links few long f g i (below i e) e
 
   pub gets-sent : stateAllowed (methodOf t) q askingSetpoints ≡ true → countOf t′ q ≤ 255 → tagOf t′ q < entriesOf t′ →
-      ((i : ℕ) → i < serversOf t′ → keptTagOf t′ q i < entriesOf t′) → ((i : ℕ) → i < targets → receivedOf t′ q i ≡ 0) → Sent t′ q
+      ((i : ℕ) → i < serversOf t′ → KeptFacts t′ q i) → ((i : ℕ) → i < targets → receivedOf t′ q i ≡ 0) → Sent t′ q
   gets-sent allowed count tagged kept received =
       record {
         allowed = rw (n .method, state) allowed;
@@ -63,6 +66,7 @@ module _ (q mask tag : ℕ) (links : List ℕ) (t t′ : Tables) (s : Sound t) (
         some = let x = some-server mask (serversOf t) masked in (x .0, omega (arith, x .1, few), has (x .0) ∙ x .2);
         asked = λ i h u. got i 0 (omega arith) (sym (has i) ∙ u);
         good = λ i h u. rw (state, got i 1 (omega arith) (sym (has i) ∙ u), request-setpoints, n .clients) (latest-in-range t i tag s within);
+        badged = λ i h u. no-badge writing (stateOf t′ q) (badgeOn t′ q i) (λ e. omega (arith, state));
         rest = λ i h u. ap (λ (xs : List ℕ). linkWord xs q i 0) sends ∙ (sent-not q (serversOf t) (hasServer mask) get links few long 0 (omega arith) i (sym (has i) ∙ u) ∙ empty i h);
         received = received;
       }

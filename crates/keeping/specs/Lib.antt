@@ -18,6 +18,7 @@ pub mod Appends
 pub mod Requests
 pub mod Replied
 pub mod Came
+pub mod Told
 pub mod OnSetDone
 pub mod OnEntered
 pub mod OnKeys

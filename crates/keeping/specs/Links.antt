@@ -1,4 +1,4 @@
--- A link by its three words: what it holds, and what soundness asks of it.
+-- A link by its four words: what it holds, and what soundness asks of it.
 use Prim.Native.Nat.{ℕ, _≤_, _<_}
 use mathlib.Core.Path.{_≡_, sym, _∙_, ap}
 use mathlib.Core.Bool.{Bool, true, false, not, _&&_}
@@ -7,14 +7,15 @@ use native.Mathlib.Omega.{arith}
 use Rattle.ranges.specs.Tests.{by-equal, both, both-left, both-right, not-both}
 use Rattle.ranges.specs.AllLaws.{any-at, any-same}
 use Rattle.tables.specs.Links.{targets, linkWidth, linkAt, isEmpty, contentsOf}
-pub use Rattle.tables.specs.Links.{linkWord, put-same, put-other, put-beside}
+pub use Rattle.tables.specs.Links.{linkWord}
+pub use Rattle.tables.specs.LinkLaws.{put-same, put-other, put-beside}
 use Rattle.tables.specs.Tables.{Tables, stateOf, maskOf, contentAt}
 use Rattle.tables.specs.declared.links.Contents.{Contents}
 use Rattle.tables.specs.declared.links.Content.{Content}
 use Rattle.tables.specs.declared.links.Content.the-variants.{Nothing, Request, Reply}
 use Rattle.tables.specs.declared.links.Link.{Link}
-use Rattle.rules.specs.Common.{filled, pending}
-use Rattle.soundness.specs.Sound.{uses, requestSound, replySound, keyOn, contentSound}
+use Rattle.rules.specs.Common.{writing, askingSetpoints, filled, pending}
+use Rattle.soundness.specs.Sound.{uses, requestSound, replySound, badgeSound, keyOn, contentSound}
 use Rattle.soundness.specs.Facts.{LinkFacts}
 
 abbrev pub kindOn : Tables → ℕ → ℕ → ℕ
@@ -23,10 +24,17 @@ kindOn t q i = linkWord (t .links) q i 0
 abbrev pub numberOn : Tables → ℕ → ℕ → ℕ
 numberOn t q i = linkWord (t .links) q i 2
 
+abbrev pub badgeOn : Tables → ℕ → ℕ → ℕ
+badgeOn t q i = linkWord (t .links) q i 3
+
+-- all that it carries
+abbrev pub contentsOn : Tables → ℕ → ℕ → Contents
+contentsOn t q i = contentsOf (keyOn t q i) (numberOn t q i) (badgeOn t q i)
+
 -- two links of the same words hold the same
 pub link-same-words : (links links′ : List ℕ) (q i : ℕ) → ((f : ℕ) → f < linkWidth → linkWord links′ q i f ≡ linkWord links q i f) → linkAt links′ q i ≡ linkAt links q i
 unfolding linkAt
-link-same-words links links′ q i h = rw (h 0 (omega arith), h 1 (omega arith), h 2 (omega arith))
+link-same-words links links′ q i h = rw (h 0 (omega arith), h 1 (omega arith), h 2 (omega arith), h 3 (omega arith))
 
 pub empty-same-words : (links links′ : List ℕ) (q i : ℕ) → ((f : ℕ) → f < linkWidth → linkWord links′ q i f ≡ linkWord links q i f) → isEmpty (linkAt links′ q i .content) ≡ isEmpty (linkAt links q i .content)
 empty-same-words links links′ q i h = ap (λ (x : Link). isEmpty (x .content)) (link-same-words links links′ q i h)
@@ -49,7 +57,7 @@ carried d (Reply w) = w
 
 module _ (links : List ℕ) (q i : ℕ) where
   abbrev words : Contents
-  words = contentsOf (linkWord links q i 1) (linkWord links q i 2)
+  words = contentsOf (linkWord links q i 1) (linkWord links q i 2) (linkWord links q i 3)
 
   pub at-nothing : linkWord links q i 0 ≡ 0 → linkAt links q i .content ≡ Nothing
   unfolding linkAt
@@ -110,23 +118,36 @@ pub record LinkAsks (t : Tables) (q i : ℕ) : Type 0 where
   pub used : (kindOn t q i ≡ 0 → ⊥) → uses (stateOf t q) (maskOf t q) i ≡ true
   pub request : kindOn t q i ≡ 1 → requestSound (stateOf t q) q (keyOn t q i) (numberOn t q i) t ≡ true
   pub reply : kindOn t q i ≡ 2 → replySound (stateOf t q) i (numberOn t q i) t ≡ true
+  pub set-badge : kindOn t q i ≡ 1 → badgeSound writing (stateOf t q) (badgeOn t q i) ≡ true
+  pub got-badge : kindOn t q i ≡ 2 → badgeSound askingSetpoints (stateOf t q) (badgeOn t q i) ≡ true
 
 module _ (t : Tables) (q i : ℕ) where
   on-request : {c : Content} → contentAt t q i ≡ c → contentSound (contentAt t q i) (stateOf t q) q i t ≡ true → contentSound c (stateOf t q) q i t ≡ true
   on-request e f = rw e at f
 
+  abbrev used′ : Bool
+  used′ = uses (stateOf t q) (maskOf t q) i
+
+  abbrev requested : Bool
+  requested = requestSound (stateOf t q) q (keyOn t q i) (numberOn t q i) t
+
+  abbrev replied : Bool
+  replied = replySound (stateOf t q) i (numberOn t q i) t
+
   pub link-asks : LinkFacts t q i → LinkAsks t q i
   unfolding contentSound
   link-asks f =
-      let sent : kindOn t q i ≡ 1 → (uses (stateOf t q) (maskOf t q) i && requestSound (stateOf t q) q (keyOn t q i) (numberOn t q i) t) ≡ true =
+      let sent : kindOn t q i ≡ 1 → (used′ && (requested && badgeSound writing (stateOf t q) (badgeOn t q i))) ≡ true =
       λ k. on-request (at-request (t .links) q i k) (f .content) in
-      let got : kindOn t q i ≡ 2 → (uses (stateOf t q) (maskOf t q) i && replySound (stateOf t q) i (numberOn t q i) t) ≡ true =
+      let got : kindOn t q i ≡ 2 → (used′ && (replied && badgeSound askingSetpoints (stateOf t q) (badgeOn t q i))) ≡ true =
       λ k. on-request (at-reply (t .links) q i k) (f .content) in
       record {
         kind = f .kind;
         used = λ d. kind-by (t .links) q i (f .kind) (λ k. absurd (d k)) (λ k. both-left _ _ (sent k)) (λ k. both-left _ _ (got k));
-        request = λ k. both-right (uses (stateOf t q) (maskOf t q) i) _ (sent k);
-        reply = λ k. both-right (uses (stateOf t q) (maskOf t q) i) _ (got k);
+        request = λ k. both-left requested _ (both-right used′ _ (sent k));
+        reply = λ k. both-left replied _ (both-right used′ _ (got k));
+        set-badge = λ k. both-right requested _ (both-right used′ _ (sent k));
+        got-badge = λ k. both-right replied _ (both-right used′ _ (got k));
       }
 
   pub asks-link : LinkAsks t q i → LinkFacts t q i
@@ -136,6 +157,6 @@ module _ (t : Tables) (q i : ℕ) where
         kind = a .kind;
         content = kind-by (t .links) q i (a .kind)
             (λ k. rw (at-nothing (t .links) q i k))
-            (λ k. rw (at-request (t .links) q i k) (both _ _ (a .used (λ z. omega arith)) (a .request k)))
-            (λ k. rw (at-reply (t .links) q i k) (both _ _ (a .used (λ z. omega arith)) (a .reply k)));
+            (λ k. rw (at-request (t .links) q i k) (both _ _ (a .used (λ z. omega arith)) (both _ _ (a .request k) (a .set-badge k))))
+            (λ k. rw (at-reply (t .links) q i k) (both _ _ (a .used (λ z. omega arith)) (both _ _ (a .reply k) (a .got-badge k))));
       }

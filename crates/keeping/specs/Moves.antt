@@ -8,7 +8,9 @@ use lib.ListN.{length, length-set}
 use lib.Seq.{getD-set-same, getD-set-other}
 use Rattle.ranges.specs.Sum.{sumBelow}
 use Rattle.tables.specs.Rows.{wordAt}
-use Rattle.tables.specs.Layout.{lastStep, countWords, countAt, stepField, writesField, readsField, heldField, recordPlaces, clientWidth, clientWord, versionWord, entryWidth, clientsField, entriesField, methodField, serversField}
+use Rattle.tables.specs.Layout.{lastStep, countWords, countAt, stepField, writesField, readsField, heldField, recordPlaces, clientWidth}
+use Rattle.tables.specs.Layout.{clientWord, versionWord, valueWidth, valueRow, entryWidth, clientsField, entriesField, methodField}
+use Rattle.tables.specs.Layout.{serversField}
 use Rattle.tables.specs.Links.{targets, linkWidth}
 use Rattle.tables.specs.Tables.{Tables, clientsOf, stepOf, entriesOf, writesOf, readsOf, heldOf, countOf}
 use Rattle.rules.specs.Common.{counted}
@@ -54,7 +56,7 @@ module _ (q : ℕ) (t t′ : Tables) (m : Moves q t t′) where
         row = m .row;
         link = m .link;
         key = λ i place h l. ap (λ (words : List ℕ). versionWord words i place) (m .keys);
-        value = λ i place h l. ap (λ (words : List ℕ). versionWord words i place) (m .values);
+        value = λ i place f h l g. ap (λ (words : List ℕ). wordAt valueWidth words (valueRow i place) f) (m .values);
         entry = λ tag f h l. ap (λ (words : List ℕ). wordAt entryWidth words tag f) (m .log);
       }
 
@@ -79,6 +81,7 @@ moved-kept q t t′ s m a =
       reads = a .reads;
       held = λ i h. rw (same-held q t t′ m i) (s .server i h .held .most);
       key = λ i place h l g. let z : ⊥ = omega (arith, same-held q t t′ m i) in absurd z;
+      badge = λ i place h l g. let z : ⊥ = omega (arith, same-held q t t′ m i) in absurd z;
       entry = λ tag l g. let z : ⊥ = omega (arith, same-entries q t t′ m) in absurd z;
       client = a .client;
       counts = a .counts;

@@ -1,4 +1,4 @@
--- C: "when all replies are in", the tag is chosen, and the setpoint of each masked station at that tag is stored
+-- C: "when all replies are in", the tag is chosen, and setpoint and badge of each masked station at that tag are stored
 use Prim.Native.Nat.{ℕ, _+_, _≤_, _<_}
 use mathlib.Core.Path.{_≡_, refl, sym, _∙_, ap}
 use mathlib.Core.Bool.{true, false, _&&_, or-true}
@@ -10,31 +10,33 @@ use borrow.Author.Tests.{eq-eqb, lt-ltb}
 use Rattle.ranges.specs.Tests.{by-test, by-equal, both}
 use Rattle.ranges.specs.LastLaws.{last-below}
 use Rattle.keys.specs.Masks.{hasServer}
-use Rattle.tables.specs.Rows.{word-same}
-use Rattle.tables.specs.Layout.{clientWidth, clientWord, setpointsField, receivedField, countField, maskField, stateField, tagField, tagsField}
+use Rattle.tables.specs.Rows.{HasRow, word-same}
+use Rattle.tables.specs.Layout.{clientWidth, clientWord, setpointsField, receivedField, countField, maskField, stateField, tagField}
+use Rattle.tables.specs.Layout.{tagsField, badgesField}
 use Rattle.tables.specs.Links.{targets, isEmpty, contentsOf}
-use Rattle.tables.specs.Tables.{Tables, serversOf, entriesOf, stateOf, maskOf, receivedOf, contentAt, keptTagOf}
+use Rattle.tables.specs.Tables.{Tables, serversOf, entriesOf, stateOf, maskOf, receivedOf, contentAt, withClients}
 use Rattle.tables.specs.declared.links.Contents.{Contents}
 use Rattle.rules.specs.Words.{every}
-use Rattle.rules.specs.WordsLaws.{kept-other, kept-there, kept-length}
+use Rattle.rules.specs.WordsLaws.{kept-other, kept-there, kept-not, kept-length}
 use Rattle.rules.specs.Common.{idle, askingAll, coordinator, pending}
 use Rattle.rules.specs.Choice.{qualifies}
-use Rattle.rules.specs.Reply.{emptied, receivedIn, setpointAt, keptSetpoints, forgotten, tagChosen, endedByC, onAll}
+use Rattle.rules.specs.Reply.{emptied, receivedIn, setpointAt, badgeAt, keptSetpoints, keptBadges, forgotten, tagChosen, endedByC, onAll}
 use Rattle.soundness.specs.Sound.{uses, holding, keyOn}
-use Rattle.soundness.specs.Facts.{Between}
+use Rattle.soundness.specs.Facts.{Between, KeptFacts}
 use Rattle.soundness.specs.Room.{few-servers}
-use Rattle.keeping.specs.Links.{kindOn, numberOn, kind-empty, none-pending}
+use Rattle.keeping.specs.Links.{numberOn, contentsOn, kind-empty, none-pending}
 use Rattle.keeping.specs.States.{holding-log, arrived, received-some, some-received, uses-all, all-told}
-use Rattle.keeping.specs.Frame.{Kept, tags-stay}
+use Rattle.keeping.specs.Frame.{Kept, kept-in}
 use Rattle.keeping.specs.Moves.{moves-numbers, same-entries, same-holding}
 use Rattle.keeping.specs.Rows.{put, Put, putAll, lastPut, put-read, put-before, put-skip, put-elsewhere, put-length}
+use Rattle.keeping.specs.Told.{chosen-within, chosen-held}
 use Rattle.keeping.specs.Rounds.{idle-client}
 use Rattle.keeping.specs.Replied.{repliedTables, Moving, going-moves, finished-moves, ended-read-kept}
 use Rattle.keeping.specs.Came.{Came, facts, asks, used, row-room, gone, beside, kinds, elsewhere, rest-long, waiting-kept}
 
 module _ (q i : ℕ) (t : Tables) (a : Came q i t) (state : stateOf t q ≡ askingAll) where
   abbrev w : Contents
-  w = contentsOf (keyOn t q i) (numberOn t q i)
+  w = contentsOn t q i
 
   abbrev number : ℕ
   number = numberOn t q i
@@ -63,9 +65,16 @@ module _ (q i : ℕ) (t : Tables) (a : Came q i t) (state : stateOf t q ≡ aski
   n-beside : (j : ℕ) → (j ≡ i → ⊥) → receivedIn row q j ≡ receivedOf t q j
   n-beside j e = put-skip q gotN (t .clients) (receivedField + j) (λ z. e (omega arith), tt)
 
-  -- the n received stand before the tags kept
-  n-tags : (j : ℕ) → j < 16 → clientWord row q (tagsField + j) ≡ keptTagOf t q j
-  n-tags j h = put-before q gotN (t .clients) tagsField (tagsField + j) (rw (lt-ltb (receivedField + i) tagsField (omega (arith, a .target)))) (omega arith)
+  -- the n received stand before the tags and badges kept
+  n-behind : (f : ℕ) → tagsField ≤ f → clientWord row q f ≡ clientWord (t .clients) q f
+  n-behind f h = put-before q gotN (t .clients) tagsField f (rw (lt-ltb (receivedField + i) tagsField (omega (arith, a .target)))) h
+
+  n-kept : (j : ℕ) → j < serversOf t → KeptFacts (withClients row t) q j
+  n-kept j h =
+      record {
+        tag = rw (n-behind (tagsField + j) (omega arith)) (facts a .kept j h .tag);
+        badge = rw (n-behind (badgesField + j) (omega arith)) (facts a .kept j h .badge);
+      }
 
   n-moving : Moving q row rest t
   n-moving = record { row = λ p f e h. put-elsewhere q gotN (t .clients) p f (rw n-inside) h e; link = elsewhere a; clients = put-length q gotN (t .clients); links = rest-long a }
@@ -79,43 +88,36 @@ module _ (q i : ℕ) (t : Tables) (a : Came q i t) (state : stateOf t q ≡ aski
       (eq-eqb (stateOf after q) askingAll (n-low stateField (omega arith) ∙ state))
       (both (uses (stateOf after q) (maskOf after q) i) (isEmpty (contentAt after q i)) (rw (n-low stateField (omega arith), n-low maskField (omega arith)) (used a)) (kind-empty rest q i (gone a))) in
       let held : holding after i ≡ holding t i = same-holding q t after m i in
-      waiting-kept a row n-moving (λ f h. n-low f (omega arith)) n-tags (λ j h e. n-beside j e) more
+      waiting-kept a row n-moving (λ f h. n-low f (omega arith)) n-kept (λ j h e. n-beside j e) more
       (some-received after q i here (rw (n-here, held) n-between))
 
-  -- all replies are in: the number of log entries received is that of the coordinator's reply, now or before
+  -- all replies are in: a tag is chosen, and a version of each masked server
   module _ (none : pending rest q ≡ false) where
-    log-received : Between 1 (receivedIn row q coordinator) (entriesOf t)
-    log-received =
-        by-equal i coordinator
-        (λ e.
-        let all = holding-log t i e in
-        rw (sym (ap (receivedIn row q) e) ∙ n-here) (record { least = n-between .least; most = omega (arith, n-between .most) }))
-        (λ d′.
-        let e : coordinator ≡ i → ⊥ = λ z. d′ (sym z) in
-        let empty : kindOn t q coordinator ≡ 0 = sym (beside a coordinator 0 e (omega arith)) ∙ none-pending rest q coordinator (omega arith) (kinds a coordinator (omega arith)) none in
-        let in′ : arrived t q coordinator ≡ true =
-        both (eqb (stateOf t q) askingAll) (uses (stateOf t q) (maskOf t q) coordinator && isEmpty (contentAt t q coordinator)) (eq-eqb (stateOf t q) askingAll state)
-        (both (uses (stateOf t q) (maskOf t q) coordinator) (isEmpty (contentAt t q coordinator)) (rw (state, uses-all (maskOf t q) coordinator) (or-true (hasServer (maskOf t q) coordinator))) (kind-empty (t .links) q coordinator empty)) in
-        rw (n-beside coordinator e) (received-some t q coordinator in′ (facts a .received coordinator (omega arith))))
-
     abbrev chosen : ℕ
     chosen = tagChosen row q t
 
-    chosen-within : chosen < entriesOf t
-    chosen-within =
-        let n = receivedIn row q coordinator in
-        let below : chosen < n = last-below (qualifies (t .keys) (t .log) (maskOf t q) (receivedIn row q) (serversOf t)) n (log-received .least) in
-        omega (arith, log-received .most)
+    within : chosen < entriesOf t
+    within = chosen-within t (a .sound) q i number (a .client) (a .target) state n-between none
+
+    badge-fits : (j : ℕ) → j < serversOf t → hasServer (maskOf t q) j ≡ true → badgeAt chosen row q t j < 65536
+    badge-fits j h e =
+        a .sound .server j h .badge _ (chosen-held t (a .sound) q i number (a .client) (a .target) state n-between none j h e)
 
     setpoints-room : setpointsField + serversOf t ≤ clientWidth
     setpoints-room = omega (arith, few-servers t (a .sound))
 
-    -- the row: setpoints stored, the n forgotten, then tag and state
+    badges-room : badgesField + serversOf t ≤ clientWidth
+    badges-room = omega (arith, few-servers t (a .sound))
+
+    -- the row: setpoints and badges stored, the n forgotten, then tag and state
     abbrev shown : List ℕ
     shown = keptSetpoints (setpointAt chosen row q t) q (maskOf t q) (serversOf t) row
 
+    abbrev badged : List ℕ
+    badged = keptBadges (badgeAt chosen row q t) q (maskOf t q) (serversOf t) shown
+
     abbrev forgot : List ℕ
-    forgot = forgotten q shown
+    forgot = forgotten q badged
 
     abbrev putsEnd : List Put
     putsEnd = put tagField chosen ∷ put stateField idle ∷ []
@@ -127,24 +129,33 @@ module _ (q i : ℕ) (t : Tables) (a : Came q i t) (state : stateOf t q ≡ aski
     shown-other p f h e =
         kept-other setpointsField (hasServer (maskOf t q)) (setpointAt chosen row q t) q (serversOf t) setpoints-room row p f h e
 
+    badged-other : (p f : ℕ) → f < clientWidth → ((p ≡ q) × (badgesField ≤ f) × (f < badgesField + serversOf t) → ⊥) →
+        clientWord badged p f ≡ clientWord shown p f
+    badged-other p f h e =
+        kept-other badgesField (hasServer (maskOf t q)) (badgeAt chosen row q t) q (serversOf t) badges-room shown p f h e
+
     forgot-other : (p f : ℕ) → f < clientWidth → ((p ≡ q) × (receivedField ≤ f) × (f < receivedField + targets) → ⊥) →
-        clientWord forgot p f ≡ clientWord shown p f
-    forgot-other p f h e = kept-other receivedField every (λ j. 0) q targets (omega arith) shown p f h e
+        clientWord forgot p f ≡ clientWord badged p f
+    forgot-other p f h e = kept-other receivedField every (λ j. 0) q targets (omega arith) badged p f h e
 
     shown-long : length shown ≡ length (t .clients)
     shown-long =
         kept-length setpointsField (hasServer (maskOf t q)) (setpointAt chosen row q t) q (serversOf t) setpoints-room row
         ∙ put-length q gotN (t .clients)
 
+    badged-long : length badged ≡ length (t .clients)
+    badged-long = kept-length badgesField (hasServer (maskOf t q)) (badgeAt chosen row q t) q (serversOf t) badges-room shown ∙ shown-long
+
     forgot-long : length forgot ≡ length (t .clients)
-    forgot-long = kept-length receivedField every (λ j. 0) q targets (omega arith) shown ∙ shown-long
+    forgot-long = kept-length receivedField every (λ j. 0) q targets (omega arith) badged ∙ badged-long
 
     end-moving : Moving q endRow rest t
     end-moving =
         record {
           row = λ p f e h.
               put-elsewhere q putsEnd forgot p f refl h e
-              ∙ (forgot-other p f h (λ z. e (z .0)) ∙ (shown-other p f h (λ z. e (z .0)) ∙ n-moving .row p f e h));
+              ∙ (forgot-other p f h (λ z. e (z .0))
+              ∙ (badged-other p f h (λ z. e (z .0)) ∙ (shown-other p f h (λ z. e (z .0)) ∙ n-moving .row p f e h)));
           link = elsewhere a;
           clients = put-length q putsEnd forgot ∙ forgot-long;
           links = rest-long a;
@@ -156,30 +167,48 @@ module _ (q i : ℕ) (t : Tables) (a : Came q i t) (state : stateOf t q ≡ aski
     low-word : (g : ℕ) → g < setpointsField → clientWord forgot q g ≡ clientWord (t .clients) q g
     low-word g h =
         forgot-other q g (omega arith) (λ z. omega (arith, z .1))
-        ∙ (shown-other q g (omega arith) (λ z. omega (arith, z .1)) ∙ n-low g (omega arith))
+        ∙ (badged-other q g (omega arith) (λ z. omega (arith, z .1)) ∙ (shown-other q g (omega arith) (λ z. omega (arith, z .1)) ∙ n-low g (omega arith)))
 
     end-received : (j : ℕ) → j < targets → receivedIn endRow q j ≡ 0
     end-received j h =
         put-before q putsEnd forgot setpointsField (receivedField + j) refl (omega arith)
-        ∙ kept-there receivedField every (λ x. 0) q targets (omega arith) shown j (rw shown-long (row-room a)) h refl
+        ∙ kept-there receivedField every (λ x. 0) q targets (omega arith) badged j (rw badged-long (row-room a)) h refl
 
-    end-tags : (j : ℕ) → j < 16 → clientWord endRow q (tagsField + j) ≡ keptTagOf t q j
-    end-tags j h =
-        put-before q putsEnd forgot setpointsField (tagsField + j) refl (omega arith)
-        ∙ (forgot-other q (tagsField + j) (omega arith) (λ z. omega (arith, z .2))
-        ∙ (shown-other q (tagsField + j) (omega arith) (λ z. omega (arith, z .2, few-servers t (a .sound))) ∙ n-tags j h))
+    -- behind the n only badges were put: those of the masked servers
+    behind : (f : ℕ) → tagsField ≤ f → f < clientWidth → clientWord endRow q f ≡ clientWord badged q f
+    behind f h l = put-before q putsEnd forgot setpointsField f refl (omega arith) ∙ forgot-other q f l (λ z. omega (arith, z .2))
+
+    unbadged : (f : ℕ) → tagsField ≤ f → f < clientWidth → clientWord shown q f ≡ clientWord (t .clients) q f
+    unbadged f h l = shown-other q f l (λ z. omega (arith, z .2, few-servers t (a .sound))) ∙ n-behind f h
+
+    end-kept : (j : ℕ) → j < serversOf t → KeptFacts (withClients endRow t) q j
+    end-kept j h =
+        let few = few-servers t (a .sound) in
+        let room : HasRow clientWidth shown q = rw shown-long (row-room a) in
+        let has = hasServer (maskOf t q) in
+        record {
+          tag = rw (behind (tagsField + j) (omega arith) (omega arith)
+              ∙ (badged-other q (tagsField + j) (omega arith)
+              (λ z. omega (arith, z .1)) ∙ unbadged (tagsField + j) (omega arith) (omega arith)))
+              (facts a .kept j h .tag);
+          badge = rw (behind (badgesField + j) (omega arith) (omega arith)) (by-test (has j)
+              (λ e. rw (kept-there badgesField has (badgeAt chosen row q t) q (serversOf t) badges-room shown j room h e) (badge-fits j h e))
+              (λ e. rw (kept-not badgesField has (badgeAt chosen row q t) q (serversOf t) badges-room shown j room e
+              ∙ unbadged (badgesField + j) (omega arith) (omega arith)) (facts a .kept j h .badge)));
+        }
 
     all-ends : Kept q t (endedByC chosen row q rest t .tables)
     all-ends =
-        let m = finished-moves q chosen endRow rest t (a .sound) (a .client) (a .early) end-moving (rw state) (rw state) chosen-within in
+        let m = finished-moves q chosen endRow rest t (a .sound) (a .client) (a .early) end-moving (rw state) (rw state) within in
         let count = end-word countField (omega arith) ∙ low-word countField (omega arith) in
-        ended-read-kept q chosen endRow rest t (a .sound) (a .client) (a .early) end-moving (rw state) (rw state) chosen-within (end-word stateField (omega arith)) count
+        ended-read-kept q chosen endRow rest t (a .sound) (a .client) (a .early) end-moving (rw state) (rw state) within
+        (end-word stateField (omega arith)) count
         (idle-client _ q (record {
           state = end-word stateField (omega arith);
           count = rw count (facts a .count .most);
           mask = rw (end-word maskField (omega arith) ∙ low-word maskField (omega arith), moves-numbers q t _ m .servers) (facts a .mask);
-          tag = rw (end-word tagField (omega arith), same-entries q t _ m) chosen-within;
-          kept = tags-stay t _ (moves-numbers q t _ m) q (few-servers t (a .sound)) end-tags (facts a .kept);
+          tag = rw (end-word tagField (omega arith), same-entries q t _ m) within;
+          kept = kept-in t _ (moves-numbers q t _ m) q end-kept;
           link = λ j h. none-pending rest q j h (kinds a j h) none;
           received = end-received;
         }))

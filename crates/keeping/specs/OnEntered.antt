@@ -11,9 +11,9 @@ use Rattle.rules.specs.Common.{idle, entering, askingAll}
 use Rattle.rules.specs.Reply.{emptied, onEntered}
 use Rattle.soundness.specs.Sound.{keyOn}
 use Rattle.soundness.specs.Room.{few-servers}
-use Rattle.keeping.specs.Links.{numberOn}
+use Rattle.keeping.specs.Links.{numberOn, contentsOn}
 use Rattle.keeping.specs.States.{uses-entering, entered-tag}
-use Rattle.keeping.specs.Frame.{Kept, tags-stay}
+use Rattle.keeping.specs.Frame.{Kept, kept-stay}
 use Rattle.keeping.specs.Moves.{moves-numbers, same-entries}
 use Rattle.keeping.specs.Rows.{put, Put, putAll, lastPut, put-read, put-before, put-elsewhere, put-length}
 use Rattle.keeping.specs.Rounds.{idle-client}
@@ -22,7 +22,7 @@ use Rattle.keeping.specs.Came.{Came, facts, asks, row-room, elsewhere, r
 
 module _ (q i : ℕ) (t : Tables) (a : Came q i t) (state : stateOf t q ≡ entering) where
   abbrev w : Contents
-  w = contentsOf (keyOn t q i) (numberOn t q i)
+  w = contentsOn t q i
 
   abbrev number : ℕ
   number = numberOn t q i
@@ -56,7 +56,9 @@ module _ (q i : ℕ) (t : Tables) (a : Came q i t) (state : stateOf t q ≡ ente
         count = rw (entered-word countField (omega arith)) (facts a .count .most);
         mask = rw (entered-word maskField (omega arith), n .servers) (facts a .mask);
         tag = rw (entered-word tagField (omega arith), same-entries q t after m) tag-within;
-        kept = tags-stay t after n q (few-servers t (a .sound)) (λ j h. put-before q putsEntered (t .clients) setpointsField (tagsField + j) refl (omega arith)) (facts a .kept);
+        kept =
+            kept-stay t after n q (few-servers t (a .sound))
+            (λ f g h. put-before q putsEntered (t .clients) setpointsField f refl (omega arith)) (facts a .kept);
         link = none-beside a (λ j. rw state (uses-entering (maskOf t q) j));
         received = λ j h. put-before q putsEntered (t .clients) setpointsField (receivedField + j) refl (omega arith) ∙ received-zero a not-five j h;
       }))

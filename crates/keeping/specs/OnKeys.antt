@@ -15,9 +15,9 @@ use Rattle.rules.specs.Begin.{sentGets, keptTags}
 use Rattle.rules.specs.Reply.{emptied, onKeys}
 use Rattle.soundness.specs.Sound.{keyOn}
 use Rattle.soundness.specs.Room.{few-servers, client-links}
-use Rattle.keeping.specs.Links.{numberOn}
+use Rattle.keeping.specs.Links.{numberOn, contentsOn}
 use Rattle.keeping.specs.States.{uses-keys, keys-target, holding-log, keys-told, allowed-setpoints}
-use Rattle.keeping.specs.Frame.{Kept}
+use Rattle.keeping.specs.Frame.{Kept, kept-in}
 use Rattle.keeping.specs.Moves.{moves-numbers, same-entries}
 use Rattle.keeping.specs.Rows.{put, Put, putAll, lastPut}
 use Rattle.keeping.specs.Asked.{Asked, asked-tags}
@@ -28,7 +28,7 @@ use Rattle.keeping.specs.Came.{Came, facts, asks, used, row-room, busy, 
 
 module _ (q i : ℕ) (t : Tables) (a : Came q i t) (state : stateOf t q ≡ askingKeys) where
   abbrev w : Contents
-  w = contentsOf (keyOn t q i) (numberOn t q i)
+  w = contentsOn t q i
 
   abbrev number : ℕ
   number = numberOn t q i
@@ -92,5 +92,5 @@ module _ (q i : ℕ) (t : Tables) (a : Came q i t) (state : stateOf t q ≡ aski
       (allowed-setpoints (methodOf t) q (rw state at (facts a .allowed)))
       (rw (keys-word countField (omega arith)) (facts a .count .most))
       (rw (keys-word tagField (omega arith), same-entries q t after m) known-within)
-      (λ j h. rw (same-entries q t after m) (row-asked .tags j (rw (n .servers) at h)))
+      (kept-in t after n q (row-asked .kept))
       (λ j h. row-asked .beyond (receivedField + j) (omega arith) (omega arith) ∙ received-zero a (λ e. omega (arith, state)) j h)))

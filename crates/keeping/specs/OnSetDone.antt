@@ -9,9 +9,11 @@ use lib.Dec.{eqb}
 use borrow.Author.Tests.{eqb-true, eqb-false}
 use Rattle.ranges.specs.Tests.{by-test, both}
 use Rattle.keys.specs.Keys.{keyOf, keyWord}
-use Rattle.keys.specs.Masks.{maskWithin, within-test}
+use Rattle.keys.specs.Masks.{maskWithin}
+use Rattle.keys.specs.MaskLaws.{within-test}
 use Rattle.tables.specs.Layout.{clientWidth, clientWord, countField, maskField, receivedField, recordField, setpointsField, stateField, tagField, tagsField}
-use Rattle.tables.specs.Links.{linkWidth, putLink, link-length, contentsOf}
+use Rattle.tables.specs.Links.{linkWidth, putLink, contentsOf}
+use Rattle.tables.specs.LinkLaws.{link-length}
 use Rattle.tables.specs.Tables.{Tables, methodOf, serversOf, clientsOf, stateOf, countOf, maskOf}
 use Rattle.tables.specs.declared.links.Contents.{Contents}
 use Rattle.tables.specs.declared.links.Content.{Content}
@@ -20,9 +22,9 @@ use Rattle.rules.specs.Reply.{emptied, onSetDone}
 use Rattle.soundness.specs.Sound.{uses, keyOn, ownKey}
 use Rattle.soundness.specs.Facts.{Between}
 use Rattle.soundness.specs.Room.{client-fits, link-row, few-servers}
-use Rattle.keeping.specs.Links.{linkWord, numberOn, none-pending, put-same, put-other, put-beside}
-use Rattle.keeping.specs.States.{key-own, none-received, not-all, uses-entering, request-entering, allowed-entering}
-use Rattle.keeping.specs.Frame.{Kept, tags-stay}
+use Rattle.keeping.specs.Links.{linkWord, contentsOn, badgeOn, none-pending, put-same, put-other, put-beside}
+use Rattle.keeping.specs.States.{no-badge, key-own, none-received, not-all, uses-entering, request-entering, allowed-entering}
+use Rattle.keeping.specs.Frame.{Kept, kept-stay}
 use Rattle.keeping.specs.Moves.{Moves, moves-numbers, same-entries}
 use Rattle.keeping.specs.Rows.{put, Put, putAll, lastPut, put-read, put-before, put-elsewhere, put-length}
 use Rattle.keeping.specs.Rounds.{Sent, sent-client}
@@ -31,7 +33,7 @@ use Rattle.keeping.specs.Came.{Came, facts, row-room, busy, kinds, elsew
 
 module _ (q i : ℕ) (t : Tables) (a : Came q i t) (state : stateOf t q ≡ writing) where
   abbrev w : Contents
-  w = contentsOf (keyOn t q i) (numberOn t q i)
+  w = contentsOn t q i
 
   abbrev rest : List ℕ
   rest = emptied q i t
@@ -44,7 +46,7 @@ module _ (q i : ℕ) (t : Tables) (a : Came q i t) (state : stateOf t q ≡ writ
 
   set-waits : pending rest q ≡ true → Kept q t (repliedTables (t .clients) rest (t .writes) (t .reads) t)
   set-waits more =
-      waiting-kept a (t .clients) stays (λ f h. refl) (λ j h. refl) (λ j h e. refl) more
+      waiting-kept a (t .clients) stays (λ f h. refl) (facts a .kept) (λ j h e. refl) more
       (none-received (repliedTables (t .clients) rest (t .writes) (t .reads) t) q i (not-all (repliedTables (t .clients) rest (t .writes) (t .reads) t) q i not-five) (received-zero a not-five i (a .target)))
 
   -- "key and mask go to the head"
@@ -75,7 +77,8 @@ module _ (q i : ℕ) (t : Tables) (a : Came q i t) (state : stateOf t q ≡ writ
   next-word : (g : ℕ) → g < clientWidth → clientWord (next .clients) q g ≡ lastPut putsNext (clientWord (t .clients) q g) g
   next-word g h = put-read q putsNext (t .clients) g (clientWord (t .clients) q g) (row-room a) refl h refl
 
-  enter-word : (f : ℕ) → f < linkWidth → linkWord enters q coordinator f ≡ getD (1 ∷ keyWord (keyOf (countOf t q) q) ∷ maskOf t q ∷ []) f 0
+  enter-word : (f : ℕ) → f < linkWidth →
+      linkWord enters q coordinator f ≡ getD (1 ∷ keyWord (keyOf (countOf t q) q) ∷ maskOf t q ∷ 0 ∷ []) f 0
   enter-word f g = put-same rest q coordinator enter f (rw (rest-long a) (link-row t (a .sound) q (a .client) coordinator (omega arith))) g
 
   next-sent : pending rest q ≡ false → Sent next q
@@ -94,12 +97,15 @@ module _ (q i : ℕ) (t : Tables) (a : Came q i t) (state : stateOf t q ≡ writ
         count = rw (st, next-word countField (omega arith)) count;
         mask = rw (mask, n .servers) masked;
         tag = rw (next-word tagField (omega arith), same-entries q t next next-moves) (facts a .tag);
-        kept = tags-stay t next n q (few-servers t (a .sound)) (λ j h. put-before q putsNext (t .clients) setpointsField (tagsField + j) refl (omega arith)) (facts a .kept);
+        kept =
+            kept-stay t next n q (few-servers t (a .sound))
+            (λ f g h. put-before q putsNext (t .clients) setpointsField f refl (omega arith)) (facts a .kept);
         some = (coordinator, omega arith, only coordinator);
         asked = λ j h u. rw (eqb-true j coordinator (sym (only j) ∙ u)) (enter-word 0 (omega arith));
         good = λ j h u.
             rw (eqb-true j coordinator (sym (only j) ∙ u), st, enter-word 1 (omega arith), enter-word 2 (omega arith), request-entering next q word (maskOf t q), n .servers)
             (both (ownKey q word) (maskWithin (maskOf t q) (serversOf t)) key (within-test (maskOf t q) (serversOf t) masked));
+        badged = λ j h u. no-badge writing (stateOf next q) (badgeOn next q j) (λ e. omega (arith, st));
         rest = λ j h u. put-beside rest q coordinator enter j 0 (eqb-false j coordinator (sym (only j) ∙ u)) (omega arith) ∙ none-pending rest q j h (kinds a j h) none;
         received = λ j h. put-before q putsNext (t .clients) setpointsField (receivedField + j) refl (omega arith) ∙ received-zero a not-five j h;
       }

@@ -14,10 +14,16 @@ use Rattle.ranges.specs.PickedLaws.{is-picked}
 use Rattle.ranges.specs.Words.{zeros}
 use Rattle.keys.specs.Masks.{Within}
 use Rattle.tables.specs.Rows.{wordAt, HasRow, word-same, word-other, word-length, row-same, row-length, sets-at, sets-behind}
-use Rattle.tables.specs.Layout.{countWords, clientWidth, clientWord, serverPlaces, versionWord, putVersionWord, heldField, entryWidth, entryMask, clientsField, countField, entriesField, maskField, methodField, readsField, receivedField, serversField, stateField, stepField, tagField, writesField, tagsField}
+use Rattle.tables.specs.Layout.{countWords, clientWidth, clientWord, serverPlaces, versionWord, putVersionWord, valueWidth, valueRow}
+use Rattle.tables.specs.Layout.{versionBadge}
+use Rattle.tables.specs.Layout.{versionSetpoint, heldField, entryWidth, entryMask, clientsField, countField, entriesField, maskField}
+use Rattle.tables.specs.Layout.{methodField}
+use Rattle.tables.specs.Layout.{readsField, receivedField, serversField, stateField, stepField, tagField, writesField, tagsField}
+use Rattle.tables.specs.Layout.{badgesField}
+use Rattle.tables.specs.Values.{value-other, value-length}
 use Rattle.tables.specs.Tables.{Tables, methodOf, serversOf, clientsOf, stepOf, entriesOf, writesOf, readsOf, heldOf, countOf}
 use Rattle.tables.specs.Links.{linkWidth, linkRow}
-use Rattle.rules.specs.Open.{cleared, holdOne, openedCounts, allServers, opened}
+use Rattle.rules.specs.Open.{cleared, holdOne, openedCounts, openValue, allServers, opened}
 use Rattle.soundness.specs.Sound.{keyInRange, isOpen}
 use Rattle.soundness.specs.Facts.{Long, Press, ServerFacts, LogFacts, ClientFacts, facts-none, Sound}
 use Rattle.keeping.specs.Accepted.{Openable}
@@ -60,7 +66,7 @@ module _ (m k p : ℕ) (counts : List ℕ) (long : countWords ≤ length counts)
       (λ j n xs l d. getD-set-other xs (heldField + j) (heldField + n) 1 0 (λ z. d (omega arith)))
       (λ j. true) start (rw start-length long) k i (omega arith) h refl
 
--- the first word of each server's versions, keys or setpoints
+-- the first key of each server
 module _ (k : ℕ) (value : ℕ → ℕ) (words : List ℕ) (long : serverPlaces * k ≤ length words) where
   abbrev first : ℕ → List ℕ → List ℕ
   first i xs = putVersionWord xs i 0 (value i)
@@ -76,6 +82,21 @@ module _ (k : ℕ) (value : ℕ → ℕ) (words : List ℕ) (long : serverPlaces
   first-length : length (turns first k words) ≡ length words
   first-length = turns-keep first (λ xs. length xs ≡ length words) (λ i xs e. word-length serverPlaces xs i 0 (value i) ∙ e) k words refl
 
+-- and the first value: badge 0 and the opening's setpoint
+module _ (k : ℕ) (setpoints values : List ℕ) (long : valueWidth * (serverPlaces * k) ≤ length values) where
+  value-put : (i f : ℕ) → i < k → f < valueWidth →
+      wordAt valueWidth (turns (openValue setpoints) k values) (valueRow i 0) f ≡ getD (0 ∷ getD setpoints i 0 ∷ []) f 0
+  value-put i f h g =
+      is-picked (λ xs j. wordAt valueWidth xs (valueRow j 0) f) (openValue setpoints) (λ j. getD (0 ∷ getD setpoints j 0 ∷ []) f 0)
+      (λ xs. valueWidth * (serverPlaces * k) ≤ length xs) k
+      (λ j xs r. rw (value-length xs j 0 0 (getD setpoints j 0)) r)
+      (λ j xs l r. row-same valueWidth xs (valueRow j 0) (0 ∷ getD setpoints j 0 ∷ []) f (omega arith) (omega arith) g)
+      (λ j n xs l d. value-other xs j 0 0 (getD setpoints j 0) n 0 f (omega arith) (omega arith) (λ z. d (z .0)) g)
+      (λ j. true) values long k i (omega arith) h refl
+
+  values-length : length (turns (openValue setpoints) k values) ≡ length values
+  values-length = turns-keep (openValue setpoints) (λ xs. length xs ≡ length values) (λ i xs e. value-length xs i 0 0 (getD setpoints i 0) ∙ e) k values refl
+
 -- What an opening leaves, word by word.
 pub record Opened (m k p : ℕ) (setpoints : List ℕ) (t : Tables) : Type 0 where
   pub long : Long k p t
@@ -88,7 +109,8 @@ pub record Opened (m k p : ℕ) (setpoints : List ℕ) (t : Tables) : Type 0 whe
   pub reads : readsOf t ≡ 0
   pub held : (i : ℕ) → i < k → heldOf t i ≡ 1
   pub key : (i : ℕ) → i < k → versionWord (t .keys) i 0 ≡ 0
-  pub value : (i : ℕ) → i < k → versionWord (t .values) i 0 ≡ getD setpoints i 0
+  pub badge : (i : ℕ) → i < k → versionBadge (t .values) i 0 ≡ 0
+  pub value : (i : ℕ) → i < k → versionSetpoint (t .values) i 0 ≡ getD setpoints i 0
   pub entrykey : wordAt entryWidth (t .log) 0 0 ≡ 0
   pub entrymask : entryMask (t .log) 0 ≡ allServers k
   pub word : (q f : ℕ) → clientWord (t .clients) q f ≡ 0
@@ -104,7 +126,7 @@ opened-words m k p setpoints t a =
         clients = rw (cleared-length (t .clients)) (l .clients);
         links = rw (cleared-length (t .links)) (l .links);
         keys = rw (first-length k (λ i. 0) (t .keys) (l .keys)) (l .keys);
-        values = rw (first-length k (λ i. getD setpoints i 0) (t .values) (l .values)) (l .values);
+        values = rw (values-length k setpoints (t .values) (l .values)) (l .values);
         log = rw (row-length entryWidth (t .log) 0 (0 ∷ allServers k ∷ [])) (l .log);
         writes = l .writes;
         reads = l .reads;
@@ -118,7 +140,8 @@ opened-words m k p setpoints t a =
       reads = none-begun m k p (t .counts) (l .counts) readsField (omega arith) (omega arith);
       held = λ i h. one-held m k p (t .counts) (l .counts) i (a .press .servers .most) h;
       key = first-put k (λ i. 0) (t .keys) (l .keys);
-      value = first-put k (λ i. getD setpoints i 0) (t .values) (l .values);
+      badge = λ i h. value-put k setpoints (t .values) (l .values) i 0 h (omega arith);
+      value = λ i h. value-put k setpoints (t .values) (l .values) i 1 h (omega arith);
       entrykey = row-same entryWidth (t .log) 0 (0 ∷ allServers k ∷ []) 0 entry (omega arith) (omega arith);
       entrymask = row-same entryWidth (t .log) 0 (0 ∷ allServers k ∷ []) 1 entry (omega arith) (omega arith);
       word = λ q f. zeros (length (t .clients)) (clientWidth * q + f);
@@ -134,6 +157,7 @@ module _ (m k p : ℕ) (setpoints : List ℕ) (t : Tables) (press : Press m k p)
         held = rw (o .held i h) (record { least = omega arith; most = omega arith });
         first = o .key i h;
         key = λ place l. let z : place ≡ 0 = omega (arith, o .held i h) in rw (z, o .key i h);
+        badge = λ place l. let z : place ≡ 0 = omega (arith, o .held i h) in rw (z, o .badge i h) (omega arith);
       }
 
   two : 2 ^ 1 ≤ 2 ^ k
@@ -158,7 +182,7 @@ module _ (m k p : ℕ) (setpoints : List ℕ) (t : Tables) (press : Press m k p)
         count = rw (o .word q countField) (omega arith);
         mask = rw (o .word q maskField, o .servers) (omega (arith, two));
         tag = rw (o .word q tagField, o .entries) (omega arith);
-        kept = λ i h. rw (o .word q (tagsField + i), o .entries) (omega arith);
+        kept = λ i h. record { tag = rw (o .word q (tagsField + i), o .entries) (omega arith); badge = rw (o .word q (badgesField + i)) (omega arith) };
         link = λ i h. o .link q i 0;
         received = λ i h. o .word q (receivedField + i);
       })

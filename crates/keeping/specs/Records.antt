@@ -117,31 +117,37 @@ module _ (records : List ℕ) (place step : ℕ) where
         (facts-doing records begun q place d)
 
 -- A record begun in the next place.
-module _ (records : List ℕ) (begun q number step : ℕ) where
+module _ (records : List ℕ) (begun q number step badge : ℕ) where
   abbrev row : List ℕ
-  row = q ∷ number ∷ 0 ∷ step ∷ 0 ∷ []
+  row = q ∷ number ∷ 0 ∷ step ∷ 0 ∷ badge ∷ []
 
-  pub begun-word : (n f : ℕ) → f < recordWidth → (n ≡ begun → ⊥) → recordWord (putBegun records begun q number step) n f ≡ recordWord records n f
+  pub begun-word : (n f : ℕ) → f < recordWidth → (n ≡ begun → ⊥) →
+      recordWord (putBegun records begun q number step badge) n f ≡ recordWord records n f
   begun-word n f h d = row-other recordWidth records begun row n f (omega arith) h d
 
-  pub begun-here : (f : ℕ) → f < recordWidth → HasRow recordWidth records begun → recordWord (putBegun records begun q number step) begun f ≡ getD row f 0
+  pub begun-here : (f : ℕ) → f < recordWidth → HasRow recordWidth records begun →
+      recordWord (putBegun records begun q number step badge) begun f ≡ getD row f 0
   begun-here f h r = row-same recordWidth records begun row f r (omega arith) h
 
-  pub begun-places : length (putBegun records begun q number step) ≡ length records
+  pub begun-places : length (putBegun records begun q number step badge) ≡ length records
   begun-places = row-length recordWidth records begun row
 
-  pub begun-open : (p n : ℕ) → n < begun → isOpen (putBegun records begun q number step) p n ≡ isOpen records p n
-  begun-open p n h = open-words records (putBegun records begun q number step) p n (begun-word n clientOfRecord (omega arith) (λ e. omega arith)) (begun-word n endOfRecord (omega arith) (λ e. omega arith))
+  pub begun-open : (p n : ℕ) → n < begun → isOpen (putBegun records begun q number step badge) p n ≡ isOpen records p n
+  begun-open p n h =
+      open-words records (putBegun records begun q number step badge) p n
+      (begun-word n clientOfRecord (omega arith) (λ e. omega arith)) (begun-word n endOfRecord (omega arith) (λ e. omega arith))
 
   module _ (r : HasRow recordWidth records begun) where
-    pub begun-others : (p place : ℕ) → (p ≡ q → ⊥) → (doing : Bool) → openSound doing records begun p place ≡ true → openSound doing (putBegun records begun q number step) (begun + 1) p place ≡ true
+    pub begun-others : (p place : ℕ) → (p ≡ q → ⊥) → (doing : Bool) → openSound doing records begun p place ≡ true →
+        openSound doing (putBegun records begun q number step badge) (begun + 1) p place ≡ true
     begun-others p place d =
-        open-other records (putBegun records begun q number step) begun p place (begun-open p)
-        (not-open (putBegun records begun q number step) p q begun d (begun-here clientOfRecord (omega arith) r))
+        open-other records (putBegun records begun q number step badge) begun p place (begun-open p)
+        (not-open (putBegun records begun q number step badge) p q begun d (begun-here clientOfRecord (omega arith) r))
 
-    pub begun-own : (place : ℕ) → openSound false records begun q place ≡ true → openSound true (putBegun records begun q number step) (begun + 1) q begun ≡ true
+    pub begun-own : (place : ℕ) → openSound false records begun q place ≡ true →
+        openSound true (putBegun records begun q number step badge) (begun + 1) q begun ≡ true
     begun-own place e =
-        open-own records (putBegun records begun q number step) begun q place (begun-open q)
+        open-own records (putBegun records begun q number step badge) begun q place (begun-open q)
         (rw (begun-here clientOfRecord (omega arith) r, begun-here endOfRecord (omega arith) r, eq-eqb q q refl)) e
 
 -- Over all clients, for one kind of transaction: `kind` tells the states that do it. A step of client q leaves the others their states and places.
@@ -163,11 +169,12 @@ module _ (kind : ℕ → Bool) (q : ℕ) (t t′ : Tables) (records : List ℕ) 
       (λ d. rw (state p d, place p d) (before p h))
 
   -- the client begins one
-  pub records-begun : (number step : ℕ) → HasRow recordWidth records begun → kind (stateOf t q) ≡ false → kind (stateOf t′ q) ≡ true → recordOf t′ q ≡ begun → Records (putBegun records begun q number step) (begun + 1)
-  records-begun number step room k l here p h =
+  pub records-begun : (number step badge : ℕ) → HasRow recordWidth records begun → kind (stateOf t q) ≡ false →
+      kind (stateOf t′ q) ≡ true → recordOf t′ q ≡ begun → Records (putBegun records begun q number step badge) (begun + 1)
+  records-begun number step badge room k l here p h =
       by-equal p q
-      (λ e. rw (e, l, here) (begun-own records begun q number step room (recordOf t q) (rw k at (before q (rw e at h)))))
-      (λ d. rw (state p d, place p d) (begun-others records begun q number step room p (recordOf t p) d (kind (stateOf t p)) (before p h)))
+      (λ e. rw (e, l, here) (begun-own records begun q number step badge room (recordOf t q) (rw k at (before q (rw e at h)))))
+      (λ d. rw (state p d, place p d) (begun-others records begun q number step badge room p (recordOf t p) d (kind (stateOf t p)) (before p h)))
 
   -- the client ends its own
   pub records-ended : (step : ℕ) → Doing records begun q (recordOf t q) → HasRow recordWidth records (recordOf t q) → 0 < step → kind (stateOf t′ q) ≡ false → Records (endedRecord (recordOf t q) step records) begun

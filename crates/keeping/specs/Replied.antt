@@ -8,7 +8,8 @@ use lib.ListN.{length, length-set}
 use Rattle.ranges.specs.Tests.{by-equal}
 use Rattle.ranges.specs.SumLaws.{sum-same}
 use Rattle.tables.specs.Rows.{HasRow}
-use Rattle.tables.specs.Layout.{lastStep, writesField, readsField, stateField, recordField, clientWidth, clientWord, recordWidth, recordWord, clientOfRecord, numberOfRecord, tagOfRecord, endOfRecord, countField}
+use Rattle.tables.specs.Layout.{lastStep, writesField, readsField, stateField, recordField, clientWidth, clientWord, recordWidth}
+use Rattle.tables.specs.Layout.{recordWord, clientOfRecord, numberOfRecord, badgeOfRecord, tagOfRecord, endOfRecord, countField}
 use Rattle.tables.specs.Links.{targets, linkWidth}
 use Rattle.tables.specs.Tables.{Tables, tablesOf, clientsOf, stepOf, entriesOf, writesOf, readsOf, stateOf, countOf, recordOf}
 use Rattle.rules.specs.Common.{idle, nextStep, counted, endedRecord, taggedRecord}
@@ -79,7 +80,8 @@ module _ (q : ℕ) (clients′ links′ writes′ reads′ : List ℕ) (t : Tabl
 
   -- records that stay are as sound as before
   write-stays : writes′ ≡ t .writes → (n : ℕ) → n < writesOf t → WriteFacts after n
-  write-stays e n h = write-kept t after (moves-numbers q t after replied-moves) n (rw e) (rw e) (rw (e, same-entries q t after replied-moves) (s .write n h .tag)) (s .write n h)
+  write-stays e n h = write-kept t after (moves-numbers q t after replied-moves) n (rw e) (rw e) (rw e)
+      (rw (e, same-entries q t after replied-moves) (s .write n h .tag)) (s .write n h)
 
   read-stays : reads′ ≡ t .reads → (n : ℕ) → n < readsOf t → ReadFacts after n
   read-stays e n h = read-kept t after (moves-numbers q t after replied-moves) n (rw e) (rw e) (rw (e, same-entries q t after replied-moves) (s .read n h .tag)) (s .read n h)
@@ -120,6 +122,7 @@ module _ (q : ℕ) (clients′ links′ : List ℕ) (t : Tables) (s : Sound t) (
   ended-record n h =
       let word = ended-word (t .writes) (recordOf t q) (nextStep t) n in
       write-kept t ended (moves-numbers q t ended ended-moves) n (word clientOfRecord (omega arith) (λ e. omega arith)) (word numberOfRecord (omega arith) (λ e. omega arith))
+      (word badgeOfRecord (omega arith) (λ e. omega arith))
       (rw (word tagOfRecord (omega arith) (λ e. omega arith), same-entries q t ended ended-moves) (s .write n h .tag)) (s .write n h)
 
   pub ended-write-kept : stateOf ended q ≡ idle → countOf ended q ≡ countOf t q → ClientFacts ended q → Kept q t ended

@@ -9,7 +9,7 @@ use Rattle.tables.specs.declared.links.Content.the-variants.{Nothing, Request, 
 use Rattle.rules.specs.Reply.{onReplyIn, onReply, replyDelivered}
 use Rattle.soundness.specs.Sound.{keyOn}
 use Rattle.soundness.specs.Facts.{Sound}
-use Rattle.keeping.specs.Links.{numberOn, reply-kind, reply-words}
+use Rattle.keeping.specs.Links.{contentsOn, reply-kind, reply-words}
 use Rattle.keeping.specs.States.{by-state}
 use Rattle.keeping.specs.Frame.{Kept, kept-same}
 use Rattle.keeping.specs.Accepted.{Deliverable, target-below}
@@ -20,7 +20,7 @@ use Rattle.keeping.specs.OnKeys.{keys-delivered}
 use Rattle.keeping.specs.OnGot.{got-delivered}
 use Rattle.keeping.specs.OnAll.{all-delivered}
 
-in-state : (q i : ℕ) (t : Tables) → Came q i t → Kept q t (onReplyIn (stateOf t q) (contentsOf (keyOn t q i) (numberOn t q i)) q i t .tables)
+in-state : (q i : ℕ) (t : Tables) → Came q i t → Kept q t (onReplyIn (stateOf t q) (contentsOn t q i) q i t .tables)
 unfolding onReplyIn
 in-state q i t a =
     by-state (maskOf t q) i (stateOf t q) (used a)

@@ -10,13 +10,15 @@ use Rattle.ranges.specs.Turns.{turns, turns-keep-below}
 use Rattle.ranges.specs.Picked.{picked}
 use Rattle.ranges.specs.PickedLaws.{is-picked, not-picked}
 use Rattle.keys.specs.Masks.{Within}
-use Rattle.tables.specs.Links.{targets, HasLinks, linkWidth, putLink, link-length, contentWords}
-use Rattle.tables.specs.Tables.{Tables, methodOf, serversOf, entriesOf, stateOf, countOf, maskOf, tagOf, receivedOf, keptTagOf}
+use Rattle.tables.specs.Links.{targets, HasLinks, linkWidth, putLink, contentWords}
+use Rattle.tables.specs.LinkLaws.{link-length}
+use Rattle.tables.specs.Tables.{Tables, methodOf, serversOf, entriesOf, stateOf, countOf, maskOf, tagOf, receivedOf}
 use Rattle.tables.specs.declared.links.Content.{Content}
-use Rattle.rules.specs.Common.{idle}
-use Rattle.soundness.specs.Sound.{uses, requestSound, keyOn, isWriting, stateAllowed}
-use Rattle.soundness.specs.Facts.{Between, LinkFacts, ClientFacts}
-use Rattle.keeping.specs.Links.{linkWord, kindOn, numberOn, kind-full, pending-at, put-same, put-other, put-beside, link-asks, asks-link}
+use Rattle.rules.specs.Common.{idle, writing}
+use Rattle.soundness.specs.Sound.{uses, requestSound, badgeSound, keyOn, isWriting, stateAllowed}
+use Rattle.soundness.specs.Facts.{Between, LinkFacts, KeptFacts, ClientFacts}
+use Rattle.keeping.specs.Links.{linkWord, kindOn, numberOn, badgeOn, kind-full, pending-at, put-same, put-other, put-beside}
+use Rattle.keeping.specs.Links.{link-asks, asks-link}
 use Rattle.keeping.specs.States.{uses-idle, arrived, none-received, not-all, not-used, not-empty, allowed-idle}
 
 -- a link that holds nothing asks nothing
@@ -27,6 +29,8 @@ link-empty t q i e =
       used = λ d. absurd (d e);
       request = λ k. let z : ⊥ = omega arith in absurd z;
       reply = λ k. let z : ⊥ = omega arith in absurd z;
+      set-badge = λ k. let z : ⊥ = omega arith in absurd z;
+      got-badge = λ k. let z : ⊥ = omega arith in absurd z;
     })
 
 -- a link that the state does not use holds nothing
@@ -39,7 +43,7 @@ pub record Idle (t : Tables) (q : ℕ) : Type 0 where
   pub count : countOf t q ≤ 255
   pub mask : maskOf t q < 2 ^ serversOf t
   pub tag : tagOf t q < entriesOf t
-  pub kept : (i : ℕ) → i < serversOf t → keptTagOf t q i < entriesOf t
+  pub kept : (i : ℕ) → i < serversOf t → KeptFacts t q i
   pub link : (i : ℕ) → i < targets → kindOn t q i ≡ 0
   pub received : (i : ℕ) → i < targets → receivedOf t q i ≡ 0
 
@@ -67,10 +71,12 @@ pub record Sent (t : Tables) (q : ℕ) : Type 0 where
   pub count : Between (cond (isWriting (stateOf t q)) 1 0) (countOf t q) 255
   pub mask : Within (maskOf t q) (serversOf t)
   pub tag : tagOf t q < entriesOf t
-  pub kept : (i : ℕ) → i < serversOf t → keptTagOf t q i < entriesOf t
+  pub kept : (i : ℕ) → i < serversOf t → KeptFacts t q i
   pub some : (i : ℕ) × (i < targets) × (uses (stateOf t q) (maskOf t q) i ≡ true)
   pub asked : (i : ℕ) → i < targets → uses (stateOf t q) (maskOf t q) i ≡ true → kindOn t q i ≡ 1
-  pub good : (i : ℕ) → i < targets → uses (stateOf t q) (maskOf t q) i ≡ true → requestSound (stateOf t q) q (keyOn t q i) (numberOn t q i) t ≡ true
+  pub good : (i : ℕ) → i < targets → uses (stateOf t q) (maskOf t q) i ≡ true →
+      requestSound (stateOf t q) q (keyOn t q i) (numberOn t q i) t ≡ true
+  pub badged : (i : ℕ) → i < targets → uses (stateOf t q) (maskOf t q) i ≡ true → badgeSound writing (stateOf t q) (badgeOn t q i) ≡ true
   pub rest : (i : ℕ) → i < targets → uses (stateOf t q) (maskOf t q) i ≡ false → kindOn t q i ≡ 0
   pub received : (i : ℕ) → i < targets → receivedOf t q i ≡ 0
 
@@ -79,7 +85,14 @@ module _ (t : Tables) (q : ℕ) (c : Sent t q) where
   sent-link i h =
       by-test (uses (stateOf t q) (maskOf t q) i)
       (λ u. let e = c .asked i h u in
-      asks-link t q i (record { kind = rw e (omega arith); used = λ d. u; request = λ k. c .good i h u; reply = λ k. let z : ⊥ = omega arith in absurd z }))
+      asks-link t q i (record {
+        kind = rw e (omega arith);
+        used = λ d. u;
+        request = λ k. c .good i h u;
+        reply = λ k. let z : ⊥ = omega arith in absurd z;
+        set-badge = λ k. c .badged i h u;
+        got-badge = λ k. let z : ⊥ = omega arith in absurd z;
+      }))
       (λ u. link-empty t q i (c .rest i h u))
 
   -- nothing has arrived yet

@@ -6,13 +6,15 @@ use native.Mathlib.Omega.{arith}
 use lib.Dec.{eqb, leb, ltb}
 use borrow.Author.Tests.{eq-eqb, ne-eqb, eqb-true, leb-true, ltb-true, ltb-false, lt-ltb}
 use Rattle.ranges.specs.Tests.{by-test, by-equal, both, both-left, both-right, not-both}
-use Rattle.keys.specs.Masks.{hasServer, maskWithin, no-server}
+use Rattle.keys.specs.Masks.{hasServer, maskWithin}
+use Rattle.keys.specs.MaskLaws.{no-server}
 use Rattle.tables.specs.Tables.{Tables, serversOf, clientsOf, entriesOf, heldOf, stateOf, maskOf, receivedOf, contentAt}
 use Rattle.tables.specs.Links.{targets, isEmpty}
 use Rattle.tables.specs.declared.links.Contents.{Contents}
 use Rattle.tables.specs.declared.links.Content.the-variants.{Request}
 use Rattle.rules.specs.Common.{idle, writing, entering, askingKeys, askingSetpoints, askingAll, coordinator}
-use Rattle.soundness.specs.Sound.{uses, stateAllowed, receivedSound, requestSound, replySound, keyOn, contentSound, between, holding, ownKey, keyInRange}
+use Rattle.soundness.specs.Sound.{uses, stateAllowed, receivedSound, requestSound, replySound, badgeSound, keyOn, contentSound, between}
+use Rattle.soundness.specs.Sound.{holding, ownKey, keyInRange}
 use Rattle.soundness.specs.Facts.{Between, between-facts, facts-between, Sound}
 
 -- the links that a state uses
@@ -75,7 +77,8 @@ module _ (t : Tables) (s : Sound t) (q i : ℕ) (h : q < clientsOf t) (l : i < t
   request-used : uses (stateOf t q) (maskOf t q) i ≡ true
   unfolding contentSound
   request-used =
-      both-left (uses (stateOf t q) (maskOf t q) i) (requestSound (stateOf t q) q (keyOn t q i) (w .number) t)
+      both-left (uses (stateOf t q) (maskOf t q) i)
+      (requestSound (stateOf t q) q (keyOn t q i) (w .number) t && badgeSound writing (stateOf t q) (w .badge))
       (rw e at (s .client q h .link i l .content))
 
   pub set-server : stateOf t q ≡ writing → i < serversOf t
@@ -246,3 +249,14 @@ module _ (t : Tables) (i number : ℕ) where
   pub all-told : replySound askingAll i number t ≡ true → Between 1 number (holding t i)
   unfolding replySound
   all-told e = between-facts 1 number (holding t i) e
+
+-- the badge on a link, where the state's messages carry one, and where they do not
+module _ (carrier state badge : ℕ) where
+  pub badge-carried : state ≡ carrier → badgeSound carrier state badge ≡ true → badge < 65536
+  badge-carried e b = ltb-true _ _ (rw (eq-eqb state carrier e) at b)
+
+  pub carried-badge : badge < 65536 → badgeSound carrier state badge ≡ true
+  carried-badge h = by-test (eqb state carrier) (λ e. rw e (lt-ltb _ _ h)) (λ e. rw e)
+
+  pub no-badge : (state ≡ carrier → ⊥) → badgeSound carrier state badge ≡ true
+  no-badge d = rw (ne-eqb state carrier d)

@@ -4,6 +4,8 @@ use Prim.Native.Nat.{ℕ}
 use mathlib.Core.Path.{_≡_, refl}
 use mathlib.Core.Bool.{Bool, not}
 use mathlib.Core.List.{List}
+use native.Mathlib.Nat.{mod-lt}
+use native.Mathlib.Omega.{arith}
 use lib.Dec.{leb}
 use Rattle.tables.specs.Layout.{lastStep}
 use Rattle.tables.specs.Tables.{Tables, stepOf}
@@ -15,7 +17,7 @@ use Rattle.rules.specs.Request.{requestDelivered}
 use Rattle.rules.specs.Reply.{replyDelivered}
 use Rattle.soundness.specs.Facts.{Sound}
 use Rattle.refusals.specs.Refusals.{atLastStep, openRefusal, writeRefusal, readRefusal, deliveryRefusal}
-use Rattle.refusals.specs.Steps.{open′, beginWrite, beginRead, deliverRequest, deliverReply}
+use Rattle.refusals.specs.Steps.{badgeOf, open′, beginWrite, beginRead, deliverRequest, deliverReply}
 use Rattle.refusals.specs.Either.{by-refusal, by-refusal-arrived, unstopped}
 use Rattle.keeping.specs.Accepted.{openable, writable, readable, deliverable}
 use Rattle.keeping.specs.Frame.{Kept, kept-same}
@@ -48,15 +50,15 @@ module _ (m k p : ℕ) (setpoints : List ℕ) (t : Tables) where
       (λ n e. s)
       (λ e. opened-sound m k p setpoints t (openable m k p setpoints t e))
 
-module _ (q mask : ℕ) (setpoints : List ℕ) (t : Tables) (s : Sound t) where
-  pub beginWrite-kept : Kept q t (beginWrite q mask setpoints t .tables)
+module _ (q mask badge : ℕ) (setpoints : List ℕ) (t : Tables) (s : Sound t) where
+  pub beginWrite-kept : Kept q t (beginWrite q mask badge setpoints t .tables)
   unfolding beginWrite
   beginWrite-kept =
-      by-refusal (λ x. Kept q t (x .tables)) (writeRefusal q mask setpoints t) (left Ok (begunWrite q mask setpoints t)) t
+      by-refusal (λ x. Kept q t (x .tables)) (writeRefusal q mask setpoints t) (left Ok (begunWrite q mask (badgeOf badge) setpoints t)) t
       (λ n e. kept-same q t s)
-      (λ e. begunWrite-kept q mask setpoints t s (writable q mask setpoints t e))
+      (λ e. begunWrite-kept q mask (badgeOf badge) setpoints t s (writable q mask setpoints t e) (mod-lt badge (omega arith)))
 
-  pub beginWrite-sound : Sound (beginWrite q mask setpoints t .tables)
+  pub beginWrite-sound : Sound (beginWrite q mask badge setpoints t .tables)
   beginWrite-sound = beginWrite-kept .sound
 
 module _ (q mask : ℕ) (t : Tables) (s : Sound t) where

@@ -11,7 +11,8 @@ use borrow.Author.Tests.{eq-eqb, ne-eqb}
 use Rattle.ranges.specs.Tests.{by-equal}
 use Rattle.ranges.specs.Turns.{turns}
 use Rattle.ranges.specs.Picked.{picked}
-use Rattle.keys.specs.Masks.{hasServer, no-server}
+use Rattle.keys.specs.Masks.{hasServer}
+use Rattle.keys.specs.MaskLaws.{no-server}
 
 -- the servers of a mask that another does not have
 abbrev pub without : ℕ → ℕ → ℕ

@@ -7,7 +7,7 @@ use native.Mathlib.Omega.{arith}
 use lib.ListN.{length, getD, set, take, drop, length-append, length-map}
 use lib.Seq.{sets, sets-eq, length-sets}
 use Rattle.tables.specs.Rows.{HasRow}
-use Rattle.tables.specs.Layout.{recordWord, beginOfRecord, endOfRecord}
+use Rattle.tables.specs.Layout.{recordWord, beginOfRecord, endOfRecord, badgeOfRecord}
 use Rattle.listing.specs.Register.{kept, placesBelow, passing, lineWidth, Line, write, read, writeWords, readWords, recordWords, overlap, wordsOfLine}
 use Rattle.listing.specs.Places.{places-more, places-room, passing-more, passing-room}
 
@@ -89,8 +89,15 @@ module _ (words : ℕ → List ℕ) (wide : (place : ℕ) → length (words plac
 -- the line of a READ: its record, with the overlap of its begin and end
 pub read-line : (writes : List ℕ) (n : ℕ) (reads : List ℕ) (place line : ℕ) (list : List ℕ) {begin end over : ℕ} {list′ : List ℕ} →
     begin ≡ recordWord reads place beginOfRecord → end ≡ recordWord reads place endOfRecord → over ≡ overlap writes n begin end →
-    list′ ≡ sets list (lineWidth * line) (recordWords 1 reads place over) → list′ ≡ sets list (lineWidth * line) (readWords writes n reads place)
+    list′ ≡ sets list (lineWidth * line) (recordWords 1 reads place over 0) →
+    list′ ≡ sets list (lineWidth * line) (readWords writes n reads place)
 read-line writes n reads place line list b e o l = l ∙ rw (o, b, e)
+
+-- the line of a WRITE: its record, with its badge
+pub write-line : (writes : List ℕ) (place line : ℕ) (list : List ℕ) {badge : ℕ} {list′ : List ℕ} →
+    badge ≡ recordWord writes place badgeOfRecord → list′ ≡ sets list (lineWidth * line) (recordWords 0 writes place 0 badge) →
+    list′ ≡ sets list (lineWidth * line) (writeWords writes place)
+write-line writes place line list b l = l ∙ rw b
 
 -- the lines of WRITEs and those of READs among all lines
 module _ (writes : List ℕ) (n : ℕ) (reads : List ℕ) where

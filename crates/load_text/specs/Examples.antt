@@ -60,8 +60,8 @@ not-readable = record {
 pub record Printed : Type 0 where
   -- `O 2 2 2 0 0`
   pub opens : stepLine (Open 2 2 2) (0 ∷ 0 ∷ []) ≡ 79 ∷ 32 ∷ 50 ∷ 32 ∷ 50 ∷ 32 ∷ 50 ∷ 32 ∷ 48 ∷ 32 ∷ 48 ∷ 10 ∷ []
-  -- `W 0 3 1 1`
-  pub writes : stepLine (BeginWrite 0 3) (1 ∷ 1 ∷ []) ≡ 87 ∷ 32 ∷ 48 ∷ 32 ∷ 51 ∷ 32 ∷ 49 ∷ 32 ∷ 49 ∷ 10 ∷ []
+  -- `W 0 3 0 1 1`
+  pub writes : stepLine (BeginWrite 0 3 0) (1 ∷ 1 ∷ []) ≡ 87 ∷ 32 ∷ 48 ∷ 32 ∷ 51 ∷ 32 ∷ 48 ∷ 32 ∷ 49 ∷ 32 ∷ 49 ∷ 10 ∷ []
   -- `> 1 16`: a delivery has no setpoints
   pub requests : stepLine (Request 1 16) (0 ∷ 0 ∷ []) ≡ 62 ∷ 32 ∷ 49 ∷ 32 ∷ 49 ∷ 54 ∷ 10 ∷ []
   -- `no 13`

@@ -18,6 +18,7 @@ use Rattle.soundness.specs.Facts.{Sound}
 use Rattle.soundness.specs.Room.{few-servers, few-clients}
 use Rattle.schedule.specs.declared.Step.{Step}
 use Rattle.schedule.specs.declared.Step.the-variants.{Unreadable, Open, BeginWrite, BeginRead, Request, Reply}
+use Rattle.schedule.specs.Decimal.{decimal, spacedAll}
 use Rattle.schedule.specs.DecimalLaws.{word-short, two-short}
 use Rattle.schedule.specs.Steps.{lineMost, Named, alone, lineNumbers, stepText}
 use Rattle.schedule.specs.ReadBack.{AllFit, FitsLine, AllShort, spaced-short, step-back}
@@ -51,11 +52,17 @@ short-line n f h =
     let l = lineNumbers (n .step) (n .setpoints) in
     omega (arith, spaced-short 10 l (fit-short l f))
 
--- A step of a client, of two numbers and perhaps setpoints.
+-- a number of a line takes a space and its digits
+number-short : (n most : ℕ) (rest : List ℕ) → length (decimal n) ≤ most →
+    length (spacedAll (n ∷ rest)) ≤ 1 + most + length (spacedAll rest)
+unfolding spacedAll
+number-short n most rest h = rw (length-append (decimal n) (spacedAll rest)) (omega (arith, h))
+
+-- A step of a client, of two numbers and perhaps setpoints: beside 16 setpoints of any size a WRITE's client and badge have two digits.
 abbrev pub Small : Step → Type 0
 Small Unreadable = ⊥
 Small (Open method servers clients) = ⊥
-Small (BeginWrite client mask) = (client ≤ 4294967295) × (mask ≤ 4294967295)
+Small (BeginWrite client mask badge) = (client < 100) × ((mask ≤ 4294967295) × (badge < 100))
 Small (BeginRead client mask) = (client ≤ 4294967295) × (mask ≤ 4294967295)
 Small (Request client target) = (client ≤ 4294967295) × (target ≤ 4294967295)
 Small (Reply client target) = (client ≤ 4294967295) × (target ≤ 4294967295)
@@ -65,10 +72,18 @@ module _ (t : Tables) (k v : ℕ) (few : k ≤ 16) (fits : v ≤ 4294967295) whe
   unfolding played
   line-played Unreadable f = absurd f
   line-played (Open method servers clients) f = absurd f
-  line-played (BeginWrite q mask) f =
-      let n = equally (BeginWrite q mask) k v in
-      let all : AllFit (q ∷ mask ∷ replicate k v) = (f .0, (f .1, equal-fit k v fits)) in
-      back-played t n (record { numbers = all; size = short-line n all (omega (arith, length-replicate k v)); shape = tt })
+  line-played (BeginWrite q mask badge) f =
+      let l = replicate k v in
+      let all : AllFit (q ∷ mask ∷ badge ∷ l) = (omega (arith, f .0), (f .1 .0, (omega (arith, f .1 .1), equal-fit k v fits))) in
+      let a = number-short q 2 (mask ∷ badge ∷ l) (two-short q (f .0)) in
+      let b = number-short mask 10 (badge ∷ l) (word-short mask (omega (arith, f .1 .0))) in
+      let d = number-short badge 2 l (two-short badge (f .1 .1)) in
+      let e = spaced-short 10 l (fit-short l (equal-fit k v fits)) in
+      back-played t (equally (BeginWrite q mask badge) k v) (record {
+        numbers = all;
+        size = omega (arith, a, b, d, e, length-replicate k v);
+        shape = omega (arith, f .1 .1);
+      })
   line-played (BeginRead q mask) f =
       let n = alone (BeginRead q mask) in
       back-played t n (record { numbers = (f .0, (f .1, tt)); size = short-line n (f .0, (f .1, tt)) (omega arith); shape = refl })
@@ -133,7 +148,7 @@ module _ (t : Tables) (s : Sound t) where
       by-test (ltb n p)
       (λ a.
       let l : n < p = ltb-true n p a in
-      rw a ((omega arith, mask-small), omega (arith, s .client n l .count .most)))
+      rw a ((omega arith, (mask-small, omega arith)), omega (arith, s .client n l .count .most)))
       (λ a. rw a (by-test (ltb n (2 * p))
       (λ b. rw b ((omega (arith, ltb-true n (2 * p) b), mask-small), omega arith))
       (λ b. rw b (by-test (ltb n ((2 + targets) * p))

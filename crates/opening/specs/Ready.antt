@@ -6,7 +6,7 @@ use lib.ListN.{length}
 use lib.Seq.{sets}
 use Rattle.ranges.specs.Turns.{turns}
 use Rattle.keys.specs.Keys.{opening}
-use Rattle.tables.specs.Layout.{countWords, serverPlaces, entryWidth, putEntry}
+use Rattle.tables.specs.Layout.{countWords, serverPlaces, valueWidth, entryWidth, putEntry}
 use Rattle.tables.specs.Tables.{Tables, tablesOf}
 use Rattle.rules.specs.Open.{cleared, openedCounts, openKey, openValue, allServers, opened}
 
@@ -19,7 +19,7 @@ pub record OpenReady (counts keys values log setpoints : List ℕ) (k : ℕ) : T
   pub servers : k ≤ 16
   pub given : length setpoints ≡ k
   pub keyed : serverPlaces * k ≤ length keys
-  pub valued : serverPlaces * k ≤ length values
+  pub valued : valueWidth * (serverPlaces * k) ≤ length values
   pub logged : entryWidth ≤ length log
 
 -- what the opening's calls leave, taken together

@@ -5,7 +5,7 @@ ghost use Prim.Native.Nat.{ℕ, _*_, _≤_};
 ghost use lib.ListN.{length};
 ghost use Rattle.ranges.specs.Turns.{turns};
 ghost use Rattle.tables.specs.Tables.{tablesOf};
-ghost use Rattle.tables.specs.Layout.{countWords, serverPlaces};
+ghost use Rattle.tables.specs.Layout.{countWords, serverPlaces, valueWidth};
 ghost use Rattle.rules.specs.Open.{cleared, holdOne, openedCounts, openKey, openValue, opened};
 ghost use Rattle.opening.specs.Ready.{OpenReady, openScalars};
 use keys::Key;
@@ -48,15 +48,16 @@ fn hold_one(counts: &mut [u32], servers: usize)
     }
 }
 
-// The first version of each server is the opening's, with its setpoint.
+// The first version of each server is the opening's, with badge 0 and its setpoint.
 fn open_versions(keys: &mut [u32], values: &mut [u32], setpoints: &[u32])
-    requires { ⌜ (serverPlaces * length (now setpoints) ≤ length (now keys)) × (serverPlaces * length (now setpoints) ≤ length (now values)) ⌝ }
+    requires { ⌜ serverPlaces * length (now setpoints) ≤ length (now keys) ⌝ }
+    requires { ⌜ valueWidth * (serverPlaces * length (now setpoints)) ≤ length (now values) ⌝ }
     ensures keys { λ _. ⌜ now (keys .exit) ≡ turns openKey (length (now (setpoints .entry))) (now (keys .entry)) ⌝ }
     ensures values { λ _. ⌜ now (values .exit) ≡ turns (openValue (now (setpoints .entry))) (length (now (setpoints .entry))) (now (values .entry)) ⌝ }
 {
     let mut server = 0;
     while server < setpoints.len() {
-        versions::put_version(keys, values, server, 0, Key::OPENING, setpoints[server]);
+        versions::put_version(keys, values, server, 0, Key::OPENING, 0, setpoints[server]);
         server += 1;
     }
 }

@@ -38,9 +38,9 @@ module _ (t : Tables) (unopened : methodOf t ≡ 0) where
   not-sound : sound t ≡ false
   not-sound = by-test (sound t) (λ e. let s = sound-facts t e in let z : ⊥ = omega (arith, s .scalars .press .method .least, unopened) in absurd z) (λ e. e)
 
-  pub write-unopened : (q mask : ℕ) (setpoints : List ℕ) → beginWrite q mask setpoints t ≡ left (Refused 2) t
+  pub write-unopened : (q mask badge : ℕ) (setpoints : List ℕ) → beginWrite q mask badge setpoints t ≡ left (Refused 2) t
   unfolding beginWrite writeRefusal
-  write-unopened q mask setpoints = rw not-sound
+  write-unopened q mask badge setpoints = rw not-sound
 
   pub read-unopened : (q mask : ℕ) → beginRead q mask t ≡ left (Refused 2) t
   unfolding beginRead readRefusal
@@ -55,9 +55,10 @@ module _ (t : Tables) (unopened : methodOf t ≡ 0) where
   reply-unopened q i = rw not-sound
 
   -- "Before any opening, steps give 2."
-  pub begin-write-early : (q mask : ℕ) (setpoints : List ℕ) → showing (plainly (No 2)) t ≡ played (BeginWrite q mask) setpoints t
+  pub begin-write-early : (q mask badge : ℕ) (setpoints : List ℕ) →
+      showing (plainly (No 2)) t ≡ played (BeginWrite q mask badge) setpoints t
   unfolding played
-  begin-write-early q mask setpoints = rw (write-unopened q mask setpoints)
+  begin-write-early q mask badge setpoints = rw (write-unopened q mask badge setpoints)
 
   pub begin-read-early : (q mask : ℕ) (setpoints : List ℕ) → showing (plainly (No 2)) t ≡ played (BeginRead q mask) setpoints t
   unfolding played
@@ -77,7 +78,7 @@ pub step-sound : (step : Step) (setpoints : List ℕ) (t : Tables) → Sound t �
 unfolding played
 step-sound Unreadable setpoints t s = s
 step-sound (Open method k panels) setpoints t s = open-keeps method k panels setpoints t s
-step-sound (BeginWrite q mask) setpoints t s = beginWrite-sound q mask setpoints t s
+step-sound (BeginWrite q mask badge) setpoints t s = beginWrite-sound q mask badge setpoints t s
 step-sound (BeginRead q mask) setpoints t s = beginRead-sound q mask t s
 step-sound (Request q i) setpoints t s = deliverRequest-sound q i t s
 step-sound (Reply q i) setpoints t s = deliverReply-sound q i t s
@@ -98,8 +99,9 @@ module _ (t : Tables) (p : Playable t) where
   unfolding played open′
   step-playable Unreadable setpoints = p
   step-playable (Open method k panels) setpoints = open-playable method k panels setpoints (openRefusal method k panels setpoints t) refl
-  step-playable (BeginWrite q mask) setpoints =
-      by-opening (λ e. ap (λ (l : Left). l .tables) (write-unopened t e q mask setpoints)) (beginWrite-sound q mask setpoints t) (methodOf t) refl
+  step-playable (BeginWrite q mask badge) setpoints =
+      by-opening (λ e. ap (λ (l : Left). l .tables) (write-unopened t e q mask badge setpoints)) (beginWrite-sound q mask badge setpoints t)
+      (methodOf t) refl
   step-playable (BeginRead q mask) setpoints =
       by-opening (λ e. ap (λ (l : Left). l .tables) (read-unopened t e q mask)) (beginRead-sound q mask t) (methodOf t) refl
   step-playable (Request q i) setpoints =

@@ -45,7 +45,7 @@ showing s t = record { shown = s; tables = t }
 
 -- a word with nothing shown beside it
 abbrev pub noted : Word → ℕ → Shown
-noted w mask = record { word = w; mask = mask; setpoints = replicate 16 0; tags = replicate 16 0 }
+noted w mask = record { word = w; mask = mask; setpoints = replicate 16 0; tags = replicate 16 0; badges = replicate 16 0 }
 
 abbrev pub plainly : Word → Shown
 plainly w = noted w 0
@@ -58,7 +58,8 @@ leftPlayed l = showing (plainly (answerWord (l .answer))) (l .tables)
 abbrev pub arrivedPlayed : ℕ → Arrived → Played
 arrivedPlayed mask a =
     let d = a .delivered in
-    showing (record { word = arrivalWord (d .arrival); mask = mask; setpoints = d .setpoints; tags = d .tags }) (a .tables)
+    showing (record { word = arrivalWord (d .arrival); mask = mask; setpoints = d .setpoints; tags = d .tags; badges = d .badges })
+    (a .tables)
 
 -- the mask of a client, 0 where it has no row
 abbrev pub maskOrZero : List ℕ → ℕ → ℕ
@@ -68,7 +69,7 @@ maskOrZero clients client = cond (leb (length clients / clientWidth) client) 0 (
 unfoldable pub played : Step → List ℕ → Tables → Played
 played Unreadable setpoints t = showing (plainly (print.No 13)) t
 played (Open method servers clients) setpoints t = leftPlayed (open′ method servers clients setpoints t)
-played (BeginWrite client mask) setpoints t = leftPlayed (beginWrite client mask setpoints t)
+played (BeginWrite client mask badge) setpoints t = leftPlayed (beginWrite client mask badge setpoints t)
 played (BeginRead client mask) setpoints t = leftPlayed (beginRead client mask t)
 played (Request client target) setpoints t = leftPlayed (deliverRequest client target t)
 played (Reply client target) setpoints t = arrivedPlayed (maskOrZero (t .clients) client) (deliverReply client target t)
@@ -79,7 +80,7 @@ playedLine line t = let n = stepOf line in played (n .step) (n .setpoints) t
 
 -- "It prints line number, from 1, and answer"
 abbrev pub shownText : ℕ → Shown → List ℕ
-shownText number s = answerText number (s .word) (s .mask) (s .setpoints) (s .tags)
+shownText number s = answerText number (s .word) (s .mask) (s .setpoints) (s .tags) (s .badges)
 
 -- A line is played: what is printed into the lent space from a place on, and the tables then
 pub record LinePlayed (number : ℕ) (line : List ℕ) (t : Tables) (out : List ℕ) (at next : ℕ) (left : List ℕ) (t′ : Tables) : Type 0 where

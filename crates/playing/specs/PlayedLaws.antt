@@ -23,7 +23,8 @@ pub left-played : {p : Played} {a b : Left} → p ≡ leftPlayed a → a ≡ b �
 left-played e f = e ∙ ap leftPlayed f
 
 pub word-arrived : (w : Word) (d : Delivered) (mask : ℕ) → w ≡ arrivalWord (d .arrival) → (t : Tables) →
-    showing (record { word = w; mask = mask; setpoints = d .setpoints; tags = d .tags }) t ≡ arrivedPlayed mask (arrived d t)
+    showing (record { word = w; mask = mask; setpoints = d .setpoints; tags = d .tags; badges = d .badges }) t
+    ≡ arrivedPlayed mask (arrived d t)
 word-arrived w d mask e t = rw e
 
 pub arrived-played : {p : Played} {m n : ℕ} {a b : Arrived} → p ≡ arrivedPlayed m a → m ≡ n → a ≡ b → p ≡ arrivedPlayed n b

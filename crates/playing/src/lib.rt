@@ -20,12 +20,14 @@ use tables::clients::MASK;
 use tables::clients::WIDTH;
 use tables::counts::METHOD;
 
-// What is printed of a step: its word; for a READ the mask, and the setpoints of the servers with the tags that they come from.
+// What is printed of a step: its word; for a READ the mask, and the setpoints of the servers with tags and badges of the WRITEs that
+// they come from.
 pub struct Shown {
     pub word: Word,
     pub mask: u32,
     pub setpoints: [u32; 16],
     pub tags: [u32; 16],
+    pub badges: [u32; 16],
 }
 
 // The word of an opening, a begin and a delivered request.
@@ -60,6 +62,7 @@ fn noted(word: Word, mask: u32) -> Shown
         mask: mask,
         setpoints: [0; 16],
         tags: [0; 16],
+        badges: [0; 16],
     }
 }
 
@@ -83,12 +86,14 @@ pub fn arrived(delivered: Delivered, mask: u32) -> Shown
 {
     let setpoints = delivered.setpoints;
     let tags = delivered.tags;
+    let badges = delivered.badges;
     let arrival = delivered.arrival;
     Shown {
         word: arrival_word(arrival),
         mask: mask,
         setpoints: setpoints,
         tags: tags,
+        badges: badges,
     }
 }
 
@@ -169,7 +174,7 @@ fn play_opened(
             panels,
             setpoints,
         )),
-        Step::BeginWrite(client, mask) => answered(store::begin_write_sound(
+        Step::BeginWrite(client, mask, badge) => answered(store::begin_write_sound(
             counts,
             clients,
             links,
@@ -180,6 +185,7 @@ fn play_opened(
             &*reads,
             client,
             mask,
+            badge,
             setpoints,
         )),
         Step::BeginRead(client, mask) => answered(store::begin_read_sound(
@@ -254,7 +260,7 @@ fn play_unopened(
             panels,
             setpoints,
         )),
-        Step::BeginWrite(_, _) => plain(Word::No(2)),
+        Step::BeginWrite(_, _, _) => plain(Word::No(2)),
         Step::BeginRead(_, _) => plain(Word::No(2)),
         Step::Request(_, _) => plain(Word::No(2)),
         Step::Reply(client, _) => {
@@ -351,8 +357,18 @@ fn print_shown(number: u64, shown: Shown, out: &mut [u8], at: usize) -> usize
 {
     let setpoints = shown.setpoints;
     let tags = shown.tags;
+    let badges = shown.badges;
     let word = shown.word;
-    printing::print_answer(number, word, shown.mask, &setpoints, &tags, out, at)
+    printing::print_answer(
+        number,
+        word,
+        shown.mask,
+        &setpoints,
+        &tags,
+        &badges,
+        out,
+        at,
+    )
 }
 
 // One line of a schedule: its step, and its answer behind what is printed so far. It answers where the print ends then.

@@ -5,9 +5,9 @@ use Prim.Native.Nat.{ℕ, _+_, _*_}
 abbrev pub markedMost : ℕ
 markedMost = 1 + 10
 
--- ` station=setpoint@tag`: a station has two digits
+-- ` station=setpoint@tag#badge`: a station has two digits
 abbrev pub serverMost : ℕ
-serverMost = 1 + 2 + markedMost + markedMost
+serverMost = 1 + 2 + markedMost + markedMost + markedMost
 
 -- those of 16 stations
 abbrev pub shownMost : ℕ
@@ -25,6 +25,6 @@ answerMost = 20 + wordMost + 1
 abbrev pub rowMost : ℕ → ℕ
 rowMost n = 1 + markedMost * n + 1
 
--- a line of the register has five
+-- a line of the register has at most six
 abbrev pub recordMost : ℕ
-recordMost = rowMost 5
+recordMost = rowMost 6

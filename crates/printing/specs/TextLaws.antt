@@ -14,11 +14,12 @@ use Rattle.printing.specs.Printed.{Printed}
 use Rattle.printing.specs.PrintedLaws.{printed-none, printed-then}
 
 -- the text of a server, by what was asked of the mask
-module _ (mask : ℕ) (setpoints tags : List ℕ) (server : ℕ) {has : Bool} (m : has ≡ hasServer mask server) where
-  pub server-shown : has ≡ true → maskedText mask setpoints tags server ≡ serverText server (getD setpoints server 0) (getD tags server 0)
+module _ (mask : ℕ) (setpoints tags badges : List ℕ) (server : ℕ) {has : Bool} (m : has ≡ hasServer mask server) where
+  pub server-shown : has ≡ true → maskedText mask setpoints tags badges server
+      ≡ serverText server (getD setpoints server 0) (getD tags server 0) (getD badges server 0)
   server-shown e = rw (← m, e)
 
-  pub server-passed : has ≡ false → maskedText mask setpoints tags server ≡ []
+  pub server-passed : has ≡ false → maskedText mask setpoints tags badges server ≡ []
   server-passed e = rw (← m, e)
 
 -- the text of an end
@@ -47,9 +48,10 @@ module _ (n : ℕ) (b : n < 18446744073709551616) (h : 10 ≤ n) where
   printed-last out at k p q = rw (decimal-more n b h) (printed-then out (decimal (n / 10)) ((48 + n % 10) ∷ []) at k p q)
 
 -- one server more
-pub shown-more : (mask : ℕ) (setpoints tags : List ℕ) (n : ℕ) →
-    serversBelow mask setpoints tags (n + 1) ≡ serversBelow mask setpoints tags n ++ maskedText mask setpoints tags n
-shown-more mask setpoints tags n = sym (turns-more (λ server text. text ++ maskedText mask setpoints tags server) n [] refl refl)
+pub shown-more : (mask : ℕ) (setpoints tags badges : List ℕ) (n : ℕ) →
+    serversBelow mask setpoints tags badges (n + 1) ≡ serversBelow mask setpoints tags badges n ++ maskedText mask setpoints tags badges n
+shown-more mask setpoints tags badges n =
+    sym (turns-more (λ server text. text ++ maskedText mask setpoints tags badges server) n [] refl refl)
 
 -- printing a row of numbers, one by one
 module _ (out : List ℕ) (at : ℕ) (h : at ≤ length out) where
@@ -62,13 +64,14 @@ module _ (out : List ℕ) (at : ℕ) (h : at ≤ length out) where
   printed-number numbers i k p q = rw (spaced-more numbers i k) (printed-then out (spacedAll (take i numbers)) (spaced (getD numbers i 0)) at h p q)
 
   -- printing what is shown of a mask, server by server
-  module _ (mask : ℕ) (setpoints tags : List ℕ) where
-    pub printed-no-server : Printed out at (serversBelow mask setpoints tags 0) at out
-    printed-no-server = rw (← turns-none (λ server text. text ++ maskedText mask setpoints tags server) []) (printed-none out at h)
+  module _ (mask : ℕ) (setpoints tags badges : List ℕ) where
+    pub printed-no-server : Printed out at (serversBelow mask setpoints tags badges 0) at out
+    printed-no-server = rw (← turns-none (λ server text. text ++ maskedText mask setpoints tags badges server) []) (printed-none out at h)
 
     pub printed-server : (n : ℕ) {left last : List ℕ} {next end : ℕ}
-        → Printed out at (serversBelow mask setpoints tags n) next left → Printed left next (maskedText mask setpoints tags n) end last
-        → Printed out at (serversBelow mask setpoints tags (n + 1)) end last
+        → Printed out at (serversBelow mask setpoints tags badges n) next left
+        → Printed left next (maskedText mask setpoints tags badges n) end last
+        → Printed out at (serversBelow mask setpoints tags badges (n + 1)) end last
     printed-server n p q =
-        rw (shown-more mask setpoints tags n)
-        (printed-then out (serversBelow mask setpoints tags n) (maskedText mask setpoints tags n) at h p q)
+        rw (shown-more mask setpoints tags badges n)
+        (printed-then out (serversBelow mask setpoints tags badges n) (maskedText mask setpoints tags badges n) at h p q)

@@ -11,10 +11,11 @@ ghost use Rattle.printing.specs.Sizes.{rowMost, recordMost};
 ghost use Rattle.printing.specs.StepTexts.{stepLine, refusalText, stepMost, refusalMost};
 use schedule::Step;
 
-// The longest answer in bytes, made as `Sizes` makes it: the line's number, ` read`, the tag, each station with its setpoint and tag, and byte 10.
+// The longest answer in bytes, made as `Sizes` makes it: the line's number, ` read`, the tag, each station with its setpoint, tag and
+// badge, and byte 10.
 const MARKED: usize = 1 + 10;
 
-const SERVER: usize = 1 + 2 + MARKED + MARKED;
+const SERVER: usize = 1 + 2 + MARKED + MARKED + MARKED;
 
 pub const ANSWER: usize = 20 + (5 + MARKED + 16 * SERVER) + 1;
 
@@ -84,47 +85,73 @@ fn print_numbers(numbers: &[u32], out: &mut [u8], at: usize) -> usize
     next
 }
 
-// A server with its setpoint and the tag that it comes from.
-fn print_server(server: u32, setpoint: u32, tag: u32, out: &mut [u8], at: usize) -> usize
+// A server with its setpoint, and with tag and badge of the WRITE that it comes from.
+fn print_server(
+    server: u32,
+    setpoint: u32,
+    tag: u32,
+    badge: u32,
+    out: &mut [u8],
+    at: usize,
+) -> usize
     requires { ⌜ (server < 16) × (at + serverMost ≤ length (now out)) ⌝ }
-    ensures { λ r. ⌜ Printed (now (out .entry)) at (serverText server setpoint tag) r (now (out .exit)) × (r ≤ at + serverMost) ⌝ }
+    ensures { λ r. ⌜ Printed (now (out .entry)) at (serverText server setpoint tag badge) r (now (out .exit))
+        × (r ≤ at + serverMost) ⌝ }
 {
     let behind = print_spaced(server, out, at);
     let next = print_marked(b'=', setpoint, out, behind);
-    print_marked(b'@', tag, out, next)
+    let last = print_marked(b'@', tag, out, next);
+    print_marked(b'#', badge, out, last)
 }
 
-// A server with its setpoint and tag, where the mask has it.
+// A server with its setpoint, tag and badge, where the mask has it.
 fn print_masked(
     mask: u32,
     setpoints: &[u32],
     tags: &[u32],
+    badges: &[u32],
     server: usize,
     out: &mut [u8],
     at: usize,
 ) -> usize
-    requires { ⌜ (server < 16) × ((server < length (now setpoints)) × (server < length (now tags))) ⌝ }
+    requires { ⌜ (server < 16) × ((server < length (now setpoints)) × ((server < length (now tags)) × (server < length (now badges)))) ⌝ }
     requires { ⌜ at + serverMost ≤ length (now out) ⌝ }
-    ensures { λ r. ⌜ Printed (now (out .entry)) at (maskedText mask (now (setpoints .entry)) (now (tags .entry)) server) r (now (out .exit))
+    ensures { λ r. ⌜ Printed (now (out .entry)) at
+        (maskedText mask (now (setpoints .entry)) (now (tags .entry)) (now (badges .entry)) server) r (now (out .exit))
         × (r ≤ at + serverMost) ⌝ }
 {
     if keys::has_server(mask, server) {
-        return print_server(server as u32, setpoints[server], tags[server], out, at);
+        return print_server(
+            server as u32,
+            setpoints[server],
+            tags[server],
+            badges[server],
+            out,
+            at,
+        );
     }
     at
 }
 
-// The servers of a mask, rising, each with its setpoint and tag.
-fn print_servers(mask: u32, setpoints: &[u32], tags: &[u32], out: &mut [u8], at: usize) -> usize
-    requires { ⌜ (16 ≤ length (now setpoints)) × (16 ≤ length (now tags)) ⌝ }
+// The servers of a mask, rising, each with its setpoint, tag and badge.
+fn print_servers(
+    mask: u32,
+    setpoints: &[u32],
+    tags: &[u32],
+    badges: &[u32],
+    out: &mut [u8],
+    at: usize,
+) -> usize
+    requires { ⌜ (16 ≤ length (now setpoints)) × ((16 ≤ length (now tags)) × (16 ≤ length (now badges))) ⌝ }
     requires { ⌜ at + shownMost ≤ length (now out) ⌝ }
-    ensures { λ r. ⌜ Printed (now (out .entry)) at (serversBelow mask (now (setpoints .entry)) (now (tags .entry)) 16) r (now (out .exit))
+    ensures { λ r. ⌜ Printed (now (out .entry)) at
+        (serversBelow mask (now (setpoints .entry)) (now (tags .entry)) (now (badges .entry)) 16) r (now (out .exit))
         × (r ≤ at + shownMost) ⌝ }
 {
     let mut next = at;
     let mut server = 0;
     while server < 16 {
-        next = print_masked(mask, setpoints, tags, server, out, next);
+        next = print_masked(mask, setpoints, tags, badges, server, out, next);
         server += 1;
     }
     next
@@ -145,16 +172,18 @@ fn print_read(
     mask: u32,
     setpoints: &[u32],
     tags: &[u32],
+    badges: &[u32],
     out: &mut [u8],
     at: usize,
 ) -> usize
-    requires { ⌜ (16 ≤ length (now setpoints)) × (16 ≤ length (now tags)) ⌝ }
+    requires { ⌜ (16 ≤ length (now setpoints)) × ((16 ≤ length (now tags)) × (16 ≤ length (now badges))) ⌝ }
     requires { ⌜ at + wordMost ≤ length (now out) ⌝ }
-    ensures { λ r. ⌜ Printed (now (out .entry)) at (wordText (Word.Read tag) mask (now (setpoints .entry)) (now (tags .entry))) r (now (out .exit))
+    ensures { λ r. ⌜ Printed (now (out .entry)) at
+        (wordText (Word.Read tag) mask (now (setpoints .entry)) (now (tags .entry)) (now (badges .entry))) r (now (out .exit))
         × (r ≤ at + wordMost) ⌝ }
 {
     let next = print_tagged(b" read", tag, out, at);
-    print_servers(mask, setpoints, tags, out, next)
+    print_servers(mask, setpoints, tags, badges, out, next)
 }
 
 // What a step answers, in the words that are printed.
@@ -164,7 +193,7 @@ pub enum Word {
     Next,
     // with the tag
     Write(u32),
-    // with the tag; setpoints and tags stand beside it
+    // with the tag; setpoints, tags and badges stand beside it
     Read(u32),
     // refused, with the number
     No(u32),
@@ -176,12 +205,14 @@ fn print_word(
     mask: u32,
     setpoints: &[u32],
     tags: &[u32],
+    badges: &[u32],
     out: &mut [u8],
     at: usize,
 ) -> usize
-    requires { ⌜ (16 ≤ length (now setpoints)) × (16 ≤ length (now tags)) ⌝ }
+    requires { ⌜ (16 ≤ length (now setpoints)) × ((16 ≤ length (now tags)) × (16 ≤ length (now badges))) ⌝ }
     requires { ⌜ at + wordMost ≤ length (now out) ⌝ }
-    ensures { λ r. ⌜ Printed (now (out .entry)) at (wordText word mask (now (setpoints .entry)) (now (tags .entry))) r (now (out .exit))
+    ensures { λ r. ⌜ Printed (now (out .entry)) at
+        (wordText word mask (now (setpoints .entry)) (now (tags .entry)) (now (badges .entry))) r (now (out .exit))
         × (r ≤ at + wordMost) ⌝ }
 {
     match word {
@@ -189,28 +220,30 @@ fn print_word(
         Word::Wait => print_bytes(b" wait", out, at),
         Word::Next => print_bytes(b" next", out, at),
         Word::Write(tag) => print_tagged(b" write", tag, out, at),
-        Word::Read(tag) => print_read(tag, mask, setpoints, tags, out, at),
+        Word::Read(tag) => print_read(tag, mask, setpoints, tags, badges, out, at),
         Word::No(number) => print_tagged(b" no", number, out, at),
     }
 }
 
-// The line that answers the line of a number. Mask, setpoints and tags count for a READ alone.
+// The line that answers the line of a number. Mask, setpoints, tags and badges count for a READ alone.
 pub fn print_answer(
     number: u64,
     word: Word,
     mask: u32,
     setpoints: &[u32],
     tags: &[u32],
+    badges: &[u32],
     out: &mut [u8],
     at: usize,
 ) -> usize
-    requires { ⌜ (16 ≤ length (now setpoints)) × (16 ≤ length (now tags)) ⌝ }
+    requires { ⌜ (16 ≤ length (now setpoints)) × ((16 ≤ length (now tags)) × (16 ≤ length (now badges))) ⌝ }
     requires { ⌜ at + answerMost ≤ length (now out) ⌝ }
-    ensures { λ r. ⌜ Printed (now (out .entry)) at (answerText number word mask (now (setpoints .entry)) (now (tags .entry))) r (now (out .exit))
+    ensures { λ r. ⌜ Printed (now (out .entry)) at
+        (answerText number word mask (now (setpoints .entry)) (now (tags .entry)) (now (badges .entry))) r (now (out .exit))
         × (r ≤ at + answerMost) ⌝ }
 {
     let behind = print_decimal(number, out, at);
-    let next = print_word(word, mask, setpoints, tags, out, behind);
+    let next = print_word(word, mask, setpoints, tags, badges, out, behind);
     put_byte(b'\n', out, next)
 }
 
@@ -251,16 +284,19 @@ pub fn print_write_record(
     count: u32,
     begin: u32,
     end: u32,
+    badge: u32,
     out: &mut [u8],
     at: usize,
 ) -> usize
     requires { ⌜ at + recordMost ≤ length (now out) ⌝ }
-    ensures { λ r. ⌜ Printed (now (out .entry)) at (writeText tag client count begin end) r (now (out .exit)) × (r ≤ at + recordMost) ⌝ }
+    ensures { λ r. ⌜ Printed (now (out .entry)) at (writeText tag client count begin end badge) r (now (out .exit))
+        × (r ≤ at + recordMost) ⌝ }
 {
     let numbers = [tag, client, count, begin];
     let behind = print_lettered(b'W', &numbers, out, at);
     let next = print_end_step(end, out, behind);
-    put_byte(b'\n', out, next)
+    let last = print_spaced(badge, out, next);
+    put_byte(b'\n', out, last)
 }
 
 // The register's line of a READ.
@@ -312,8 +348,8 @@ pub fn print_step(step: Step, setpoints: &[u32], out: &mut [u8], at: usize) -> u
             let numbers = [method, servers, clients];
             print_longer_row(b'O', &numbers, setpoints, out, at)
         }
-        Step::BeginWrite(client, mask) => {
-            let numbers = [client, mask];
+        Step::BeginWrite(client, mask, badge) => {
+            let numbers = [client, mask, badge as u32];
             print_longer_row(b'W', &numbers, setpoints, out, at)
         }
         Step::BeginRead(client, mask) => print_pair(b'R', client, mask, out, at),

@@ -4,3 +4,4 @@ pub mod Order
 pub mod Steps
 pub mod Either
 pub mod Cases
+pub mod Examples

@@ -1,5 +1,5 @@
 -- The five public steps, for every input: refused by number with all as before, or accepted and changed as `rules` says.
-use Prim.Native.Nat.{ℕ, zero, suc}
+use Prim.Native.Nat.{ℕ, zero, suc, _%_}
 use mathlib.Core.List.{List}
 use Rattle.tables.specs.Tables.{Tables}
 use Rattle.rules.specs.declared.Answer.the-variants.{Ok}
@@ -23,8 +23,12 @@ unlessArrived (suc n) x t = said (arrival.Refused (suc n)) t
 unfoldable pub open′ : ℕ → ℕ → ℕ → List ℕ → Tables → Left
 open′ method k p setpoints t = unless (openRefusal method k p setpoints t) (left Ok (opened method k p setpoints t)) t
 
-unfoldable pub beginWrite : ℕ → ℕ → List ℕ → Tables → Left
-beginWrite q mask setpoints t = unless (writeRefusal q mask setpoints t) (left Ok (begunWrite q mask setpoints t)) t
+-- "Every WRITE carries a 16-bit badge number": of any number its last 16 bits
+abbrev pub badgeOf : ℕ → ℕ
+badgeOf badge = badge % 65536
+
+unfoldable pub beginWrite : ℕ → ℕ → ℕ → List ℕ → Tables → Left
+beginWrite q mask badge setpoints t = unless (writeRefusal q mask setpoints t) (left Ok (begunWrite q mask (badgeOf badge) setpoints t)) t
 
 unfoldable pub beginRead : ℕ → ℕ → Tables → Left
 beginRead q mask t = unless (readRefusal q mask t) (left Ok (begunRead q mask t)) t

@@ -62,9 +62,10 @@ module _ (t : Tables) (numbers : List ℕ) (q : ℕ) (doing : Doing) where
   -- a WRITE without a tag
   pub record Untagged : Type 0 where
     pub mask : ℕ
+    pub badge : ℕ
     pub setpoints : List ℕ
     pub begin : ℕ
-    pub is : doing ≡ writing mask setpoints begin
+    pub is : doing ≡ writing mask badge setpoints begin
     pub tag : recordWord (t .writes) (recordOf t q) tagOfRecord ≡ 0
     pub start : recordWord (t .writes) (recordOf t q) beginOfRecord ≡ numberAt numbers begin
     pub known : begin < length numbers

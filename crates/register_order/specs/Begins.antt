@@ -3,6 +3,7 @@ use Prim.Native.Nat.{ℕ, suc, _+_, _≤_, _<_}
 use mathlib.Core.Path.{_≡_, refl, _∙_, subst}
 use mathlib.Core.Bool.{true}
 use mathlib.Core.List.{List, [], _∷_}
+use native.Mathlib.Nat.{mod-lt}
 use native.Mathlib.Omega.{arith}
 use native.Mathlib.Numerals.{add-one}
 use lib.ListN.{getD}
@@ -27,6 +28,7 @@ use Rattle.keeping.specs.BeginWrite.{begunWrite-kept}
 use Rattle.keeping.specs.BeginRead.{begunRead-kept}
 use Rattle.keeping.specs.Rows.{Put, put, putAll, lastPut, inRow, put-read}
 use Rattle.serial.specs.Steps.{begun-write, begun-read}
+use Rattle.refusals.specs.Steps.{badgeOf}
 use Rattle.serial.specs.History.{writing, reading, History, begun, after}
 use Rattle.register_order.specs.Agreement.{Agrees}
 use Rattle.register_order.specs.Machines.{Follows}
@@ -46,21 +48,22 @@ module _ (t : Tables) (h : History) (numbers : List ℕ) (a : Agrees t h numbers
       kept-other tagsField (hasServer mask) (latestTagAt (t .log) tag) q (serversOf t) room clients q f
       (omega arith) (λ e. omega (arith, e .1))
 
-  module _ (q mask : ℕ) (setpoints : List ℕ) (b : Writable q mask setpoints t) where
+  module _ (q mask badge : ℕ) (setpoints : List ℕ) (b : Writable q mask setpoints t) where
     abbrev puts : List Put
     puts = put stateField rules.writing ∷ put maskField mask ∷ put recordField (writesOf t) ∷ put countField (nextCount t q) ∷ []
 
     client : q < clientsOf t
     client = b .begin .client
 
-    written : (f : ℕ) → f < setpointsField → clientWord (begunWrite q mask setpoints t .clients) q f ≡ lastPut puts (clientWord (t .clients) q f) f
+    written : (f : ℕ) → f < setpointsField →
+        clientWord (begunWrite q mask (badgeOf badge) setpoints t .clients) q f ≡ lastPut puts (clientWord (t .clients) q f) f
     unfolding begunWrite
     written f l =
         kept-other setpointsField every (λ i. getD setpoints i 0) q (serversOf t) (omega (arith, few-servers t (a .sound)))
         (putAll puts q (t .clients)) q f (omega arith) (λ z. omega (arith, z .1))
         ∙ put-read q puts (t .clients) f _ (client-row t (a .sound) q client) refl (omega arith) refl
 
-    write-counts : Counts t (begunWrite q mask setpoints t) (entriesOf t) (writesOf t + 1) (readsOf t)
+    write-counts : Counts t (begunWrite q mask (badgeOf badge) setpoints t) (entriesOf t) (writesOf t + 1) (readsOf t)
     unfolding begunWrite
     write-counts =
         let long = a .sound .long .counts in
@@ -71,28 +74,32 @@ module _ (t : Tables) (h : History) (numbers : List ℕ) (a : Agrees t h numbers
           step = begun-step writesField (t .counts) long (omega arith) (λ z. omega arith);
         }
 
-    begun-records : begunWrite q mask setpoints t .writes ≡ putBegun (t .writes) (writesOf t) q (nextCount t q) (stepOf t + 1)
+    begun-records : begunWrite q mask (badgeOf badge) setpoints t .writes ≡ putBegun (t .writes) (writesOf t) q (nextCount t q)
+        (stepOf t + 1) (badgeOf badge)
     unfolding begunWrite
     begun-records = refl
 
-    same-reads : begunWrite q mask setpoints t .reads ≡ t .reads
+    same-reads : begunWrite q mask (badgeOf badge) setpoints t .reads ≡ t .reads
     unfolding begunWrite
     same-reads = refl
 
     write-agrees :
-        Agrees (begunWrite q mask setpoints t) (begun (h .doing q) q (writing mask setpoints (h .clock)) h) (more numbers (stepOf t + 1))
+        Agrees (begunWrite q mask (badgeOf badge) setpoints t)
+        (begun (h .doing q) q (writing mask (badgeOf badge) setpoints (h .clock)) h) (more numbers (stepOf t + 1))
     write-agrees =
         rw (a .clients q client .resting (b .begin .free))
-        (write-begins t (begunWrite q mask setpoints t) h numbers a q client (begunWrite-kept q mask setpoints t (a .sound) b)
-        (nextCount t q) begun-records same-reads write-counts (b .few)
+        (write-begins t (begunWrite q mask (badgeOf badge) setpoints t) h numbers a q client
+        (begunWrite-kept q mask (badgeOf badge) setpoints t (a .sound) b (mod-lt badge (omega arith)))
+        (nextCount t q) (badgeOf badge) begun-records same-reads write-counts (b .few)
         (written stateField (omega arith)) (written recordField (omega arith)) mask setpoints)
 
-    write-step : stepOf (begunWrite q mask setpoints t) ≡ suc (stepOf t)
+    write-step : stepOf (begunWrite q mask (badgeOf badge) setpoints t) ≡ suc (stepOf t)
     write-step = write-counts .step ∙ add-one (stepOf t)
 
-    pub write-follows : Follows t h numbers (record { event = begun-write q mask setpoints Ok; tables = begunWrite q mask setpoints t })
+    pub write-follows : Follows t h numbers
+        (record { event = begun-write q mask badge setpoints Ok; tables = begunWrite q mask (badgeOf badge) setpoints t })
     write-follows = record {
-      agrees = as-next (begunWrite q mask setpoints t) (after (begun-write q mask setpoints Ok) h) write-agrees;
+      agrees = as-next (begunWrite q mask (badgeOf badge) setpoints t) (after (begun-write q mask badge setpoints Ok) h) write-agrees;
       step = write-step;
     }
 

@@ -112,8 +112,8 @@ of-alike isWrite mask records records′ place w = rw (w tagOfRecord (omega arit
 pub read-alike : (records records′ : List ℕ) (place : ℕ) → Alike records records′ place → ofRead records′ place ≡ ofRead records place
 read-alike records records′ place w = rw (w numberOfRecord (omega arith)) (of-alike false (recordWord records place numberOfRecord) records records′ place w)
 
-pub begun-but : (records : List ℕ) (begun q number step : ℕ) → But records (putBegun records begun q number step) begun
-begun-but records begun q number step place f h d = begun-word records begun q number step place f h d
+pub begun-but : (records : List ℕ) (begun q number step badge : ℕ) → But records (putBegun records begun q number step badge) begun
+begun-but records begun q number step badge place f h d = begun-word records begun q number step badge place f h d
 
 pub tagged-but : (records : List ℕ) (place tag : ℕ) → But records (taggedRecord place tag records) place
 tagged-but records here tag place f h d = tagged-other records here tag place f h d
@@ -237,6 +237,7 @@ module _ (t t′ : Tables) (numbers : List ℕ) (n q : ℕ) (here : recordOf t�
   pub untagged-on : (d : Doing) → Alike (t .writes) (t′ .writes) (recordOf t q) → Untagged t numbers q d → Untagged t′ (more numbers n) q d
   untagged-on d w u = record {
     mask = u .mask;
+    badge = u .badge;
     setpoints = u .setpoints;
     begin = u .begin;
     is = u .is;

@@ -143,15 +143,16 @@ module _ (t t′ : Tables) (h : History) (numbers : List ℕ) (a : Agrees t h nu
         (λ d. rw (changed-other (h .doing) q (h .doing q) p d) at (clients-on all-stay (h .doing q) own p l)))
 
   -- a WRITE begins
-  module _ (number : ℕ) (begins : t′ .writes ≡ putBegun (t .writes) (writesOf t) q number step′) (same-reads : t′ .reads ≡ t .reads) (c : Counts t t′ (entriesOf t) (writesOf t + 1) (readsOf t))
+  module _ (number badge : ℕ) (begins : t′ .writes ≡ putBegun (t .writes) (writesOf t) q number step′ badge)
+      (same-reads : t′ .reads ≡ t .reads) (c : Counts t t′ (entriesOf t) (writesOf t + 1) (readsOf t))
       (few : writesOf t < recordPlaces) (state : stateOf t′ q ≡ rules.writing) (here : recordOf t′ q ≡ writesOf t) (mask : ℕ) (setpoints : List ℕ) where
-    write-word : (f : ℕ) → f < recordWidth → recordWord (t′ .writes) (writesOf t) f ≡ getD (q ∷ number ∷ 0 ∷ step′ ∷ 0 ∷ []) f 0
-    write-word f g = rw begins (begun-here (t .writes) (writesOf t) q number step′ f g (next-write t (a .sound) few))
+    write-word : (f : ℕ) → f < recordWidth → recordWord (t′ .writes) (writesOf t) f ≡ getD (q ∷ number ∷ 0 ∷ step′ ∷ 0 ∷ badge ∷ []) f 0
+    write-word f g = rw begins (begun-here (t .writes) (writesOf t) q number step′ badge f g (next-write t (a .sound) few))
 
     write-but : But (t .writes) (t′ .writes) (writesOf t)
-    write-but place f g d = rw begins (begun-but (t .writes) (writesOf t) q number step′ place f g d)
+    write-but place f g d = rw begins (begun-but (t .writes) (writesOf t) q number step′ badge place f g d)
 
-    pub write-begins : Agrees t′ (turned q (writing mask setpoints (h .clock)) h) numbers′
+    pub write-begins : Agrees t′ (turned q (writing mask badge setpoints (h .clock)) h) numbers′
     write-begins = record {
       sound = k .sound;
       clock = clock-on;
@@ -167,9 +168,10 @@ module _ (t t′ : Tables) (h : History) (numbers : List ℕ) (a : Agrees t h nu
         writes = λ p l d w f g. write-but (recordOf t p) f g (λ e. omega (arith, write-open t (a .sound) p l w .within));
         reads = λ p l d w f g. rw same-reads;
       })
-          (writing mask setpoints (h .clock))
-          (be-storing t′ numbers′ q (writing mask setpoints (h .clock)) state (record {
+          (writing mask badge setpoints (h .clock))
+          (be-storing t′ numbers′ q (writing mask badge setpoints (h .clock)) state (record {
             mask = mask;
+            badge = badge;
             setpoints = setpoints;
             begin = h .clock;
             is = refl;
@@ -180,13 +182,14 @@ module _ (t t′ : Tables) (h : History) (numbers : List ℕ) (a : Agrees t h nu
     }
 
   -- a READ begins
-  module _ (mask : ℕ) (begins : t′ .reads ≡ putBegun (t .reads) (readsOf t) q mask step′) (same-writes : t′ .writes ≡ t .writes) (c : Counts t t′ (entriesOf t) (writesOf t) (readsOf t + 1))
+  module _ (mask : ℕ) (begins : t′ .reads ≡ putBegun (t .reads) (readsOf t) q mask step′ 0) (same-writes : t′ .writes ≡ t .writes)
+      (c : Counts t t′ (entriesOf t) (writesOf t) (readsOf t + 1))
       (few : readsOf t < recordPlaces) (state : isReading (stateOf t′ q) ≡ true) (here : recordOf t′ q ≡ readsOf t) where
-    read-word : (f : ℕ) → f < recordWidth → recordWord (t′ .reads) (readsOf t) f ≡ getD (q ∷ mask ∷ 0 ∷ step′ ∷ 0 ∷ []) f 0
-    read-word f g = rw begins (begun-here (t .reads) (readsOf t) q mask step′ f g (next-read t (a .sound) few))
+    read-word : (f : ℕ) → f < recordWidth → recordWord (t′ .reads) (readsOf t) f ≡ getD (q ∷ mask ∷ 0 ∷ step′ ∷ 0 ∷ 0 ∷ []) f 0
+    read-word f g = rw begins (begun-here (t .reads) (readsOf t) q mask step′ 0 f g (next-read t (a .sound) few))
 
     read-but : But (t .reads) (t′ .reads) (readsOf t)
-    read-but place f g d = rw begins (begun-but (t .reads) (readsOf t) q mask step′ place f g d)
+    read-but place f g d = rw begins (begun-but (t .reads) (readsOf t) q mask step′ 0 place f g d)
 
     pub read-begins : Agrees t′ (turned q (reading mask (h .clock) 0) h) numbers′
     read-begins = record {
@@ -232,7 +235,7 @@ module _ (t t′ : Tables) (h : History) (numbers : List ℕ) (a : Agrees t h nu
     tag-beside f g d = rw tags (tagged-word (t .writes) own-place (entriesOf t) own-place f g d)
 
     abbrev new : Transaction
-    new = writeOf q (u .mask) (valueWritten (suc (h .tags)) (u .setpoints)) (suc (h .tags)) (u .begin) none
+    new = writeOf q (u .mask) (valueWritten (suc (h .tags)) (u .badge) (u .setpoints)) (suc (h .tags)) (u .begin) none
 
     new-tells : Tells numbers′ new (ofRecord true 0 (t′ .writes) own-place)
     new-tells = record {
@@ -255,7 +258,7 @@ module _ (t t′ : Tables) (h : History) (numbers : List ℕ) (a : Agrees t h nu
       tells = new-tells;
     }
 
-    pub write-tags : Agrees t′ (given q (u .mask) (u .setpoints) (u .begin) h) numbers′
+    pub write-tags : Agrees t′ (given q (u .mask) (u .badge) (u .setpoints) (u .begin) h) numbers′
     write-tags = record {
       sound = k .sound;
       clock = clock-on;

@@ -46,7 +46,7 @@ described t (read place) = ofRecord false (recordWord (t .reads) place numberOfR
 abbrev pub numbered : Event → List ℕ → ℕ → List ℕ
 numbered (opened method k p setpoints Ok) numbers n = []
 numbered (opened method k p setpoints (Refused m)) numbers n = numbers ++ (n ∷ [])
-numbered (begun-write q mask setpoints a) numbers n = numbers ++ (accepted (begun-write q mask setpoints a) n ∷ [])
+numbered (begun-write q mask badge setpoints a) numbers n = numbers ++ (accepted (begun-write q mask badge setpoints a) n ∷ [])
 numbered (begun-read q mask a) numbers n = numbers ++ (accepted (begun-read q mask a) n ∷ [])
 numbered (requested q i a) numbers n = numbers ++ (accepted (requested q i a) n ∷ [])
 numbered (replied q i d) numbers n = numbers ++ (accepted (replied q i d) n ∷ [])

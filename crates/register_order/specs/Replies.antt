@@ -8,7 +8,9 @@ use native.Mathlib.Numerals.{add-one}
 use Rattle.ranges.specs.Tests.{either}
 use Rattle.keys.specs.Keys.{keyOf}
 use Rattle.tables.specs.Rows.{HasRow, word-same, word-other, word-length}
-use Rattle.tables.specs.Layout.{clientWidth, clientWord, putClientWord, stateField, tagField, recordField, setpointsField, receivedField, entriesField, writesField, readsField}
+use Rattle.tables.specs.Layout.{clientWidth, clientWord, putClientWord, stateField, tagField, recordField, setpointsField, receivedField}
+use Rattle.tables.specs.Layout.{badgesField}
+use Rattle.tables.specs.Layout.{entriesField, writesField, readsField}
 use Rattle.tables.specs.Links.{putLink, contentsOf}
 use Rattle.tables.specs.Tables.{Tables, serversOf, clientsOf, stepOf, entriesOf, writesOf, readsOf, stateOf, countOf, maskOf, tagOf, recordOf, contentAt}
 use Rattle.tables.specs.declared.links.Contents.{Contents}
@@ -19,14 +21,14 @@ use Rattle.rules.specs.Answers.{Arrived, nothingShown}
 use Rattle.rules.specs.Common.{idle, entering, askingKeys, askingSetpoints, askingAll, coordinator, request, pending}
 use Rattle.rules.specs.Common as rules
 use Rattle.rules.specs.Begin.{sentGets, keptTags}
-use Rattle.rules.specs.Reply.{said, moved, emptied, readShown, endedRead, shownTags, onSetDone, onEntered, onKeys, gotSetpoint, onGot}
+use Rattle.rules.specs.Reply.{said, moved, emptied, readShown, endedRead, shownTags, onSetDone, onEntered, onKeys, gotValue, onGot}
 use Rattle.rules.specs.Reply.{gotNumber, tagChosen, concluded, chosenTags, endedByC, onAll, onReplyIn, onReply, replyDelivered}
 use Rattle.soundness.specs.Sound.{isReading, keyOn}
-use Rattle.soundness.specs.Room.{client-row, link-row}
+use Rattle.soundness.specs.Room.{client-row, link-row, server-fits}
 use Rattle.keeping.specs.Accepted.{Deliverable, target-below}
 use Rattle.keeping.specs.Frame.{Kept}
-use Rattle.keeping.specs.Links.{kindOn, numberOn, reply-kind, reply-words, put-same}
-use Rattle.keeping.specs.States.{by-state, entering-target, entered-tag}
+use Rattle.keeping.specs.Links.{kindOn, numberOn, contentsOn, reply-kind, reply-words, put-same}
+use Rattle.keeping.specs.States.{by-state, entering-target, entered-tag, masked-server, uses-setpoints}
 use Rattle.keeping.specs.Moves.{counted-other, counted-step}
 use Rattle.keeping.specs.Came.{Came, asks, used, rest-long}
 use Rattle.keeping.specs.Replies.{replyDelivered-kept}
@@ -157,7 +159,7 @@ module _ (t : Tables) (h : History) (numbers : List ℕ) (a : Agrees t h numbers
       done-answers = either Keeps (pending rest q) {x = said Wait waits} {y = said Next enters} write-waits write-enters
 
     abbrev w : Contents
-    w = contentsOf (keyOn t q i) (numberOn t q i)
+    w = contentsOn t q i
 
     -- the tag arrived
     entered-answers : stateOf t q ≡ entering → Kept q t (onEntered w q i t .tables) → AnswersReply (onEntered w q i t)
@@ -194,15 +196,23 @@ module _ (t : Tables) (h : History) (numbers : List ℕ) (a : Agrees t h numbers
     below : (f v g : ℕ) → f < clientWidth → g < f → clientWord (putClientWord (t .clients) q f v) q g ≡ clientWord (t .clients) q g
     below f v g l m = word-other clientWidth (t .clients) q f v q g l (omega arith) (λ e. omega (arith, e .1))
 
+    -- a setpoint and its badge stand behind them
+    before : stateOf t q ≡ askingSetpoints → (g : ℕ) → g < setpointsField → clientWord (gotValue w q i t) q g ≡ clientWord (t .clients) q g
+    before state g m =
+        let server =
+        server-fits t (came .sound) i (masked-server t (came .sound) q i (came .client) (rw (state, uses-setpoints) at (used came))) in
+        word-other clientWidth (putClientWord (t .clients) q (setpointsField + i) (w .number)) q (badgesField + i) (w .badge) q g
+        (omega (arith, server)) (omega arith) (λ e. omega (arith, e .1))
+        ∙ below (setpointsField + i) (w .number) g (omega (arith, server)) (omega arith)
+
     got-answers : stateOf t q ≡ askingSetpoints → Kept q t (onGot w q i t .tables) → AnswersReply (onGot w q i t)
     unfolding onGot
     got-answers state =
-        let l : setpointsField + i < clientWidth = omega (arith, came .target) in
-        let tags = shownTags (gotSetpoint w q i t) q (maskOf t q) in
-        either Keeps (pending rest q) {x = said Wait (moved (gotSetpoint w q i t) rest t)}
-        {y = endedRead q (tagOf t q) tags (gotSetpoint w q i t) rest t}
-        (λ k. read-waits (gotSetpoint w q i t) rest (rw state) (rw (below (setpointsField + i) (w .number) stateField l (omega arith), state)) (below (setpointsField + i) (w .number) recordField l (omega arith)) k)
-        (λ k. read-over (tagOf t q) tags (gotSetpoint w q i t) rest (rw state) k)
+        let tags = shownTags (gotValue w q i t) q (maskOf t q) in
+        either Keeps (pending rest q) {x = said Wait (moved (gotValue w q i t) rest t)}
+        {y = endedRead q (tagOf t q) tags (gotValue w q i t) rest t}
+        (λ k. read-waits (gotValue w q i t) rest (rw state) (rw (before state stateField (omega arith), state)) (before state recordField (omega arith)) k)
+        (λ k. read-over (tagOf t q) tags (gotValue w q i t) rest (rw state) k)
 
     all-answers : stateOf t q ≡ askingAll → Kept q t (onAll w q i t .tables) → AnswersReply (onAll w q i t)
     unfolding onAll

@@ -10,7 +10,7 @@ use lib.Seq.{getD-set-same, getD-set-other}
 use lib.Dec.{ltb}
 use borrow.Author.Tests.{eq-eqb, ne-eqb}
 use Rattle.ranges.specs.Tests.{by-test, either}
-use Rattle.tables.specs.Layout.{countAt, countWords, stepField, entriesField, writesField, readsField, heldField, logPlaces, putEntry, versionWord}
+use Rattle.tables.specs.Layout.{countAt, countWords, stepField, entriesField, writesField, readsField, heldField, logPlaces, putEntry}
 use Rattle.tables.specs.Links.{targets, linkWidth}
 use Rattle.tables.specs.Tables.{Tables, clientsOf, stepOf, entriesOf, writesOf, readsOf, heldOf, stateOf, maskOf, recordOf, contentAt}
 use Rattle.tables.specs.declared.links.Contents.{Contents}
@@ -23,7 +23,8 @@ use Rattle.rules.specs.declared.Answer.the-variants.{Ok}
 use Rattle.rules.specs.Answers.{Left}
 use Rattle.rules.specs.Common.{entering, askingKeys, askingSetpoints, askingAll, coordinator, reply}
 use Rattle.rules.specs.Common as rules
-use Rattle.rules.specs.Request.{answered, refused, storedBy, enteredBy, onSet, onEnter, onWhichKeys, onGet, onGetAll, onRequestIn, onRequest, requestDelivered}
+use Rattle.rules.specs.Request.{answered, answeredBy, gotFrom, holding, refused, storedBy, enteredBy, onSet, onEnter, onWhichKeys, onGet}
+use Rattle.rules.specs.Request.{onGetAll, onRequestIn, onRequest, requestDelivered}
 use Rattle.soundness.specs.Sound.{uses, isReading}
 use Rattle.soundness.specs.Facts.{ClientFacts}
 use Rattle.soundness.specs.Room.{server-fits, link-row}
@@ -69,10 +70,12 @@ module _ (t : Tables) (h : History) (numbers : List ℕ) (a : Agrees t h numbers
     Keeps x = Kept q t (x .tables) → AnswersRequest x
 
     -- The reply takes the request's place in tables u, which differ from t in versions alone.
-    module _ (number : ℕ) (u : Tables) (rows : u .clients ≡ t .clients) (same-writes : u .writes ≡ t .writes) (same-reads : u .reads ≡ t .reads)
-        (same : (f : ℕ) → f < heldField → countAt (u .counts) f ≡ countAt (t .counts) f) (k : Kept q t (answered q i number u .tables)) where
+    module _ (answer : Content) (u : Tables) (rows : u .clients ≡ t .clients) (same-writes : u .writes ≡ t .writes)
+        (same-reads : u .reads ≡ t .reads)
+        (same : (f : ℕ) → f < heldField →
+        countAt (u .counts) f ≡ countAt (t .counts) f) (k : Kept q t (answeredBy answer q i u .tables)) where
       abbrev left′ : Tables
-      left′ = answered q i number u .tables
+      left′ = answeredBy answer q i u .tables
 
       long : countWords ≤ length (u .counts)
       long = omega (arith, counted-length (u .counts), k .grows .lengths .counts, a .sound .long .counts)
@@ -91,11 +94,11 @@ module _ (t : Tables) (h : History) (numbers : List ℕ) (a : Agrees t h numbers
       place′ : recordOf left′ q ≡ recordOf t q
       place′ = rw rows
 
-      answers : Agrees left′ (after (requested q i Ok) h) (more numbers (stepOf t + 1)) → AnswersRequest (answered q i number u)
+      answers : Agrees left′ (after (requested q i Ok) h) (more numbers (stepOf t + 1)) → AnswersRequest (answeredBy answer q i u)
       answers b = record { agrees = as-next t h numbers a left′ (after (requested q i Ok) h) b; step = counts .step ∙ add-one (stepOf t) }
 
       -- a station answers a WRITE
-      stored : stateOf t q ≡ rules.writing → AnswersRequest (answered q i number u)
+      stored : stateOf t q ≡ rules.writing → AnswersRequest (answeredBy answer q i u)
       stored e =
           let x = activity .storing e in
           let server = masked-server t (a .sound) q i client (rw (e, uses-writing) at used) in
@@ -104,7 +107,7 @@ module _ (t : Tables) (h : History) (numbers : List ℕ) (a : Agrees t h numbers
           answers (rw (apart, x .is) b)
 
       -- a READ has one delivery more, whichever target the test tells from the others
-      read-on : isReading (stateOf t q) ≡ true → AnswersRequest (answered q i number u)
+      read-on : isReading (stateOf t q) ≡ true → AnswersRequest (answeredBy answer q i u)
       read-on e =
           let x = activity .reading e in
           let next = reading (x .mask) (x .begin) (suc (x .deliveries)) in
@@ -115,26 +118,26 @@ module _ (t : Tables) (h : History) (numbers : List ℕ) (a : Agrees t h numbers
       set-answers : stateOf t q ≡ rules.writing → Kept q t (onSet w q i t .tables) → AnswersRequest (onSet w q i t)
       unfolding onSet
       set-answers e =
-          let x = appended (t .counts) (t .keys) (t .values) i (w .key) (w .number) in
+          let x = appended (t .counts) (t .keys) (t .values) i (w .key) (w .badge) (w .number) in
           either Keeps (x .done) {x = answered q i 0 (storedBy x t)} {y = refused 8 t}
-          (λ k. stored 0 (storedBy x t) refl refl refl (λ f l. append-count (t .counts) (t .keys) (t .values) i (w .key) (w .number) f (λ z. omega arith)) k e)
+          (λ k. stored (reply 0) (storedBy x t) refl refl refl (λ f l. append-count (t .counts) (t .keys) (t .values) i (w .key) (w .badge) (w .number) f (λ z. omega arith)) k e)
           (λ k. request-refused 8)
 
       keys-answers : stateOf t q ≡ askingKeys → Kept q t (onWhichKeys q i t .tables) → AnswersRequest (onWhichKeys q i t)
       unfolding onWhichKeys
-      keys-answers e k = read-on (entriesOf t) t refl refl refl (λ f l. refl) k (rw e)
+      keys-answers e k = read-on (reply (entriesOf t)) t refl refl refl (λ f l. refl) k (rw e)
 
       get-answers : stateOf t q ≡ askingSetpoints → Kept q t (onGet w q i t .tables) → AnswersRequest (onGet w q i t)
       unfolding onGet
       get-answers e =
           let place = firstBearing (t .keys) i (w .key) (heldOf t i) in
-          either Keeps (ltb place (heldOf t i)) {x = answered q i (versionWord (t .values) i place) t} {y = refused 8 t}
-          (λ k. read-on (versionWord (t .values) i place) t refl refl refl (λ f l. refl) k (rw e))
+          either Keeps (ltb place (heldOf t i)) {x = answeredBy (gotFrom (t .values) i place) q i t} {y = refused 8 t}
+          (λ k. read-on (gotFrom (t .values) i place) t refl refl refl (λ f l. refl) k (rw e))
           (λ k. request-refused 8)
 
       all-answers : stateOf t q ≡ askingAll → Kept q t (onGetAll q i t .tables) → AnswersRequest (onGetAll q i t)
       unfolding onGetAll
-      all-answers e k = read-on _ t refl refl refl (λ f l. refl) k (rw e)
+      all-answers e k = read-on (reply (holding t i)) t refl refl refl (λ f l. refl) k (rw e)
 
       -- the coordinator appends the WRITE, and its place is the tag
       abbrev longer : List ℕ
@@ -154,9 +157,10 @@ module _ (t : Tables) (h : History) (numbers : List ℕ) (a : Agrees t h numbers
             step = counted-step longer (omega (arith, counted-length longer, k .grows .lengths .counts)) ∙ ap (λ (n : ℕ). n + 1) (same stepField (λ z. omega arith));
           }
 
-      log-word : i ≡ coordinator → (f : ℕ) → f < linkWidth → linkWord (logged .tables .links) q coordinator f ≡ getD (2 ∷ 0 ∷ entriesOf t ∷ []) f 0
+      log-word : i ≡ coordinator → (f : ℕ) → f < linkWidth →
+          linkWord (logged .tables .links) q coordinator f ≡ getD (2 ∷ 0 ∷ entriesOf t ∷ 0 ∷ []) f 0
       log-word at f l =
-          subst (λ (j : ℕ). linkWord (logged .tables .links) q j f ≡ getD (2 ∷ 0 ∷ entriesOf t ∷ []) f 0) at
+          subst (λ (j : ℕ). linkWord (logged .tables .links) q j f ≡ getD (2 ∷ 0 ∷ entriesOf t ∷ 0 ∷ []) f 0) at
           (put-same (t .links) q i (reply (entriesOf t)) f (link-row t (a .sound) q client i target) l)
 
       log-answers : stateOf t q ≡ entering → Kept q t (logged .tables) → AnswersRequest logged

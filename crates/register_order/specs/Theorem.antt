@@ -13,7 +13,7 @@ use Rattle.rules.specs.Reply.{replyDelivered}
 use Rattle.rules.specs.declared.Answer.{Answer}
 use Rattle.rules.specs.declared.Answer.the-variants.{Ok}
 use Rattle.refusals.specs.Refusals.{openRefusal, writeRefusal, readRefusal, deliveryRefusal}
-use Rattle.refusals.specs.Steps.{open′, beginWrite, beginRead, deliverRequest, deliverReply}
+use Rattle.refusals.specs.Steps.{badgeOf, open′, beginWrite, beginRead, deliverRequest, deliverReply}
 use Rattle.refusals.specs.Either.{by-refusal, by-refusal-arrived}
 use Rattle.keeping.specs.Accepted.{Openable, openable, writable, readable, deliverable}
 use Rattle.keeping.specs.Opening.{Opened, opened-words, opened-sound}
@@ -70,10 +70,11 @@ module _ (t : Tables) (h : History) (numbers : List ℕ) (a : Agrees t h numbers
       (λ m e. record { agrees = passed-agrees t h numbers a; step = refl })
       (λ e. let o = opened-starts method k p setpoints t (openable method k p setpoints t e) in
       record { agrees = o .agrees; step = o .step })
-  step-follows (beginning-write q mask setpoints) =
-      by-refusal (Leaving (begun-write q mask setpoints)) (writeRefusal q mask setpoints t) (left Ok (begunWrite q mask setpoints t)) t
+  step-follows (beginning-write q mask badge setpoints) =
+      by-refusal (Leaving (begun-write q mask badge setpoints)) (writeRefusal q mask setpoints t)
+      (left Ok (begunWrite q mask (badgeOf badge) setpoints t)) t
       (λ m e. record { agrees = passed-agrees t h numbers a; step = refl })
-      (λ e. write-follows t h numbers a q mask setpoints (writable q mask setpoints t e))
+      (λ e. write-follows t h numbers a q mask badge setpoints (writable q mask setpoints t e))
   step-follows (beginning-read q mask) =
       by-refusal (Leaving (begun-read q mask)) (readRefusal q mask t) (left Ok (begunRead q mask t)) t
       (λ m e. record { agrees = passed-agrees t h numbers a; step = refl })

@@ -79,7 +79,7 @@ atRead (Refused n) f t = t
 
 abbrev recording : (Tables → Tables) → Machine Step
 recording f (opening method k p setpoints) t = play (opening method k p setpoints) t
-recording f (beginning-write q mask setpoints) t = play (beginning-write q mask setpoints) t
+recording f (beginning-write q mask badge setpoints) t = play (beginning-write q mask badge setpoints) t
 recording f (beginning-read q mask) t = play (beginning-read q mask) t
 recording f (request q i) t = play (request q i) t
 recording f (reply q i) t =

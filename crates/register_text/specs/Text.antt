@@ -1,4 +1,5 @@
--- "then, at the end of the text, the register: `W tag panel count begin end` (`-` unfinished), `R tag panel begin end overlap`"
+-- "then, at the end of the text, the register: `W tag panel count begin end` (`-` unfinished), `R tag panel begin end overlap`";
+-- document 02: "The register's W line ends with it", the badge
 use Prim.Native.Nat.{ℕ, zero, suc, _*_}
 use mathlib.Core.Bool.{cond}
 use mathlib.Core.List.{List, [], _++_, flatMap}
@@ -19,7 +20,8 @@ rowText row =
     let begin = getD row 4 0 in
     let end = getD row 5 0 in
     let overlap = getD row 6 0 in
-    cond (eqb kind 0) (writeText tag client count begin end) (readText tag client begin end overlap)
+    let badge = getD row 7 0 in
+    cond (eqb kind 0) (writeText tag client count begin end badge) (readText tag client begin end overlap)
 
 -- the lines of the first n rows of a list
 unfoldable pub rowsText : List ℕ → ℕ → List ℕ

@@ -20,7 +20,8 @@ use Rattle.listing.specs.Changes.{register-few}
 use Rattle.register_text.specs.Text.{rowText, rowsText, registerText}
 
 module _ (row : List ℕ) where
-  pub row-write : getD row 0 0 ≡ 0 → rowText row ≡ writeText (getD row 1 0) (getD row 2 0) (getD row 3 0) (getD row 4 0) (getD row 5 0)
+  pub row-write : getD row 0 0 ≡ 0
+      → rowText row ≡ writeText (getD row 1 0) (getD row 2 0) (getD row 3 0) (getD row 4 0) (getD row 5 0) (getD row 7 0)
   row-write e = rw (eq-eqb _ _ e)
 
   pub row-read : (getD row 0 0 ≡ 0 → ⊥) → rowText row ≡ readText (getD row 1 0) (getD row 2 0) (getD row 4 0) (getD row 5 0) (getD row 6 0)

@@ -12,16 +12,25 @@ use listing::Listed;
 // How many words listing needs at most.
 const LIST: usize = listing::WIDTH * listing::ROWS;
 
-// The bytes of the longest register: of each line a letter, five numbers of ten digits, each behind a space, and byte 10.
-pub const MOST: usize = (1 + 5 * (1 + 10) + 1) * listing::ROWS;
+// The bytes of the longest register: of each line a letter, six numbers of ten digits, each behind a space, and byte 10.
+pub const MOST: usize = (1 + 6 * (1 + 10) + 1) * listing::ROWS;
 
-// The line of a row: kind, tag, client, count or mask, begin, end, overlap.
+// The line of a row: kind, tag, client, count or mask, begin, end, overlap, badge.
 fn print_row(row: &[u32], out: &mut [u8], at: usize) -> usize
     requires { ⌜ (lineWidth ≤ length (now row)) × (at + recordMost ≤ length (now out)) ⌝ }
     ensures { λ r. ⌜ Printed (now (out .entry)) at (rowText (now (row .entry))) r (now (out .exit)) × (r ≤ at + recordMost) ⌝ }
 {
     if row[0] == 0 {
-        return printing::print_write_record(row[1], row[2], row[3], row[4], row[5], out, at);
+        return printing::print_write_record(
+            row[1],
+            row[2],
+            row[3],
+            row[4],
+            row[5],
+            row[7],
+            out,
+            at,
+        );
     }
     printing::print_read_record(row[1], row[2], row[4], row[5], row[6], out, at)
 }

@@ -6,7 +6,7 @@ use mathlib.Core.List.{List}
 use native.Mathlib.Omega.{arith}
 use borrow.Author.Tests.{eq-eqb, ne-eqb}
 use Rattle.keys.specs.Keys.{keyOf}
-use Rattle.tables.specs.Layout.{putClientWord, stateField, tagField, setpointsField, tagsField}
+use Rattle.tables.specs.Layout.{putClientWord, stateField, tagField, setpointsField, tagsField, badgesField}
 use Rattle.tables.specs.Links.{putLink, linkAt}
 use Rattle.tables.specs.Tables.{Tables, tablesOf, serversOf, stateOf, countOf, maskOf, tagOf, recordOf}
 use Rattle.tables.specs.declared.links.Contents.{Contents}
@@ -20,7 +20,8 @@ use Rattle.rules.specs.WordsLaws.{shown-other}
 use Rattle.rules.specs.Answers.{Arrived, arrived, nothingShown}
 use Rattle.rules.specs.Common.{idle, writing, entering, askingKeys, askingSetpoints, coordinator, request, pending, endedRecord, taggedRecord}
 use Rattle.rules.specs.Begin.{sentGets, keptTags}
-use Rattle.rules.specs.Reply.{said, emptied, onSetDone, onEntered, onKeys, gotSetpoint, onGot, gotNumber, onAll, onReplyIn, onReply, replyDelivered}
+use Rattle.rules.specs.Reply.{said, emptied, onSetDone, onEntered, onKeys, gotValue, onGot, gotNumber, onAll}
+use Rattle.rules.specs.Reply.{onReplyIn, onReply, replyDelivered}
 use Rattle.replies.specs.Ready.{Settled, rowShown, FinishedByC}
 
 -- s is what `settle` left, b whether a link is pending then
@@ -41,8 +42,8 @@ module _ (q i : ℕ) (t : Tables) {step : ℕ} {counts links : List ℕ} (s : Se
     unfolding onSetDone
     set-enters e c l = rw (is-pending e, c, l, s .counted′, s .emptied)
 
-    -- state 4; the setpoint is put, mask, place and tag are what was read before
-    module _ (w : Contents) {clients : List ℕ} (g : clients ≡ gotSetpoint w q i t) where
+    -- state 4; setpoint and badge are put, mask, place and tag are what was read before
+    module _ (w : Contents) {clients : List ℕ} (g : clients ≡ gotValue w q i t) where
       pub got-waits : b ≡ true →
           said Wait (tablesOf counts clients links (t .keys) (t .values) (t .log) (t .writes) (t .reads)) ≡ onGot w q i t
       unfolding onGot
@@ -56,7 +57,7 @@ module _ (q i : ℕ) (t : Tables) {step : ℕ} {counts links : List ℕ} (s : Se
           ≡ onGot w q i t
       unfolding onGot
       got-ends e p′ a c r =
-          let row = gotSetpoint w q i t in
+          let row = gotValue w q i t in
           rw (
             is-pending e,
             c,
@@ -66,6 +67,7 @@ module _ (q i : ℕ) (t : Tables) {step : ℕ} {counts links : List ℕ} (s : Se
             a,
             shown-other setpointsField row q stateField idle (maskOf t q) (omega arith) (omega arith),
             shown-other tagsField row q stateField idle (maskOf t q) (omega arith) (omega arith),
+            shown-other badgesField row q stateField idle (maskOf t q) (omega arith) (omega arith),
             s .stepped,
             s .counted′,
             s .emptied,

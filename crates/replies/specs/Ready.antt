@@ -10,7 +10,7 @@ use Rattle.tables.specs.declared.links.Contents.{Contents}
 use Rattle.tables.specs.declared.links.Content.the-variants.{Nothing, Reply}
 use Rattle.rules.specs.declared.Delivered.{Delivered}
 use Rattle.rules.specs.Common.{counted, idle, writing, entering, askingKeys, askingSetpoints, pending, coordinator, endedRecord, taggedRecord}
-use Rattle.rules.specs.Choice.{qualifies, chosenTag, chosenSetpoint}
+use Rattle.rules.specs.Choice.{qualifies, chosenTag, chosenSetpoint, chosenBadge}
 use Rattle.rules.specs.Reply.{shownTags, readShown, receivedIn, putReceived, tagFrom, concludedRow, chosenTags}
 use Rattle.choice.specs.Ready.{ChoiceReady}
 use Rattle.requests.specs.Ready.{Answerable}
@@ -42,7 +42,7 @@ pub record GotReady (clients records : List ℕ) (q : ℕ) : Type 0 where
   pub row : HasRow clientWidth clients q
   pub recorded : HasRow recordWidth records (clientWord clients q recordField)
 
--- what a READ shows that ends by A or B: both rows stand in the client's
+-- what a READ shows that ends by A or B: all three rows stand in the client's
 abbrev pub rowShown : ℕ → List ℕ → ℕ → ℕ → Delivered
 rowShown tag clients q mask = readShown tag (shownTags clients q mask) clients q mask
 
@@ -66,7 +66,9 @@ pub record Concludable (clients keys log reads : List ℕ) (q mask k place : ℕ
 abbrev pub FinishedByC : List ℕ → List ℕ → List ℕ → List ℕ → List ℕ → ℕ → ℕ → ℕ → ℕ → ℕ → Delivered → List ℕ → List ℕ → Type 0
 FinishedByC clients keys values log reads q mask k place step d clients′ reads′ =
     let tag = tagFrom clients keys log q mask k in
-    let row = concludedRow (chosenSetpoint keys values log (receivedIn clients q) tag) tag q mask k clients in
+    let setpoint = chosenSetpoint keys values log (receivedIn clients q) tag in
+    let badge = chosenBadge keys values log (receivedIn clients q) tag in
+    let row = concludedRow setpoint badge tag q mask k clients in
     Finished row reads q mask place tag (chosenTags log mask k tag) step d clients′ reads′
 
 -- the tag chosen is below the entries received, and it qualifies

@@ -161,8 +161,8 @@ fn finish(clients: &mut [u32], reads: &mut [u32], client: usize, place: u32, tag
     history::end_read(reads, place as usize, tag, step);
 }
 
-// State 4: a setpoint has come; the last one ends the READ. The answer is whether the client still waits; where it does not, the READ shows
-// what the client's row has.
+// State 4: a setpoint has come, with its badge; the last one ends the READ. The answer is whether the client still waits; where it does
+// not, the READ shows what the client's row has.
 pub fn got(
     counts: &mut [u32],
     clients: &mut [u32],
@@ -192,6 +192,7 @@ pub fn got(
         clients::SETPOINTS + target,
         contents.number,
     );
+    clients::put_client_word(clients, client, clients::BADGES + target, contents.badge);
     if rules::is_pending(&*links, client) {
         return true;
     }
@@ -199,7 +200,7 @@ pub fn got(
     false
 }
 
-// A READ ends under C: the tag is chosen, the setpoints at it are kept, and the READ finishes, showing the tags that they come from.
+// A READ ends under C: the tag is chosen, setpoints and badges at it are kept, and the READ finishes, showing the tags that they come from.
 fn finish_by_c(
     clients: &mut [u32],
     keys: &[u32],
@@ -227,14 +228,28 @@ fn finish_by_c(
         servers,
         entries as usize,
     ) as u32;
-    let tags = choice::conclude(clients, keys, values, log, client, mask, servers, tag);
     let mut setpoints = [0u32; 16];
+    let mut tags = [0u32; 16];
+    let mut badges = [0u32; 16];
+    choice::conclude(
+        clients,
+        keys,
+        values,
+        log,
+        client,
+        mask,
+        servers,
+        tag,
+        &mut tags,
+    );
     words::show_words(&*clients, client, clients::SETPOINTS, mask, &mut setpoints);
+    words::show_words(&*clients, client, clients::BADGES, mask, &mut badges);
     finish(clients, reads, client, place, tag, step);
     Delivered {
         arrival: Arrival::Read(tag),
         setpoints: setpoints,
         tags: tags,
+        badges: badges,
     }
 }
 

@@ -9,7 +9,7 @@ use Rattle.server.specs.Held.{appended, appendLeft, Appended, firstBearing}
 use Rattle.server.specs.HeldLaws.{append-kept, append-count}
 use Rattle.coordinator.specs.Log.{entered, enterLeft, Entered}
 use Rattle.coordinator.specs.LogLaws.{enter-kept, enter-count}
-use Rattle.tables.specs.Layout.{countAt, stepField, versionWord}
+use Rattle.tables.specs.Layout.{countAt, stepField, versionBadge, versionSetpoint}
 use Rattle.tables.specs.Links.{putLink, linkAt}
 use Rattle.tables.specs.Tables.{Tables, tablesOf, entriesOf, heldOf, stateOf, recordOf}
 use Rattle.tables.specs.declared.links.Contents.{Contents}
@@ -19,23 +19,25 @@ use Rattle.tables.specs.declared.links.Link.{Link}
 use Rattle.rules.specs.declared.Answer.{Answer}
 use Rattle.rules.specs.declared.Answer.the-variants.{Ok, Refused}
 use Rattle.rules.specs.Answers.{Left, left}
-use Rattle.rules.specs.Common.{writing, entering, askingKeys, askingSetpoints, coordinator, reply, counted, taggedRecord}
+use Rattle.rules.specs.Common.{writing, entering, askingKeys, askingSetpoints, coordinator, reply, gotReply, counted, taggedRecord}
 use Rattle.rules.specs.Request.{refused, onSet, onEnter, onWhichKeys, onGet, onGetAll, onRequestIn, onRequest, requestDelivered}
 
--- what `answered` leaves
-pub record Answered (counts links : List ℕ) (q i number : ℕ) (answer : Answer) (counts′ links′ : List ℕ) : Type 0 where
+-- what `answeredBy` leaves
+pub record Answered (counts links : List ℕ) (q i : ℕ) (content : Content) (answer : Answer) (counts′ links′ : List ℕ) : Type 0 where
   pub fine : answer ≡ Ok
   pub counted′ : counts′ ≡ counted counts
-  pub linked : links′ ≡ putLink links q i (reply number)
+  pub linked : links′ ≡ putLink links q i content
 
 -- state 1; e is what the append told
 module _ (w : Contents) (q i : ℕ) (t : Tables) {done : Bool} {counts keys values : List ℕ}
-    (e : appendLeft done counts keys values ≡ appended (t .counts) (t .keys) (t .values) i (w .key) (w .number)) where
+    (e : appendLeft done counts keys values ≡ appended (t .counts) (t .keys) (t .values) i (w .key) (w .badge) (w .number)) where
   -- the step number is as before
   pub set-step : countAt counts stepField ≡ countAt (t .counts) stepField
-  set-step = ap (λ (a : Appended). countAt (a .counts) stepField) e ∙ append-count (t .counts) (t .keys) (t .values) i (w .key) (w .number) stepField (λ z. omega arith)
+  set-step =
+      ap (λ (a : Appended). countAt (a .counts) stepField) e
+      ∙ append-count (t .counts) (t .keys) (t .values) i (w .key) (w .badge) (w .number) stepField (λ z. omega arith)
 
-  pub set-stored : {r : Answer} {counts′ links′ : List ℕ} → done ≡ true → Answered counts (t .links) q i 0 r counts′ links′ →
+  pub set-stored : {r : Answer} {counts′ links′ : List ℕ} → done ≡ true → Answered counts (t .links) q i (reply 0) r counts′ links′ →
       left r (tablesOf counts′ (t .clients) links′ keys values (t .log) (t .writes) (t .reads)) ≡ onSet w q i t
   unfolding onSet
   set-stored d a = rw (← e, d, a .fine, a .counted′, a .linked)
@@ -43,7 +45,9 @@ module _ (w : Contents) (q i : ℕ) (t : Tables) {done : Bool} {counts keys valu
   pub set-full : done ≡ false → left (Refused 8) (tablesOf counts (t .clients) (t .links) keys values (t .log) (t .writes) (t .reads)) ≡ onSet w q i t
   unfolding onSet
   set-full d =
-      let k : appendLeft done counts keys values ≡ appendLeft false (t .counts) (t .keys) (t .values) = e ∙ append-kept (t .counts) (t .keys) (t .values) i (w .key) (w .number) (ap (λ (a : Appended). a .done) (sym e) ∙ d) in
+      let k : appendLeft done counts keys values ≡ appendLeft false (t .counts) (t .keys) (t .values) =
+      e
+      ∙ append-kept (t .counts) (t .keys) (t .values) i (w .key) (w .badge) (w .number) (ap (λ (a : Appended). a .done) (sym e) ∙ d) in
       let c : counts ≡ t .counts = ap (λ (a : Appended). a .counts) k in
       let y : keys ≡ t .keys = ap (λ (a : Appended). a .keys) k in
       let v : values ≡ t .values = ap (λ (a : Appended). a .values) k in
@@ -56,7 +60,7 @@ module _ (w : Contents) (q i : ℕ) (t : Tables) {done : Bool} {counts log : Lis
   enter-step = ap (λ (a : Entered). countAt (a .counts) stepField) e ∙ enter-count (t .counts) (t .log) (w .key) (w .number) stepField (λ z. omega arith)
 
   pub enter-entered : {n place : ℕ} {r : Answer} {counts′ links′ writes : List ℕ} → n ≡ entriesOf t → place ≡ recordOf t q → done ≡ true → writes ≡ taggedRecord place n (t .writes) →
-      Answered counts (t .links) q i n r counts′ links′ →
+      Answered counts (t .links) q i (reply n) r counts′ links′ →
       left r (tablesOf counts′ (t .clients) links′ (t .keys) (t .values) log writes (t .reads)) ≡ onEnter w q i t
   unfolding onEnter
   enter-entered c p d f a = rw (← e, d, f, a .fine, a .counted′, a .linked, c, p)
@@ -77,12 +81,15 @@ pub get-missing : (w : Contents) (q i : ℕ) (t : Tables) {h place : ℕ} → h 
 unfolding onGet
 get-missing w q i t c p l = rw (← c, ← p, le-ltb _ _ l)
 
-pub get-found : (w : Contents) (q i : ℕ) (t : Tables) {r : Answer} {counts links : List ℕ} {h place v : ℕ} → h ≡ heldOf t i → place ≡ firstBearing (t .keys) i (w .key) h → place < h →
-    v ≡ versionWord (t .values) i place → Answered (t .counts) (t .links) q i v r counts links → replaced r counts links t ≡ onGet w q i t
+pub get-found : (w : Contents) (q i : ℕ) (t : Tables) {r : Answer} {counts links : List ℕ} {h place b v : ℕ} →
+    h ≡ heldOf t i → place ≡ firstBearing (t .keys) i (w .key) h → place < h →
+    b ≡ versionBadge (t .values) i place → v ≡ versionSetpoint (t .values) i place →
+    Answered (t .counts) (t .links) q i (gotReply b v) r counts links → replaced r counts links t ≡ onGet w q i t
 unfolding onGet
-get-found w q i t c p l v a = rw (← c, ← p, lt-ltb _ _ l, ← v, a .fine, a .counted′, a .linked)
+get-found w q i t c p l b v a = rw (← c, ← p, lt-ltb _ _ l, ← b, ← v, a .fine, a .counted′, a .linked)
 
-module _ (q i : ℕ) (t : Tables) {r : Answer} {counts links : List ℕ} {n : ℕ} (a : Answered (t .counts) (t .links) q i n r counts links) where
+module _ (q i : ℕ) (t : Tables) {r : Answer} {counts links : List ℕ} {n : ℕ}
+    (a : Answered (t .counts) (t .links) q i (reply n) r counts links) where
   pub keys-told : n ≡ entriesOf t → replaced r counts links t ≡ onWhichKeys q i t
   unfolding onWhichKeys
   keys-told c = rw (a .fine, a .counted′, a .linked, c)

@@ -7,6 +7,7 @@ ghost use Rattle.tables.specs.Rows.{HasRow};
 ghost use Rattle.tables.specs.Layout.{clientWidth, clientWord, stateField};
 ghost use Rattle.tables.specs.Links.{targets};
 ghost use Rattle.rules.specs.Answers.{left};
+ghost use Rattle.rules.specs.Common.{reply, gotReply};
 ghost use Rattle.rules.specs.Request.{onSet, onEnter, onWhichKeys, onGet, onGetAll, onRequestIn, requestDelivered};
 ghost use Rattle.requests.specs.Ready.{Answerable, AtServer, Enterable, Asks, RequestReady};
 ghost use Rattle.requests.specs.Cases.{Answered};
@@ -20,20 +21,23 @@ use tables::links::Contents;
 use tables::records;
 use tables::versions;
 
-// The reply with a number takes the request's place, and the step counts.
-fn answer(
+// The reply with a badge and a number takes the request's place, and the step counts.
+fn answer_badged(
     counts: &mut [u32],
     links: &mut [u32],
     client: usize,
     target: usize,
+    badge: u32,
     number: u32,
 ) -> Answer
     requires { ⌜ Answerable (now counts) (now links) client target ⌝ }
-    ensures { λ r. ⌜ Answered (now (counts .entry)) (now (links .entry)) client target number r (now (counts .exit)) (now (links .exit)) ⌝ }
+    ensures { λ r. ⌜ Answered (now (counts .entry)) (now (links .entry)) client target (gotReply badge number) r
+        (now (counts .exit)) (now (links .exit)) ⌝ }
 {
     let reply = Contents {
         key: Key::OPENING,
         number: number,
+        badge: badge,
     };
     links::put_link(
         links,
@@ -46,6 +50,21 @@ fn answer(
     let step = counts::count_at(counts, counts::STEP);
     counts::put_count(counts, counts::STEP, step + 1);
     Answer::Ok
+}
+
+// The same of a reply with a number alone.
+fn answer(
+    counts: &mut [u32],
+    links: &mut [u32],
+    client: usize,
+    target: usize,
+    number: u32,
+) -> Answer
+    requires { ⌜ Answerable (now counts) (now links) client target ⌝ }
+    ensures { λ r. ⌜ Answered (now (counts .entry)) (now (links .entry)) client target (reply number) r
+        (now (counts .exit)) (now (links .exit)) ⌝ }
+{
+    answer_badged(counts, links, client, target, 0, number)
 }
 
 // State 1: a set request appends its version.
@@ -65,7 +84,15 @@ fn set(
         ≡ onSet contents client target (tablesOf (now (counts .entry)) clients (now (links .entry)) (now (keys .entry)) (now (values .entry)) log writes reads)) ⌝ }
 {
     let key = contents.key;
-    if server::append(counts, keys, values, target, key, contents.number) {
+    if server::append(
+        counts,
+        keys,
+        values,
+        target,
+        key,
+        contents.badge,
+        contents.number,
+    ) {
         return answer(counts, links, client, target, 0);
     }
     Answer::Refused(8)
@@ -109,7 +136,7 @@ fn which_keys(counts: &mut [u32], links: &mut [u32], client: usize, target: usiz
     answer(counts, links, client, target, entries)
 }
 
-// State 4: a get request is answered by the first version that bears its key.
+// State 4: a get request is answered by the first version that bears its key, with its badge and its setpoint.
 fn get(
     counts: &mut [u32],
     links: &mut [u32],
@@ -129,8 +156,9 @@ fn get(
     let key = contents.key;
     let place = server::find(keys, target, held, key);
     if place < held {
+        let badge = versions::version_badge(values, target, place);
         let setpoint = versions::version_setpoint(values, target, place);
-        return answer(counts, links, client, target, setpoint);
+        return answer_badged(counts, links, client, target, badge, setpoint);
     }
     Answer::Refused(8)
 }

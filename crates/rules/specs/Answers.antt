@@ -36,7 +36,7 @@ arrivalSaid (arrival.Refused n) = saying no′ (n ∷ [])
 
 -- an answer that shows nothing
 abbrev pub nothingShown : Arrival → Delivered
-nothingShown a = record { arrival = a; setpoints = replicate 16 0; tags = replicate 16 0 }
+nothingShown a = record { arrival = a; setpoints = replicate 16 0; tags = replicate 16 0; badges = replicate 16 0 }
 
 -- what a step leaves: its answer, what that says in document 01's words, and the tables
 pub record Left : Type 0 where

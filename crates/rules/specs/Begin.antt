@@ -14,31 +14,33 @@ use Rattle.tables.specs.Layout.{writesField, readsField, countField, tagField, 
 use Rattle.tables.specs.Links.{putLink}
 use Rattle.tables.specs.Tables.{Tables, tablesOf, methodOf, serversOf, entriesOf, writesOf, readsOf, countOf}
 use Rattle.rules.specs.Words.{every, keptWords}
-use Rattle.rules.specs.Common.{writing, askingKeys, askingSetpoints, askingAll, coordinator, request, begunCounts, begunRecords, startedClient}
+use Rattle.rules.specs.Common.{writing, askingKeys, askingSetpoints, askingAll, coordinator, request, setRequest}
+use Rattle.rules.specs.Common.{begunCounts, begunRecords, startedClient}
 
 -- "a WRITE also [stores] its k setpoints"
 abbrev pub storedSetpoints : ℕ → List ℕ → ℕ → List ℕ → List ℕ
 storedSetpoints q setpoints k clients = keptWords setpointsField every (λ i. getD setpoints i 0) q k clients
 
--- "a request to each masked station"
-abbrev pub sendSet : ℕ → Key → List ℕ → ℕ → List ℕ → List ℕ
-sendSet q key setpoints i links = putLink links q i (request key (getD setpoints i 0))
+-- "a request to each masked station"; "Every WRITE carries a 16-bit badge number"
+abbrev pub sendSet : ℕ → Key → ℕ → List ℕ → ℕ → List ℕ → List ℕ
+sendSet q key badge setpoints i links = putLink links q i (setRequest key badge (getD setpoints i 0))
 
-abbrev pub sentSets : ℕ → ℕ → Key → List ℕ → ℕ → List ℕ → List ℕ
-sentSets q mask key setpoints k links = turns (picked (hasServer mask) (sendSet q key setpoints)) k links
+abbrev pub sentSets : ℕ → ℕ → Key → ℕ → List ℕ → ℕ → List ℕ → List ℕ
+sentSets q mask key badge setpoints k links = turns (picked (hasServer mask) (sendSet q key badge setpoints)) k links
 
 -- "Begin a WRITE: next count; a request to each masked station; state 1."
 abbrev pub nextCount : Tables → ℕ → ℕ
 nextCount t q = countOf t q + 1
 
-unfoldable pub begunWrite : ℕ → ℕ → List ℕ → Tables → Tables
-begunWrite q mask setpoints t =
+unfoldable pub begunWrite : ℕ → ℕ → ℕ → List ℕ → Tables → Tables
+begunWrite q mask badge setpoints t =
     tablesOf
     (begunCounts writesField (t .counts))
-    (storedSetpoints q setpoints (serversOf t) (putClientWord (startedClient writing mask (writesOf t) q (t .clients)) q countField (nextCount t q)))
-    (sentSets q mask (keyOf (nextCount t q) q) setpoints (serversOf t) (t .links))
+    (storedSetpoints q setpoints (serversOf t)
+    (putClientWord (startedClient writing mask (writesOf t) q (t .clients)) q countField (nextCount t q)))
+    (sentSets q mask (keyOf (nextCount t q) q) badge setpoints (serversOf t) (t .links))
     (t .keys) (t .values) (t .log)
-    (begunRecords writesField (t .counts) q (nextCount t q) (t .writes))
+    (begunRecords writesField (t .counts) q (nextCount t q) badge (t .writes))
     (t .reads)
 
 -- "then ask each masked station for its key": the key of the station at a tag
@@ -96,7 +98,7 @@ begunReadWith q mask a t =
     (a .clients)
     (a .links)
     (t .keys) (t .values) (t .log) (t .writes)
-    (begunRecords readsField (t .counts) q mask (t .reads))
+    (begunRecords readsField (t .counts) q mask 0 (t .reads))
 
 unfoldable pub begunRead : ℕ → ℕ → Tables → Tables
 begunRead q mask t = begunReadWith q mask (askingBy (methodOf t) q mask t) t

@@ -7,7 +7,7 @@ use Rattle.ranges.specs.All.{allBelow}
 use Rattle.ranges.specs.Last.{lastBelow}
 use Rattle.keys.specs.declared.Key.{Key}
 use Rattle.keys.specs.Masks.{hasServer}
-use Rattle.tables.specs.Layout.{versionWord}
+use Rattle.tables.specs.Layout.{versionBadge, versionSetpoint}
 use Rattle.server.specs.Held.{firstBearing}
 use Rattle.coordinator.specs.Latest.{latestKey}
 
@@ -29,6 +29,12 @@ qualifies keys log mask received k t = allBelow (serves keys log mask received t
 abbrev pub chosenTag : List ℕ → List ℕ → ℕ → (ℕ → ℕ) → ℕ → ℕ → ℕ
 chosenTag keys log mask received k n = lastBelow (qualifies keys log mask received k) n
 
--- the setpoint of server i at a tag, as the versions received have it
+-- the version of server i at a tag, among those received: its setpoint, and its badge
+abbrev pub chosenPlace : List ℕ → List ℕ → (ℕ → ℕ) → ℕ → ℕ → ℕ
+chosenPlace keys log received t i = firstBearing keys i (latestKey log i t) (received i)
+
 abbrev pub chosenSetpoint : List ℕ → List ℕ → List ℕ → (ℕ → ℕ) → ℕ → ℕ → ℕ
-chosenSetpoint keys values log received t i = versionWord values i (firstBearing keys i (latestKey log i t) (received i))
+chosenSetpoint keys values log received t i = versionSetpoint values i (chosenPlace keys log received t i)
+
+abbrev pub chosenBadge : List ℕ → List ℕ → List ℕ → (ℕ → ℕ) → ℕ → ℕ → ℕ
+chosenBadge keys values log received t i = versionBadge values i (chosenPlace keys log received t i)

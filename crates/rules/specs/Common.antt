@@ -37,11 +37,18 @@ coordinator = 16
 
 -- A message carries a key and a number, or one of them, or neither: what it does not carry is written as 0.
 abbrev pub request : Key → ℕ → Content
-request key number = Request (record { key = key; number = number })
+request key number = Request (record { key = key; number = number; badge = 0 })
 
--- a reply carries a number at most
+-- a reply carries no key
 abbrev pub reply : ℕ → Content
-reply number = Reply (record { key = opening; number = number })
+reply number = Reply (record { key = opening; number = number; badge = 0 })
+
+-- "Every WRITE carries a 16-bit badge number": a set request and a got reply have it beside the setpoint
+abbrev pub setRequest : Key → ℕ → ℕ → Content
+setRequest key badge setpoint = Request (record { key = key; number = setpoint; badge = badge })
+
+abbrev pub gotReply : ℕ → ℕ → Content
+gotReply badge setpoint = Reply (record { key = opening; number = setpoint; badge = badge })
 
 -- "The opening is step 1; each accepted step adds 1."
 abbrev pub nextStep : Tables → ℕ
@@ -61,8 +68,8 @@ pending links q = anyBelow (filled links q) targets
 abbrev pub begunCounts : ℕ → List ℕ → List ℕ
 begunCounts field counts = set (set counts field (countAt counts field + 1)) stepField (countAt counts stepField + 1)
 
-abbrev pub begunRecords : ℕ → List ℕ → ℕ → ℕ → List ℕ → List ℕ
-begunRecords field counts q number records = putBegun records (countAt counts field) q number (countAt counts stepField + 1)
+abbrev pub begunRecords : ℕ → List ℕ → ℕ → ℕ → ℕ → List ℕ → List ℕ
+begunRecords field counts q number badge records = putBegun records (countAt counts field) q number (countAt counts stepField + 1) badge
 
 -- "A begin stores the mask"; the client is in a state, and its record is at a place
 abbrev pub startedClient : ℕ → ℕ → ℕ → ℕ → List ℕ → List ℕ

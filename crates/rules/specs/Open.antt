@@ -5,7 +5,7 @@ use lib.ListN.{getD, set, length, replicate}
 use lib.Seq.{sets}
 use Rattle.ranges.specs.Turns.{turns}
 use Rattle.keys.specs.Keys.{opening, keyWord}
-use Rattle.tables.specs.Layout.{heldField, putVersionWord, putEntry}
+use Rattle.tables.specs.Layout.{heldField, putVersionWord, putValue, putEntry}
 use Rattle.tables.specs.Tables.{Tables, tablesOf}
 
 abbrev pub cleared : List ℕ → List ℕ
@@ -19,12 +19,12 @@ holdOne i counts = set counts (heldField + i) 1
 abbrev pub openedCounts : ℕ → ℕ → ℕ → List ℕ → List ℕ
 openedCounts method k p counts = turns holdOne k (sets (cleared counts) 0 (method ∷ k ∷ p ∷ 1 ∷ 1 ∷ []))
 
--- the first version of each of the k servers is the opening's
+-- the first version of each of the k servers is the opening's: "the opening has badge 0"
 abbrev pub openKey : ℕ → List ℕ → List ℕ
 openKey i keys = putVersionWord keys i 0 (keyWord opening)
 
 abbrev pub openValue : List ℕ → ℕ → List ℕ → List ℕ
-openValue setpoints i values = putVersionWord values i 0 (getD setpoints i 0)
+openValue setpoints i values = putValue values i 0 0 (getD setpoints i 0)
 
 -- "tag 0 is the opening's key with all k stations"
 abbrev pub allServers : ℕ → ℕ

@@ -6,7 +6,7 @@ use lib.Dec.{eqb}
 use Rattle.keys.specs.Keys.{keyOf}
 use Rattle.keys.specs.Masks.{hasServer}
 use Rattle.coordinator.specs.Latest.{latestTagAt}
-use Rattle.tables.specs.Layout.{putClientWord, clientWord, stateField, tagField, setpointsField, receivedField, tagsField}
+use Rattle.tables.specs.Layout.{putClientWord, clientWord, stateField, tagField, setpointsField, receivedField, tagsField, badgesField}
 use Rattle.tables.specs.Links.{targets, putLink}
 use Rattle.tables.specs.Tables.{Tables, withCounts, withClients, withLinks, withWrites, withReads, serversOf, stateOf, countOf, maskOf, tagOf, recordOf, contentAt}
 use Rattle.tables.specs.declared.links.Contents.{Contents}
@@ -19,7 +19,7 @@ use Rattle.rules.specs.Answers.{Arrived, arrived, nothingShown}
 use Rattle.rules.specs.Words.{every, keptWords, laidWords, shownWords}
 use Rattle.rules.specs.Common.{idle, writing, entering, askingKeys, askingSetpoints, coordinator, request, nextStep, counted, pending, endedRecord, taggedRecord}
 use Rattle.rules.specs.Begin.{sentGets, keptTags}
-use Rattle.rules.specs.Choice.{chosenTag, chosenSetpoint}
+use Rattle.rules.specs.Choice.{chosenTag, chosenSetpoint, chosenBadge}
 
 abbrev pub said : Arrival → Tables → Arrived
 said a t = arrived (nothingShown a) t
@@ -40,10 +40,15 @@ shownSetpoints clients q mask = shownWords setpointsField clients q mask
 abbrev pub shownTags : List ℕ → ℕ → ℕ → List ℕ
 shownTags clients q mask = shownWords tagsField clients q mask
 
-abbrev pub readShown : ℕ → List ℕ → List ℕ → ℕ → ℕ → Delivered
-readShown tag tags clients q mask = record { arrival = Read tag; setpoints = shownSetpoints clients q mask; tags = tags }
+-- "A READ must show the badge … that belongs to the same WRITE as the setpoint beside it": the one that the client stores with it
+abbrev pub shownBadges : List ℕ → ℕ → ℕ → List ℕ
+shownBadges clients q mask = shownWords badgesField clients q mask
 
--- a READ ends: its record gets tag and end, and the answer shows setpoints and tags
+abbrev pub readShown : ℕ → List ℕ → List ℕ → ℕ → ℕ → Delivered
+readShown tag tags clients q mask =
+    record { arrival = Read tag; setpoints = shownSetpoints clients q mask; tags = tags; badges = shownBadges clients q mask }
+
+-- a READ ends: its record gets tag and end, and the answer shows setpoints, tags and badges
 abbrev pub endedRead : ℕ → ℕ → List ℕ → List ℕ → List ℕ → Tables → Arrived
 endedRead q tag tags clients links t =
     arrived (readShown tag tags clients q (maskOf t q))
@@ -71,15 +76,15 @@ onKeys w q i t =
     (keptTags q (maskOf t q) (t .log) (w .number - 1) (serversOf t) (putClientWord (putClientWord (t .clients) q tagField (w .number - 1)) q stateField askingSetpoints))
     (sentGets q (maskOf t q) (t .log) (w .number - 1) (serversOf t) (emptied q i t)) t)
 
--- "each wanted setpoint [is] stored in the panel"; the last one ends the READ
-abbrev pub gotSetpoint : Contents → ℕ → ℕ → Tables → List ℕ
-gotSetpoint w q i t = putClientWord (t .clients) q (setpointsField + i) (w .number)
+-- "each wanted setpoint [is] stored in the panel"; "a panel stores [the badge] with each wanted setpoint"; the last one ends the READ
+abbrev pub gotValue : Contents → ℕ → ℕ → Tables → List ℕ
+gotValue w q i t = putClientWord (putClientWord (t .clients) q (setpointsField + i) (w .number)) q (badgesField + i) (w .badge)
 
 unfoldable pub onGot : Contents → ℕ → ℕ → Tables → Arrived
 onGot w q i t =
     cond (pending (emptied q i t) q)
-    (said Wait (moved (gotSetpoint w q i t) (emptied q i t) t))
-    (endedRead q (tagOf t q) (shownTags (gotSetpoint w q i t) q (maskOf t q)) (gotSetpoint w q i t) (emptied q i t) t)
+    (said Wait (moved (gotValue w q i t) (emptied q i t) t))
+    (endedRead q (tagOf t q) (shownTags (gotValue w q i t) q (maskOf t q)) (gotValue w q i t) (emptied q i t) t)
 
 -- C: the n that came from each target stands in the client's row
 abbrev pub receivedIn : List ℕ → ℕ → ℕ → ℕ
@@ -98,23 +103,30 @@ tagFrom clients keys log q mask k = chosenTag keys log mask (receivedIn clients 
 abbrev pub tagChosen : List ℕ → ℕ → Tables → ℕ
 tagChosen clients q t = tagFrom clients (t .keys) (t .log) q (maskOf t q) (serversOf t)
 
--- and the setpoint of each masked station at that tag is stored
+-- and setpoint and badge of each masked station at that tag are stored
 abbrev pub keptSetpoints : (ℕ → ℕ) → ℕ → ℕ → ℕ → List ℕ → List ℕ
 keptSetpoints setpoint q mask k clients = keptWords setpointsField (hasServer mask) setpoint q k clients
+
+abbrev pub keptBadges : (ℕ → ℕ) → ℕ → ℕ → ℕ → List ℕ → List ℕ
+keptBadges badge q mask k clients = keptWords badgesField (hasServer mask) badge q k clients
 
 -- "an end sets state 0 and n to 0"
 abbrev pub forgotten : ℕ → List ℕ → List ℕ
 forgotten q clients = keptWords receivedField every (λ i. 0) q targets clients
 
--- the client's row at the end: the setpoints at the tag, the n forgotten, the tag
-abbrev pub concludedRow : (ℕ → ℕ) → ℕ → ℕ → ℕ → ℕ → List ℕ → List ℕ
-concludedRow setpoint tag q mask k clients = putClientWord (forgotten q (keptSetpoints setpoint q mask k clients)) q tagField tag
+-- the client's row at the end: setpoints and badges at the tag, the n forgotten, the tag
+abbrev pub concludedRow : (ℕ → ℕ) → (ℕ → ℕ) → ℕ → ℕ → ℕ → ℕ → List ℕ → List ℕ
+concludedRow setpoint badge tag q mask k clients =
+    putClientWord (forgotten q (keptBadges badge q mask k (keptSetpoints setpoint q mask k clients))) q tagField tag
 
 abbrev pub setpointAt : ℕ → List ℕ → ℕ → Tables → ℕ → ℕ
 setpointAt tag clients q t = chosenSetpoint (t .keys) (t .values) (t .log) (receivedIn clients q) tag
 
+abbrev pub badgeAt : ℕ → List ℕ → ℕ → Tables → ℕ → ℕ
+badgeAt tag clients q t = chosenBadge (t .keys) (t .values) (t .log) (receivedIn clients q) tag
+
 abbrev pub concluded : ℕ → List ℕ → ℕ → Tables → List ℕ
-concluded tag clients q t = concludedRow (setpointAt tag clients q t) tag q (maskOf t q) (serversOf t) clients
+concluded tag clients q t = concludedRow (setpointAt tag clients q t) (badgeAt tag clients q t) tag q (maskOf t q) (serversOf t) clients
 
 -- C's are those of the tag chosen, shown and not kept
 abbrev pub chosenTags : List ℕ → ℕ → ℕ → ℕ → List ℕ

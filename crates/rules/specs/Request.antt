@@ -1,10 +1,11 @@
 -- The delivery of a request: "request to reply". What it changes goes by the state of the client; 8 where a table is full or a key is not held, 9 where the link has no request.
 use Prim.Native.Nat.{ℕ}
+use mathlib.Core.List.{List}
 use mathlib.Core.Bool.{cond}
 use lib.Dec.{eqb, ltb}
 use Rattle.server.specs.Held.{appended, Appended, firstBearing}
 use Rattle.coordinator.specs.Log.{entered, Entered}
-use Rattle.tables.specs.Layout.{versionWord}
+use Rattle.tables.specs.Layout.{versionBadge, versionSetpoint}
 use Rattle.tables.specs.Links.{putLink}
 use Rattle.tables.specs.Tables.{Tables, withCounts, withLinks, withVersions, withLog, withWrites, entriesOf, heldOf, stateOf, recordOf, contentAt}
 use Rattle.tables.specs.declared.links.Contents.{Contents}
@@ -12,22 +13,25 @@ use Rattle.tables.specs.declared.links.Content.{Content}
 use Rattle.tables.specs.declared.links.Content.the-variants.{Nothing, Request, Reply}
 use Rattle.rules.specs.declared.Answer.the-variants.{Ok, Refused}
 use Rattle.rules.specs.Answers.{Left, left}
-use Rattle.rules.specs.Common.{writing, entering, askingKeys, askingSetpoints, coordinator, reply, counted, taggedRecord}
+use Rattle.rules.specs.Common.{writing, entering, askingKeys, askingSetpoints, coordinator, reply, gotReply, counted, taggedRecord}
 
 -- the reply takes the request's place, and the step counts
+abbrev pub answeredBy : Content → ℕ → ℕ → Tables → Left
+answeredBy content q i t = left Ok (withCounts (counted (t .counts)) (withLinks (putLink (t .links) q i content) t))
+
 abbrev pub answered : ℕ → ℕ → ℕ → Tables → Left
-answered q i number t = left Ok (withCounts (counted (t .counts)) (withLinks (putLink (t .links) q i (reply number)) t))
+answered q i number t = answeredBy (reply number) q i t
 
 abbrev pub refused : ℕ → Tables → Left
 refused n t = left (Refused n) t
 
--- "A request delivered there appends (key, setpoint)."
+-- "A request delivered there appends (key, setpoint)", with its badge.
 abbrev pub storedBy : Appended → Tables → Tables
 storedBy a t = withCounts (a .counts) (withVersions (a .keys) (a .values) t)
 
 unfoldable pub onSet : Contents → ℕ → ℕ → Tables → Left
 onSet w q i t =
-    let a = appended (t .counts) (t .keys) (t .values) i (w .key) (w .number) in
+    let a = appended (t .counts) (t .keys) (t .values) i (w .key) (w .badge) (w .number) in
     cond (a .done) (answered q i 0 (storedBy a t)) (refused 8 t)
 
 -- "that delivery appends to the log, and the new place is the tag"; "A WRITE's tag is recorded when the head appends it"
@@ -43,11 +47,14 @@ onEnter w q i t =
 unfoldable pub onWhichKeys : ℕ → ℕ → Tables → Left
 onWhichKeys q i t = answered q i (entriesOf t) t
 
--- "A key is looked up as the first version that bears it."
+-- "A key is looked up as the first version that bears it." Its setpoint and its badge go back.
+abbrev pub gotFrom : List ℕ → ℕ → ℕ → Content
+gotFrom values i place = gotReply (versionBadge values i place) (versionSetpoint values i place)
+
 unfoldable pub onGet : Contents → ℕ → ℕ → Tables → Left
 onGet w q i t =
     let place = firstBearing (t .keys) i (w .key) (heldOf t i) in
-    cond (ltb place (heldOf t i)) (answered q i (versionWord (t .values) i place) t) (refused 8 t)
+    cond (ltb place (heldOf t i)) (answeredBy (gotFrom (t .values) i place) q i t) (refused 8 t)
 
 -- how many versions a server holds, how many entries the log has
 abbrev pub holding : Tables → ℕ → ℕ

@@ -24,11 +24,13 @@ pub enum Arrival {
     Refused(u8),
 }
 
-// A delivered reply's answer, and beside it what a READ shows: setpoints, and the tags of the WRITEs that put them there; 0 where it shows none.
+// A delivered reply's answer, and beside it what a READ shows: setpoints, and the tags and badges of the WRITEs that put them there; 0 where it
+// shows none.
 pub struct Delivered {
     pub arrival: Arrival,
     pub setpoints: [u32; 16],
     pub tags: [u32; 16],
+    pub badges: [u32; 16],
 }
 
 // An answer that shows no setpoint.
@@ -39,6 +41,7 @@ pub fn showing_nothing(arrival: Arrival) -> Delivered
         arrival: arrival,
         setpoints: [0; 16],
         tags: [0; 16],
+        badges: [0; 16],
     }
 }
 

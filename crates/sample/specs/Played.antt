@@ -11,6 +11,6 @@ use Rattle.texts.specs.Text.{leftByLines, playable, roomFor, textLeft, playText
 use Rattle.sample.specs.Sample.{text, answers, lines, zeros, sample-printed}
 
 pub sample-played : (out : List ℕ) → roomFor 15 ≤ length out →
-    playText text out zeros ≡ textLeft (Printed 140) ((answers ++ lines) ++ drop 140 out) (leftByLines (linesOf text) zeros)
+    playText text out zeros ≡ textLeft (Printed 146) ((answers ++ lines) ++ drop 146 out) (leftByLines (linesOf text) zeros)
 unfolding playText playable zeros text linesOf answers lines
 sample-played out h = rw (sample-printed, le-leb (roomFor 15) (length out) h)

@@ -10,7 +10,7 @@ use Rattle.ranges.specs.First.{firstFrom}
 use Rattle.ranges.specs.Last.{lastBelow}
 use Rattle.ranges.specs.Turns.{turns}
 use Rattle.ranges.specs.Inserted.{inserted}
-use Rattle.tables.specs.Layout.{countWords, clientWidth, serverPlaces, logPlaces, entryWidth, recordPlaces, recordWidth}
+use Rattle.tables.specs.Layout.{countWords, clientWidth, serverPlaces, valueWidth, logPlaces, entryWidth, recordPlaces, recordWidth}
 use Rattle.tables.specs.Links.{targets, linkWidth, linkAt, putLink}
 use Rattle.tables.specs.Tables.{Tables, tablesOf}
 use Rattle.server.specs.Held.{appended}
@@ -37,8 +37,8 @@ unfoldable pub text : List ℕ
 text =
     -- O 2 2 2 1200 30
     79 ∷ 32 ∷ 50 ∷ 32 ∷ 50 ∷ 32 ∷ 50 ∷ 32 ∷ 49 ∷ 50 ∷ 48 ∷ 48 ∷ 32 ∷ 51 ∷ 48 ∷ 10 ∷
-    -- W 0 3 1800 45
-    87 ∷ 32 ∷ 48 ∷ 32 ∷ 51 ∷ 32 ∷ 49 ∷ 56 ∷ 48 ∷ 48 ∷ 32 ∷ 52 ∷ 53 ∷ 10 ∷
+    -- W 0 3 0 1800 45
+    87 ∷ 32 ∷ 48 ∷ 32 ∷ 51 ∷ 32 ∷ 48 ∷ 32 ∷ 49 ∷ 56 ∷ 48 ∷ 48 ∷ 32 ∷ 52 ∷ 53 ∷ 10 ∷
     -- > 0 0
     62 ∷ 32 ∷ 48 ∷ 32 ∷ 48 ∷ 10 ∷
     -- R 1 3
@@ -95,9 +95,9 @@ answers =
     49 ∷ 50 ∷ 32 ∷ 119 ∷ 97 ∷ 105 ∷ 116 ∷ 10 ∷
     -- 13 ok
     49 ∷ 51 ∷ 32 ∷ 111 ∷ 107 ∷ 10 ∷
-    -- 14 read 0 0=1200@0 1=30@0
+    -- 14 read 0 0=1200@0#0 1=30@0#0
     49 ∷ 52 ∷ 32 ∷ 114 ∷ 101 ∷ 97 ∷ 100 ∷ 32 ∷ 48 ∷
-    32 ∷ 48 ∷ 61 ∷ 49 ∷ 50 ∷ 48 ∷ 48 ∷ 64 ∷ 48 ∷ 32 ∷ 49 ∷ 61 ∷ 51 ∷ 48 ∷ 64 ∷ 48 ∷ 10 ∷
+    32 ∷ 48 ∷ 61 ∷ 49 ∷ 50 ∷ 48 ∷ 48 ∷ 64 ∷ 48 ∷ 35 ∷ 48 ∷ 32 ∷ 49 ∷ 61 ∷ 51 ∷ 48 ∷ 64 ∷ 48 ∷ 35 ∷ 48 ∷ 10 ∷
     -- 15 write 1
     49 ∷ 53 ∷ 32 ∷ 119 ∷ 114 ∷ 105 ∷ 116 ∷ 101 ∷ 32 ∷ 49 ∷ 10 ∷ []
 
@@ -106,14 +106,14 @@ unfoldable pub lines : List ℕ
 lines =
     -- R 0 1 4 14 1
     82 ∷ 32 ∷ 48 ∷ 32 ∷ 49 ∷ 32 ∷ 52 ∷ 32 ∷ 49 ∷ 52 ∷ 32 ∷ 49 ∷ 10 ∷
-    -- W 1 0 1 2 15
-    87 ∷ 32 ∷ 49 ∷ 32 ∷ 48 ∷ 32 ∷ 49 ∷ 32 ∷ 50 ∷ 32 ∷ 49 ∷ 53 ∷ 10 ∷ []
+    -- W 1 0 1 2 15 0
+    87 ∷ 32 ∷ 49 ∷ 32 ∷ 48 ∷ 32 ∷ 49 ∷ 32 ∷ 50 ∷ 32 ∷ 49 ∷ 53 ∷ 32 ∷ 48 ∷ 10 ∷ []
 
 -- tables just long enough for two clients and two servers, all zero
 unfoldable pub zeros : Tables
 zeros =
     tablesOf (replicate countWords 0) (replicate (clientWidth * 2) 0) (replicate (linkWidth * (targets * 2)) 0)
-    (replicate (serverPlaces * 2) 0) (replicate (serverPlaces * 2) 0) (replicate (entryWidth * logPlaces) 0)
+    (replicate (serverPlaces * 2) 0) (replicate (valueWidth * (serverPlaces * 2)) 0) (replicate (entryWidth * logPlaces) 0)
     (replicate (recordWidth * recordPlaces) 0) (replicate (recordWidth * recordPlaces) 0)
 
 -- what the text prints

@@ -10,9 +10,13 @@ pub record Readable : Type 0 where
   -- `O 2 2 2`
   pub opens : stepOf (79 ∷ 32 ∷ 50 ∷ 32 ∷ 50 ∷ 32 ∷ 50 ∷ []) ≡ alone (Open 2 2 2)
   -- `O 2 2 2 1200 30`
-  pub setpoints : stepOf (79 ∷ 32 ∷ 50 ∷ 32 ∷ 50 ∷ 32 ∷ 50 ∷ 32 ∷ 49 ∷ 50 ∷ 48 ∷ 48 ∷ 32 ∷ 51 ∷ 48 ∷ []) ≡ record { step = Open 2 2 2; setpoints = 1200 ∷ 30 ∷ [] }
-  -- `W 0 3`
-  pub write : stepOf (87 ∷ 32 ∷ 48 ∷ 32 ∷ 51 ∷ []) ≡ alone (BeginWrite 0 3)
+  pub setpoints : stepOf (79 ∷ 32 ∷ 50 ∷ 32 ∷ 50 ∷ 32 ∷ 50 ∷ 32 ∷ 49 ∷ 50 ∷ 48 ∷ 48 ∷ 32 ∷ 51 ∷ 48 ∷ [])
+      ≡ record { step = Open 2 2 2; setpoints = 1200 ∷ 30 ∷ [] }
+  -- `W 0 3 0`: a WRITE with no setpoints
+  pub write : stepOf (87 ∷ 32 ∷ 48 ∷ 32 ∷ 51 ∷ 32 ∷ 48 ∷ []) ≡ alone (BeginWrite 0 3 0)
+  -- `W 0 3 65535 1`: the largest badge
+  pub badge : stepOf (87 ∷ 32 ∷ 48 ∷ 32 ∷ 51 ∷ 32 ∷ 54 ∷ 53 ∷ 53 ∷ 51 ∷ 53 ∷ 32 ∷ 49 ∷ [])
+      ≡ record { step = BeginWrite 0 3 65535; setpoints = 1 ∷ [] }
   -- `R 1 3`
   pub read : stepOf (82 ∷ 32 ∷ 49 ∷ 32 ∷ 51 ∷ []) ≡ alone (BeginRead 1 3)
   -- `> 0 16`
@@ -22,7 +26,7 @@ pub record Readable : Type 0 where
 
 readable : Readable
 unfolding stepOf numbersBehind spacedOf numberOf readOn digitOf
-readable = record { opens = refl; setpoints = refl; write = refl; read = refl; request = refl; largest = refl }
+readable = record { opens = refl; setpoints = refl; write = refl; badge = refl; read = refl; request = refl; largest = refl }
 
 -- lines that name none
 pub record Refused : Type 0 where
@@ -32,6 +36,10 @@ pub record Refused : Type 0 where
   pub noClients : stepOf (79 ∷ 32 ∷ 50 ∷ 32 ∷ 50 ∷ []) ≡ unreadable
   -- `W 0`
   pub noMask : stepOf (87 ∷ 32 ∷ 48 ∷ []) ≡ unreadable
+  -- `W 0 3`: no badge
+  pub noBadge : stepOf (87 ∷ 32 ∷ 48 ∷ 32 ∷ 51 ∷ []) ≡ unreadable
+  -- `W 0 3 65536 1`: a badge of 17 bits
+  pub badge : stepOf (87 ∷ 32 ∷ 48 ∷ 32 ∷ 51 ∷ 32 ∷ 54 ∷ 53 ∷ 53 ∷ 51 ∷ 54 ∷ 32 ∷ 49 ∷ []) ≡ unreadable
   -- `R 0`
   pub noReadMask : stepOf (82 ∷ 32 ∷ 48 ∷ []) ≡ unreadable
   -- `R 0 1 5`: too many
@@ -59,4 +67,22 @@ pub record Refused : Type 0 where
 
 refused : Refused
 unfolding stepOf numbersBehind spacedOf numberOf readOn digitOf
-refused = record { empty = refl; noClients = refl; noMask = refl; noReadMask = refl; third = refl; behind = refl; twoSpaces = refl; front = refl; tab = refl; return = refl; sign = refl; zero = refl; large = refl; letter = refl; close = refl }
+refused = record {
+  empty = refl;
+  noClients = refl;
+  noMask = refl;
+  noBadge = refl;
+  badge = refl;
+  noReadMask = refl;
+  third = refl;
+  behind = refl;
+  twoSpaces = refl;
+  front = refl;
+  tab = refl;
+  return = refl;
+  sign = refl;
+  zero = refl;
+  large = refl;
+  letter = refl;
+  close = refl;
+}

@@ -18,7 +18,7 @@ use Rattle.schedule.specs.Decimal.{glyph, digits, decimal, spacedAll}
 use Rattle.schedule.specs.DecimalLaws.{decimal-one, decimal-more}
 use Rattle.schedule.specs.declared.Step.{Step}
 use Rattle.schedule.specs.declared.Step.the-variants.{Unreadable, Open, BeginWrite, BeginRead, Request, Reply}
-use Rattle.schedule.specs.Steps.{lineMost}
+use Rattle.schedule.specs.Steps.{lineMost, badgeMost}
 use Rattle.schedule.specs.Steps.{Named, unreadable, namedOpen, namedWrite, namedPair, named, stepOf, lineByte, lineNumbers, stepText}
 use Rattle.schedule.specs.StepLaws.{step-read}
 use Rattle.schedule.specs.Numbers.{digitOf, digitHead, mayFollow, readOn, numberOf, spacedOf, Read, readThen, numbersBehind, numbersOf}
@@ -106,24 +106,26 @@ numbers-back [] f = none-back
 numbers-back (n ∷ rest) f =
     rw (spaced-cons n rest) (numbers-then n (spacedAll rest) (f .0) (no-digit-first rest) ∙ ap (λ (r : Read). record { whole = r .whole; numbers = n ∷ r .numbers }) (numbers-back rest (f .1)))
 
--- A step that a line can hold: numbers that fit, no more bytes than a line has, setpoints only in an opening and in a WRITE.
-abbrev HasSetpoints : Step → List ℕ → Type 0
-HasSetpoints Unreadable setpoints = ⊥
-HasSetpoints (Open method servers clients) setpoints = Unit {0}
-HasSetpoints (BeginWrite client mask) setpoints = Unit {0}
-HasSetpoints (BeginRead client mask) setpoints = setpoints ≡ []
-HasSetpoints (Request client target) setpoints = setpoints ≡ []
-HasSetpoints (Reply client target) setpoints = setpoints ≡ []
+-- A step that a line can hold: numbers that fit, no more bytes than a line has, setpoints only in an opening and in a WRITE,
+-- whose badge has 16 bits.
+abbrev Shaped : Step → List ℕ → Type 0
+Shaped Unreadable setpoints = ⊥
+Shaped (Open method servers clients) setpoints = Unit {0}
+Shaped (BeginWrite client mask badge) setpoints = badge ≤ badgeMost
+Shaped (BeginRead client mask) setpoints = setpoints ≡ []
+Shaped (Request client target) setpoints = setpoints ≡ []
+Shaped (Reply client target) setpoints = setpoints ≡ []
 
 pub record FitsLine (n : Named) : Type 0 where
   pub numbers : AllFit (lineNumbers (n .step) (n .setpoints))
   pub size : length (stepText n) ≤ lineMost
-  pub shape : HasSetpoints (n .step) (n .setpoints)
+  pub shape : Shaped (n .step) (n .setpoints)
 
-named-back : (step : Step) (setpoints : List ℕ) → HasSetpoints step setpoints → named (lineByte step) (lineNumbers step setpoints) ≡ record { step = step; setpoints = setpoints }
+named-back : (step : Step) (setpoints : List ℕ) → Shaped step setpoints
+    → named (lineByte step) (lineNumbers step setpoints) ≡ record { step = step; setpoints = setpoints }
 named-back Unreadable setpoints h = absurd h
 named-back (Open method servers clients) setpoints h = refl
-named-back (BeginWrite client mask) setpoints h = refl
+named-back (BeginWrite client mask badge) setpoints h = rw (le-leb _ _ h)
 named-back (BeginRead client mask) setpoints h = rw h
 named-back (Request client target) setpoints h = rw h
 named-back (Reply client target) setpoints h = rw h
@@ -161,7 +163,7 @@ spaced-no-ten (n ∷ rest) = (λ e. omega arith, no-ten-append (decimal n) (spac
 byte-no-ten : (step : Step) → lineByte step ≡ 10 → ⊥
 byte-no-ten Unreadable e = omega arith
 byte-no-ten (Open method servers clients) e = omega arith
-byte-no-ten (BeginWrite client mask) e = omega arith
+byte-no-ten (BeginWrite client mask badge) e = omega arith
 byte-no-ten (BeginRead client mask) e = omega arith
 byte-no-ten (Request client target) e = omega arith
 byte-no-ten (Reply client target) e = omega arith
@@ -271,7 +273,8 @@ module _ (byte : ℕ) where
   told-write : (l : List ℕ) → byte ≡ 87 → Told (byte ∷ spacedAll l) (namedWrite l)
   told-write [] e = inl refl
   told-write (a ∷ []) e = inl refl
-  told-write (a ∷ b ∷ l) e = inr (rw e)
+  told-write (a ∷ b ∷ []) e = inl refl
+  told-write (a ∷ b ∷ c ∷ l) e = by-test (leb c badgeMost) (λ h. rw h (inr (rw e))) (λ h. rw h (inl refl))
 
   told-pair : (l : List ℕ) → Told (byte ∷ spacedAll l) (namedPair byte l)
   told-pair [] = inl refl

@@ -15,7 +15,7 @@ use borrow.Author.Tests.{eq-eqb, ne-eqb, le-leb, lt-leb, leb-true}
 use Rattle.schedule.specs.NumberLaws.{numbers-few}
 use Rattle.schedule.specs.declared.Step.the-variants.{Open, BeginWrite}
 use Rattle.schedule.specs.Numbers.{Read, numbersOf, countOf}
-use Rattle.schedule.specs.Steps.{lineMost, numbersMost, setpointsMost}
+use Rattle.schedule.specs.Steps.{lineMost, numbersMost, setpointsMost, badgeMost}
 use Rattle.schedule.specs.Steps.{Named, unreadable, namedOpen, namedWrite, pairNamed, namedPair, named, namedBy, stepOf, readingOf, stored, Names}
 
 -- The numbers of a line, and a place for its setpoints: as many as a line can have.
@@ -42,18 +42,28 @@ open-names (a ∷ b ∷ d ∷ l) held h e =
     let n : suc (suc (suc (length l))) - 3 ≡ length l = omega arith in
     record { reading = rw n; place = e ∙ rw (n, take-length) }
 
-pub write-few : (l : List ℕ) → length l < 2 → namedWrite l ≡ unreadable
+pub write-few : (l : List ℕ) → length l < 3 → namedWrite l ≡ unreadable
 write-few [] h = refl
 write-few (a ∷ []) h = refl
-write-few (a ∷ b ∷ l) h = let z : ⊥ = omega arith in absurd z
+write-few (a ∷ b ∷ []) h = refl
+write-few (a ∷ b ∷ d ∷ l) h = let z : ⊥ = omega arith in absurd z
 
-pub write-names : (l held : List ℕ) {left : List ℕ} → 2 ≤ length l → left ≡ stored (take (length l - 2) (drop 2 l)) held
-    → Names (namedWrite l) held (record { step = BeginWrite (getD l 0 0) (getD l 1 0); setpoints = length l - 2 }) left
-write-names [] held h e = let z : ⊥ = omega arith in absurd z
-write-names (a ∷ []) held h e = let z : ⊥ = omega arith in absurd z
-write-names (a ∷ b ∷ l) held h e =
-    let n : suc (suc (length l)) - 2 ≡ length l = omega arith in
-    record { reading = rw n; place = e ∙ rw (n, take-length) }
+-- a badge of more than 16 bits
+pub write-badge : (l : List ℕ) → badgeMost < getD l 2 0 → namedWrite l ≡ unreadable
+write-badge [] h = refl
+write-badge (a ∷ []) h = refl
+write-badge (a ∷ b ∷ []) h = refl
+write-badge (a ∷ b ∷ d ∷ l) h = rw (lt-leb _ _ h)
+
+pub write-names : (l held : List ℕ) {left : List ℕ} → 3 ≤ length l → getD l 2 0 ≤ badgeMost
+    → left ≡ stored (take (length l - 3) (drop 3 l)) held
+    → Names (namedWrite l) held (record { step = BeginWrite (getD l 0 0) (getD l 1 0) (getD l 2 0); setpoints = length l - 3 }) left
+write-names [] held h b e = let z : ⊥ = omega arith in absurd z
+write-names (a ∷ []) held h b e = let z : ⊥ = omega arith in absurd z
+write-names (a ∷ b ∷ []) held h k e = let z : ⊥ = omega arith in absurd z
+write-names (a ∷ b ∷ d ∷ l) held h k e =
+    let n : suc (suc (suc (length l))) - 3 ≡ length l = omega arith in
+    rw (le-leb _ _ k) (record { reading = rw n; place = e ∙ rw (n, take-length) })
 
 pub pair-not : (byte : ℕ) (l : List ℕ) → (length l ≡ 2 → ⊥) → namedPair byte l ≡ unreadable
 pair-not byte [] h = refl
@@ -116,7 +126,9 @@ few-open (a ∷ b ∷ d ∷ l) h = omega arith
 few-write : (l : List ℕ) → length l ≤ numbersMost → length (namedWrite l .setpoints) ≤ setpointsMost
 few-write [] h = omega arith
 few-write (a ∷ []) h = omega arith
-few-write (a ∷ b ∷ l) h = omega arith
+few-write (a ∷ b ∷ []) h = omega arith
+few-write (a ∷ b ∷ d ∷ l) h =
+    either (λ (n : Named). length (n .setpoints) ≤ setpointsMost) (leb d badgeMost) (omega arith) (omega arith)
 
 few-pair : (byte : ℕ) (l : List ℕ) → length (namedPair byte l .setpoints) ≤ setpointsMost
 few-pair byte [] = omega arith

@@ -1,4 +1,5 @@
--- "lines of at most 200 bytes before byte 10: `O method k p setpoints`, `W panel mask setpoints`, `R panel mask`, `> panel target` (request), `< panel target` (reply)"
+-- "lines of at most 200 bytes before byte 10: `O method k p setpoints`, `W panel mask setpoints`, `R panel mask`, `> panel target`
+-- (request), `< panel target` (reply)"; document 02: "In the yard's input W line it stands after the mask", the badge
 use Prim.Native.Nat.{ℕ, _-_, _/_}
 use mathlib.Core.Path.{_≡_}
 use mathlib.Core.Bool.{cond}
@@ -12,7 +13,7 @@ use Rattle.schedule.specs.Decimal.{spacedAll}
 use Rattle.schedule.specs.Numbers.{Read, numbersOf}
 
 -- "lines of at most 200 bytes"; behind a line's first byte each number takes two or more, its space and a digit;
--- two numbers or more stand before its setpoints
+-- three numbers stand before its setpoints
 abbrev pub lineMost : ℕ
 lineMost = 200
 
@@ -20,7 +21,11 @@ abbrev pub numbersMost : ℕ
 numbersMost = (lineMost - 1) / 2
 
 abbrev pub setpointsMost : ℕ
-setpointsMost = numbersMost - 2
+setpointsMost = numbersMost - 3
+
+-- "a 16-bit badge number, 0 allowed"
+abbrev pub badgeMost : ℕ
+badgeMost = 65535
 
 -- A step and the setpoints on its line.
 pub record Named : Type 0 where
@@ -41,10 +46,13 @@ namedOpen (method ∷ []) = unreadable
 namedOpen (method ∷ servers ∷ []) = unreadable
 namedOpen (method ∷ servers ∷ clients ∷ setpoints) = record { step = Open method servers clients; setpoints = setpoints }
 
+-- "In the yard's input W line it stands after the mask, above 65,535 giving 13"
 abbrev pub namedWrite : List ℕ → Named
 namedWrite [] = unreadable
 namedWrite (client ∷ []) = unreadable
-namedWrite (client ∷ mask ∷ setpoints) = record { step = BeginWrite client mask; setpoints = setpoints }
+namedWrite (client ∷ mask ∷ []) = unreadable
+namedWrite (client ∷ mask ∷ badge ∷ setpoints) =
+    cond (leb badge badgeMost) (record { step = BeginWrite client mask badge; setpoints = setpoints }) unreadable
 
 -- the step of a first byte and just two numbers: R, > and < are 82, 62 and 60
 abbrev pub pairNamed : ℕ → ℕ → ℕ → Named
@@ -88,7 +96,7 @@ pub record Names (names : Named) (held : List ℕ) (answer : Reading) (left : Li
 abbrev pub lineByte : Step → ℕ
 lineByte Unreadable = 0
 lineByte (Open method servers clients) = 79
-lineByte (BeginWrite client mask) = 87
+lineByte (BeginWrite client mask badge) = 87
 lineByte (BeginRead client mask) = 82
 lineByte (Request client target) = 62
 lineByte (Reply client target) = 60
@@ -96,7 +104,7 @@ lineByte (Reply client target) = 60
 abbrev pub lineNumbers : Step → List ℕ → List ℕ
 lineNumbers Unreadable setpoints = []
 lineNumbers (Open method servers clients) setpoints = method ∷ servers ∷ clients ∷ setpoints
-lineNumbers (BeginWrite client mask) setpoints = client ∷ mask ∷ setpoints
+lineNumbers (BeginWrite client mask badge) setpoints = client ∷ mask ∷ badge ∷ setpoints
 lineNumbers (BeginRead client mask) setpoints = client ∷ mask ∷ []
 lineNumbers (Request client target) setpoints = client ∷ target ∷ []
 lineNumbers (Reply client target) setpoints = client ∷ target ∷ []

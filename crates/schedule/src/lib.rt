@@ -8,12 +8,15 @@ ghost use Rattle.schedule.specs.Steps.{lineMost, numbersMost, setpointsM
 ghost use Rattle.schedule.specs.Steps.{unreadable, named, namedOpen, namedWrite, pairNamed, stepOf, readingOf, stored, Names};
 ghost use Rattle.schedule.specs.StepLaws.{Fits};
 
-// A line's bytes at most; so its numbers, of two bytes or more each behind its first byte; so its setpoints, behind two numbers or more.
+// A line's bytes at most; so its numbers, of two bytes or more each behind its first byte; so its setpoints, behind three numbers.
 pub const LINE: usize = 200;
 
 pub const NUMBERS: usize = (LINE - 1) / 2;
 
-pub const SETPOINTS: usize = NUMBERS - 2;
+pub const SETPOINTS: usize = NUMBERS - 3;
+
+// A badge has 16 bits.
+const LAST_BADGE: u32 = 65535;
 
 // Where the line that begins at start ends: at its byte 10, or at the end of the text.
 pub fn line_end(text: &[u8], start: usize) -> usize
@@ -139,14 +142,14 @@ pub fn numbers_in(part: &[u8], numbers: &mut [u32]) -> Numbers
     Numbers::All(count)
 }
 
-// The step that a line names. Its numbers are full 32-bit numbers: none is cut to a field's width.
+// The step that a line names. Its numbers are full 32-bit numbers: none is cut to a field's width. A badge above 16 bits names no step.
 pub enum Step {
     // no step: number 13
     Unreadable,
     // method, servers, clients
     Open(u32, u32, u32),
-    // client, mask
-    BeginWrite(u32, u32),
+    // client, mask, badge
+    BeginWrite(u32, u32, u16),
     // client, mask
     BeginRead(u32, u32),
     // client, target
@@ -203,13 +206,17 @@ fn name_write(numbers: &[u32], setpoints: &mut [u32]) -> Reading
     requires { ⌜ Fits (now numbers) (now setpoints) ⌝ }
     ensures { λ r. ⌜ Names (namedWrite (now (numbers .entry))) (now (setpoints .entry)) r (now (setpoints .exit)) ⌝ }
 {
-    if numbers.len() < 2 {
+    if numbers.len() < 3 {
         return unreadable();
     }
-    store_setpoints(&numbers[2..], setpoints);
+    let badge = numbers[2];
+    if LAST_BADGE < badge {
+        return unreadable();
+    }
+    store_setpoints(&numbers[3..], setpoints);
     Reading {
-        step: Step::BeginWrite(numbers[0], numbers[1]),
-        setpoints: numbers.len() - 2,
+        step: Step::BeginWrite(numbers[0], numbers[1], badge as u16),
+        setpoints: numbers.len() - 3,
     }
 }
 

@@ -17,6 +17,7 @@ use Rattle.rules.specs.declared.Arrival.{Arrival}
 use Rattle.rules.specs.declared.Arrival.the-variants as arrival
 use Rattle.rules.specs.declared.Delivered.{Delivered}
 use Rattle.serial.specs.Steps.{Event, opened, begun-write, begun-read, requested, replied, Played}
+use Rattle.refusals.specs.Steps.{badgeOf}
 use Rattle.serial.specs.History.{valueWritten, changed, Transaction, noWrite, Doing, nothing, writing, tagged, reading}
 use Rattle.serial.specs.History.{History, historyOf, turned, writeOf, given}
 use Rattle.serial.specs.History.{begun, delivered, entered, ended, wrote, showed, arrived, openedWith, atCoordinator, after, history}
@@ -36,7 +37,7 @@ whole-is-complete h = (row-complete h, complete-whole h)
 
 abbrev Begun : ℕ → Doing → Type 0
 Begun clock nothing = Unit {0}
-Begun clock (writing mask setpoints begin) = begin < clock
+Begun clock (writing mask badge setpoints begin) = begin < clock
 Begun clock (tagged tag) = Unit {0}
 Begun clock (reading mask begin deliveries) = Unit {0}
 
@@ -54,7 +55,7 @@ record Timely (h : History) : Type 0 where
 module _ (h : History) (ok : Timely h) where
   begun-on : (clock : ℕ) (d : Doing) → Begun clock d → Begun (suc clock) d
   begun-on clock nothing b = tt
-  begun-on clock (writing mask setpoints begin) b = omega (arith, b)
+  begun-on clock (writing mask badge setpoints begin) b = omega (arith, b)
   begun-on clock (tagged tag) b = tt
   begun-on clock (reading mask begin deliveries) b = tt
 
@@ -83,21 +84,21 @@ module _ (h : History) (ok : Timely h) where
 
   begun-timely : (c d : Doing) (q : ℕ) → Begun (suc (h .clock)) d → Timely (begun c q d h)
   begun-timely nothing d q b = turns q d b
-  begun-timely (writing mask setpoints begin) d q b = stays (suc (h .astray))
+  begun-timely (writing mask badge setpoints begin) d q b = stays (suc (h .astray))
   begun-timely (tagged tag) d q b = stays (suc (h .astray))
   begun-timely (reading mask begin deliveries) d q b = stays (suc (h .astray))
 
   delivered-timely : (c : Doing) (q : ℕ) → Timely (delivered c q h)
   delivered-timely nothing q = stays (suc (h .astray))
-  delivered-timely (writing mask setpoints begin) q = stays (h .astray)
+  delivered-timely (writing mask badge setpoints begin) q = stays (h .astray)
   delivered-timely (tagged tag) q = stays (h .astray)
   delivered-timely (reading mask begin deliveries) q = turns q (reading mask begin (suc deliveries)) tt
 
   -- a WRITE gets its tag, and has no end
-  given-timely : (q mask : ℕ) (setpoints : List ℕ) (begin : ℕ) → begin < h .clock → Timely (given q mask setpoints begin h)
-  given-timely q mask setpoints begin b =
+  given-timely : (q mask badge : ℕ) (setpoints : List ℕ) (begin : ℕ) → begin < h .clock → Timely (given q mask badge setpoints begin h)
+  given-timely q mask badge setpoints begin b =
       let last = suc (h .tags) in
-      let new = writeOf q mask (valueWritten last setpoints) last begin none in
+      let new = writeOf q mask (valueWritten last badge setpoints) last begin none in
       let write : ℕ → Transaction = changed (h .write) last new in
       record {
         reads = ok .reads;
@@ -114,15 +115,15 @@ module _ (h : History) (ok : Timely h) where
 
   entered-timely : (c : Doing) (q : ℕ) → h .doing q ≡ c → Timely (entered c q h)
   entered-timely nothing q e = stays (suc (h .astray))
-  entered-timely (writing mask setpoints begin) q e =
-      given-timely q mask setpoints begin (let b : Begun (h .clock) (writing mask setpoints begin) = rw e at (ok .doing q) in b)
+  entered-timely (writing mask badge setpoints begin) q e =
+      given-timely q mask badge setpoints begin (let b : Begun (h .clock) (writing mask badge setpoints begin) = rw e at (ok .doing q) in b)
   entered-timely (tagged tag) q e = stays (h .astray)
   entered-timely (reading mask begin deliveries) q e = turns q (reading mask begin (suc deliveries)) tt
 
   -- a WRITE ends now, when all that have a tag had begun
   wrote-timely : (a : ℕ) (c : Doing) (q : ℕ) → Timely (wrote a c q h)
   wrote-timely a nothing q = stays (suc (h .astray))
-  wrote-timely a (writing mask setpoints begin) q = stays (suc (h .astray))
+  wrote-timely a (writing mask badge setpoints begin) q = stays (suc (h .astray))
   wrote-timely a (tagged t) q =
       let new = ended (h .clock) (h .write t) in
       let write : ℕ → Transaction = changed (h .write) t new in
@@ -142,7 +143,7 @@ module _ (h : History) (ok : Timely h) where
 
   showed-timely : (tag : ℕ) (d : Delivered) (c : Doing) (q : ℕ) → Timely (showed tag d c q h)
   showed-timely tag d nothing q = stays (suc (h .astray))
-  showed-timely tag d (writing mask setpoints begin) q = stays (suc (h .astray))
+  showed-timely tag d (writing mask badge setpoints begin) q = stays (suc (h .astray))
   showed-timely tag d (tagged t) q = stays (suc (h .astray))
   showed-timely tag d (reading mask begin deliveries) q =
       let k = kept (changed (h .doing) q nothing) (h .astray) (new-doing q nothing tt) in
@@ -166,9 +167,9 @@ fresh-timely method setpoints = record {
 after-timely : (e : Event) (h : History) → Timely h → Timely (after e h)
 after-timely (opened method k p setpoints answer.Ok) h ok = fresh-timely method setpoints
 after-timely (opened method k p setpoints (answer.Refused n)) h ok = stays h ok (h .astray)
-after-timely (begun-write q mask setpoints answer.Ok) h ok =
-    begun-timely h ok (h .doing q) (writing mask setpoints (h .clock)) q (omega arith)
-after-timely (begun-write q mask setpoints (answer.Refused n)) h ok = stays h ok (h .astray)
+after-timely (begun-write q mask badge setpoints answer.Ok) h ok =
+    begun-timely h ok (h .doing q) (writing mask (badgeOf badge) setpoints (h .clock)) q (omega arith)
+after-timely (begun-write q mask badge setpoints (answer.Refused n)) h ok = stays h ok (h .astray)
 after-timely (begun-read q mask answer.Ok) h ok = begun-timely h ok (h .doing q) (reading mask (h .clock) 0) q tt
 after-timely (begun-read q mask (answer.Refused n)) h ok = stays h ok (h .astray)
 after-timely (requested q i answer.Ok) h ok =

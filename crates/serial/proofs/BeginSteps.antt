@@ -10,8 +10,10 @@ use lib.Dec.{eqb}
 use Rattle.ranges.specs.Tests.{by-test}
 use Rattle.ranges.specs.Sum.{one}
 use Rattle.ranges.specs.SumLaws.{sum-part, one-true}
-use Rattle.keys.specs.Keys.{keyOf, opening, FitsByte, at-word-fits}
-use Rattle.keys.specs.Masks.{hasServer, serversIn, Within, some-server}
+use Rattle.keys.specs.Keys.{keyOf, opening, FitsByte}
+use Rattle.keys.specs.KeyLaws.{at-word-fits}
+use Rattle.keys.specs.Masks.{hasServer, serversIn, Within}
+use Rattle.keys.specs.MaskLaws.{some-server}
 use Rattle.coordinator.specs.Latest.{latestKey, latestTagAt}
 use Rattle.tables.specs.Rows.{HasRow, word-same, word-other, word-length}
 use Rattle.tables.specs.Layout.{clientWidth, clientWord, putClientWord, stateField, countField, maskField, tagField, recordField}
@@ -23,7 +25,7 @@ use Rattle.tables.specs.declared.links.Content.the-variants.{Nothing}
 use Rattle.rules.specs.Answers.{left}
 use Rattle.rules.specs.Words.{every}
 use Rattle.rules.specs.WordsLaws.{kept-other}
-use Rattle.rules.specs.Common.{idle, askingKeys, askingSetpoints, askingAll, coordinator, request, begunCounts, startedClient}
+use Rattle.rules.specs.Common.{idle, askingKeys, askingSetpoints, askingAll, coordinator, request, setRequest, begunCounts, startedClient}
 use Rattle.rules.specs.Common as rules
 use Rattle.rules.specs.Begin.{storedSetpoints, nextCount, begunWrite, sentGets, keptTags, sendAsk, sentAsks, asking, lastTag, askingByA}
 use Rattle.rules.specs.Begin.{askingByB, askingByC, begunReadWith, begunRead}
@@ -33,6 +35,7 @@ use Rattle.keeping.specs.States.{masked-below}
 use Rattle.keeping.specs.Rows.{Put, put, putAll, put-read, put-elsewhere, put-length}
 use Rattle.keeping.specs.Rounds.{sent-length}
 use Rattle.serial.specs.Steps.{Event, begun-write, begun-read}
+use Rattle.refusals.specs.Steps.{badgeOf}
 use Rattle.serial.specs.History.{changed, History, extraOf}
 use Rattle.serial.proofs.Press.{Shared, renumbered, Client, clientOf, Press, pressOf, stateIn, countIn, rowOf, linksOf, sharedOf, view, sends, world}
 use Rattle.serial.proofs.View.{within-at, within-same, row-put-other, link-put, link-put-other, view-is, sharedIn, shared-step, shared-writes, shared-reads}
@@ -126,7 +129,7 @@ module _ (floor : ℕ → ℕ) (t : Tables) (h : History) (s : Standing floor t 
       shared-step (set (t .counts) readsField (readsOf t + 1)) step′ (t .keys) (t .values) (t .log) (rw (length-set (t .counts) readsField (readsOf t + 1)) counts-long)
       ∙ ap (λ (x : Shared). renumbered step′ (x .writes) (x .reads) x) (shared-reads (t .counts) (readsOf t + 1) (t .keys) (t .values) (t .log) counts-long)
 
-  module _ (setpoints : List ℕ) (free : writesOf t < recordPlaces) where
+  module _ (badge : ℕ) (setpoints : List ℕ) (free : writesOf t < recordPlaces) where
     abbrev begunClients : List ℕ
     begunClients = putClientWord (startedClient rules.writing mask (writesOf t) q (t .clients)) q countField (nextCount t q)
 
@@ -158,7 +161,7 @@ module _ (floor : ℕ → ℕ) (t : Tables) (h : History) (s : Standing floor t 
     few-counts = omega (arith, row-at t q countField (omega arith), sum-part (countOf t) (clientsOf t) q (ready .client), ready .sound .counts)
 
     abbrev sets : ℕ → ℕ → Content
-    sets n i = request (keyOf n q) (getD setpoints i 0)
+    sets n i = setRequest (keyOf n q) (badgeOf badge) (getD setpoints i 0)
 
     fits : (i : ℕ) → FitsByte (keyOf (nextCount t q) q)
     fits i = record { count = omega (arith, few-counts, next-count); client = omega (arith, in-range t q ready) }
@@ -169,10 +172,11 @@ module _ (floor : ℕ → ℕ) (t : Tables) (h : History) (s : Standing floor t 
     begun-state : stateIn begun ≡ rules.writing
     begun-state = other-word stateField (omega arith) (λ e. omega arith) ∙ started-state rules.writing mask (writesOf t) q (t .clients) (has-row t q ready)
 
-    seen : view (begunWrite q mask setpoints t) ≡ pressOf (renumbered step′ (writesOf t + 1) (readsOf t) (sharedOf t)) (changed (view t .client) q begun)
+    seen : view (begunWrite q mask (badgeOf badge) setpoints t) ≡ pressOf (renumbered step′ (writesOf t + 1) (readsOf t) (sharedOf t))
+        (changed (view t .client) q begun)
     unfolding begunWrite
     seen =
-        view-is t (begunWrite q mask setpoints t) q writes-shared refl
+        view-is t (begunWrite q mask (badgeOf badge) setpoints t) q writes-shared refl
         (sent-links q (sets (nextCount t q)) fits mask (serversOf t) small bound (t .links) long empty ∙ ap (λ (n : ℕ). sends mask (sets n)) next-count)
         (λ r d. kept-rows setpointsField every value q (serversOf t) room begunClients r d
         ∙ row-put-other (startedClient rules.writing mask (writesOf t) q (t .clients)) q countField (nextCount t q) (omega arith) r d
@@ -182,12 +186,12 @@ module _ (floor : ℕ → ℕ) (t : Tables) (h : History) (s : Standing floor t 
     none-there : hasServer mask coordinator ≡ false
     none-there = no-coordinator mask (serversOf t) (few t q ready) bound
 
-    write-begun : Begun (begun-write q mask setpoints Ok) (begunWrite q mask setpoints t)
+    write-begun : Begun (begun-write q mask badge setpoints Ok) (begunWrite q mask (badgeOf badge) setpoints t)
     write-begun = record {
-      kept = subst (λ (v : Press). Kept floor h (begun-write q mask setpoints Ok) v) (sym seen)
+      kept = subst (λ (v : Press). Kept floor h (begun-write q mask badge setpoints Ok) v) (sym seen)
           (write-kept floor (view t) h tied (few t q ready) q (in-range t q ready) resting-state mask bound some-masked (rowOf clients′ q)
           (other-word maskField (omega arith) (λ e. omega arith) ∙ started-mask rules.writing mask (writesOf t) q (t .clients) (has-row t q ready)) step′ (writesOf t + 1) (readsOf t)
-          setpoints begun-state
+          badge setpoints begun-state
           (begun-word countField (omega arith) ∙ word-same clientWidth (startedClient rules.writing mask (writesOf t) q (t .clients)) q countField (nextCount t q) has-begun (omega arith) ∙ next-count)
           few-counts);
       budget = subst Budget (sym seen)
@@ -352,9 +356,12 @@ module _ (floor : ℕ → ℕ) (t : Tables) (h : History) (s : Standing floor t 
 
 -- Begins, by facts: whichever refusals stand ahead of them.
 module _ (floor : ℕ → ℕ) (t : Tables) (h : History) (s : Standing floor t h) (q mask : ℕ) where
-  pub write-fair : (setpoints : List ℕ) → Writable q mask setpoints t →
-      Fair floor h (stepOf t) (record { event = begun-write q mask setpoints Ok; tables = begunWrite q mask setpoints t })
-  write-fair setpoints a = write-begun floor t h s q mask (a .begin) setpoints (a .few)
+  pub write-fair : (badge : ℕ) (setpoints : List ℕ) → Writable q mask setpoints t →
+      Fair floor h (stepOf t) (record {
+        event = begun-write q mask badge setpoints Ok;
+        tables = begunWrite q mask (badgeOf badge) setpoints t;
+      })
+  write-fair badge setpoints a = write-begun floor t h s q mask (a .begin) badge setpoints (a .few)
 
   pub read-fair : Readable q mask t → Fair floor h (stepOf t) (record { event = begun-read q mask Ok; tables = begunRead q mask t })
   read-fair a = read-begun floor t h s q mask (a .begin) (a .few)

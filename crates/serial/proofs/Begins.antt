@@ -12,10 +12,11 @@ use Rattle.keys.specs.Masks.{hasServer, serversIn}
 use Rattle.coordinator.specs.Latest.{latestTag, latestKey}
 use Rattle.tables.specs.Layout.{stateField, countField, maskField, tagField, tagsField}
 use Rattle.tables.specs.declared.links.Content.{Content}
-use Rattle.rules.specs.Common.{idle, askingKeys, askingSetpoints, askingAll, coordinator, request}
+use Rattle.rules.specs.Common.{setRequest, idle, askingKeys, askingSetpoints, askingAll, coordinator, request}
 use Rattle.rules.specs.Common as rules
 use Rattle.rules.specs.declared.Answer.the-variants.{Ok}
 use Rattle.serial.specs.Steps.{begun-write, begun-read}
+use Rattle.refusals.specs.Steps.{badgeOf}
 use Rattle.serial.specs.History.{changed, writing, History}
 use Rattle.serial.proofs.Places.{changed-same, changed-other, changed-all}
 use Rattle.serial.proofs.Versions.{Version}
@@ -55,30 +56,32 @@ module _ (floor : ℕ → ℕ) (p : Press) (h : History) (tied : Tied floor p h)
       go none e = refl
       go (some v) e = let z : ⊥ = omega (arith, okay .latest i (suc (countIn old)) v e) in absurd z
 
-  abbrev sets : List ℕ → ℕ → Content
-  sets setpoints i = request (keyOf (suc (countIn old)) q) (getD setpoints i 0)
+  abbrev sets : ℕ → List ℕ → ℕ → Content
+  sets badge setpoints i = setRequest (keyOf (suc (countIn old)) q) badge (getD setpoints i 0)
 
-  pub write-kept : (setpoints : List ℕ) → row stateField ≡ rules.writing → row countField ≡ suc (countIn old) → suc (countIn old) < 256 →
-      Kept floor h (begun-write q mask setpoints Ok) (begun-press (sends mask (sets setpoints)))
-  write-kept setpoints state count small = (
+  pub write-kept : (badge : ℕ) (setpoints : List ℕ) → row stateField ≡ rules.writing → row countField ≡ suc (countIn old) →
+      suc (countIn old) < 256 →
+      Kept floor h (begun-write q mask badge setpoints Ok) (begun-press (sends mask (sets (badgeOf badge) setpoints)))
+  write-kept badge setpoints state count small = (
     idling .is,
     rw (idling .is) (begun-tied floor p h tied step writes reads q new _ (record {
       latest = λ i n v e. omega (arith, okay .latest i n v e, count);
       activity = at-writing state (record {
+        badge = badgeOf badge;
         setpoints = setpoints;
         begin = h .clock;
         is = rw masked;
         few = omega (arith, count);
         bound = bound′;
         links = λ i l. by-test (hasServer mask i)
-            (λ e. rw (sends-masked mask (sets setpoints) i e) (rw count, refl, bound i e, rw count (next-none i)))
-            (λ e. rw (sends-other mask (sets setpoints) i e) (λ m. absurd (not-both (rw masked at m) e)));
+            (λ e. rw (sends-masked mask (sets (badgeOf badge) setpoints) i e) (rw count, refl, bound i e, rw count (next-none i)))
+            (λ e. rw (sends-other mask (sets (badgeOf badge) setpoints) i e) (λ m. absurd (not-both (rw masked at m) e)));
       });
     })),
   )
     where
       new : Client
-      new = clientOf row (sends mask (sets setpoints))
+      new = clientOf row (sends mask (sets (badgeOf badge) setpoints))
 
   module _ (count : row countField ≡ countIn old) where
     latest′ : (i n : ℕ) (v : Version) → x .lookup i (keyOf n q) (x .held i) ≡ some v → n ≤ row countField

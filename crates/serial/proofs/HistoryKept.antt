@@ -13,6 +13,7 @@ use Rattle.rules.specs.declared.Arrival.{Arrival}
 use Rattle.rules.specs.declared.Arrival.the-variants as arrival
 use Rattle.rules.specs.declared.Delivered.{Delivered}
 use Rattle.serial.specs.Steps.{Event, opened, begun-write, begun-read, requested, replied}
+use Rattle.refusals.specs.Steps.{badgeOf}
 use Rattle.serial.specs.History.{Value, valueOpened, valueWritten, changed, Transaction, Doing, nothing, writing}
 use Rattle.serial.specs.History.{tagged, reading, History, historyOf, passed, turned, begun, delivered, writeOf, given, entered}
 use Rattle.serial.specs.History.{ended, wrote, showed, arrived, fresh, extraOf, atCoordinator, after}
@@ -71,7 +72,8 @@ module _ (tagsAt : ℕ → ℕ) (clock tags : ℕ) where
 
   doing-on : (old : ℕ) → old ≤ tags → (floor : ℕ) (c : Doing) → DoingOk clock old tagsAt floor c → DoingOk (suc clock) tags tagsAt′ floor c
   doing-on old l floor nothing h = tt
-  doing-on old l floor (writing mask setpoints begin) h = (omega arith, omega (arith, before begin (omega (arith, h .0)), h .1), omega (arith, h .2))
+  doing-on old l floor (writing mask badge setpoints begin) h =
+      (omega arith, omega (arith, before begin (omega (arith, h .0)), h .1), omega (arith, h .2))
   doing-on old l floor (tagged tag) h = (h .0, omega (arith, h .1))
   doing-on old l floor (reading mask begin deliveries) h = (omega arith, omega (arith, before begin (omega (arith, h .0)), h .1), omega (arith, h .2))
 
@@ -130,15 +132,16 @@ module _ (tagsAt floor : ℕ → ℕ) (h : History) (ok : HistoryOk tagsAt floor
 
   delivered-ok : (q : ℕ) (c : Doing) → h .doing q ≡ c → More (h .extra) c → HistoryOk now′ floor (delivered c q h)
   delivered-ok q nothing e m = absurd m
-  delivered-ok q (writing mask setpoints begin) e m = passed-ok
+  delivered-ok q (writing mask badge setpoints begin) e m = passed-ok
   delivered-ok q (tagged tag) e m = passed-ok
   delivered-ok q (reading mask begin deliveries) e m =
       turned-ok q (reading mask begin (suc deliveries)) m (let d : DoingOk (suc (h .clock)) (h .tags) now′ (floor q) (reading mask begin deliveries) = rw e at (old-doing q) in d)
 
-  given-ok : (q mask : ℕ) (setpoints : List ℕ) (begin : ℕ) → h .doing q ≡ writing mask setpoints begin → HistoryOk more floor (given q mask setpoints begin h)
-  given-ok q mask setpoints begin e =
+  given-ok : (q mask badge : ℕ) (setpoints : List ℕ) (begin : ℕ) → h .doing q ≡ writing mask badge setpoints begin →
+      HistoryOk more floor (given q mask badge setpoints begin h)
+  given-ok q mask badge setpoints begin e =
       let c : (begin < h .clock) × (tagsAt begin ≤ floor q) × (floor q ≤ h .tags) = rw e at (ok .doing q) in
-      let new = writeOf q mask (valueWritten (suc (h .tags)) setpoints) (suc (h .tags)) begin none in
+      let new = writeOf q mask (valueWritten (suc (h .tags)) badge setpoints) (suc (h .tags)) begin none in
       let was : more begin ≡ tagsAt begin = before tagsAt (h .clock) (suc (h .tags)) begin (omega (arith, c .0)) in
       record {
         rising = rising-on tagsAt (h .clock) (suc (h .tags)) (h .tags) (omega arith) (ok .now) (ok .rising);
@@ -222,7 +225,7 @@ module _ (tagsAt floor : ℕ → ℕ) (h : History) (ok : HistoryOk tagsAt floor
 
   entered-ok : (q : ℕ) (c : Doing) → h .doing q ≡ c → More (h .extra) c → (t : ℕ → ℕ) × HistoryOk t floor (entered c q h)
   entered-ok q nothing e m = absurd m
-  entered-ok q (writing mask setpoints begin) e m = (more, given-ok q mask setpoints begin e)
+  entered-ok q (writing mask badge setpoints begin) e m = (more, given-ok q mask badge setpoints begin e)
   entered-ok q (tagged tag) e m = (now′, passed-ok)
   entered-ok q (reading mask begin deliveries) e m = (now′, delivered-ok q (reading mask begin deliveries) e m)
 
@@ -256,8 +259,12 @@ fresh-ok floor initial extra = record {
 pub after-ok : (tagsAt floor : ℕ → ℕ) (h : History) (ok : HistoryOk tagsAt floor h) (event : Event) → Owed floor h event → Next tagsAt floor h ok event
 after-ok tagsAt floor h ok (opened method k p setpoints Ok) owed = ((λ c. 0), fresh-ok floor (valueOpened setpoints) (extraOf method))
 after-ok tagsAt floor h ok (opened method k p setpoints (Refused n)) owed = (now′ tagsAt floor h ok, passed-ok tagsAt floor h ok)
-after-ok tagsAt floor h ok (begun-write q mask setpoints Ok) owed = rw owed (now′ tagsAt floor h ok, begun-ok tagsAt floor h ok q (writing mask setpoints (h .clock)) tt (begin-now tagsAt floor h ok (h .clock) refl))
-after-ok tagsAt floor h ok (begun-write q mask setpoints (Refused n)) owed = (now′ tagsAt floor h ok, passed-ok tagsAt floor h ok)
+after-ok tagsAt floor h ok (begun-write q mask badge setpoints Ok) owed = rw owed (
+  now′ tagsAt floor h ok,
+  begun-ok tagsAt floor h ok q (writing mask (badgeOf badge) setpoints (h .clock)) tt
+      (begin-now tagsAt floor h ok (h .clock) refl),
+)
+after-ok tagsAt floor h ok (begun-write q mask badge setpoints (Refused n)) owed = (now′ tagsAt floor h ok, passed-ok tagsAt floor h ok)
 after-ok tagsAt floor h ok (begun-read q mask Ok) owed = rw (owed .0) (now′ tagsAt floor h ok, begun-ok tagsAt floor h ok q (reading mask (h .clock) 0) (owed .1) (begin-now tagsAt floor h ok (h .clock) refl))
 after-ok tagsAt floor h ok (begun-read q mask (Refused n)) owed = (now′ tagsAt floor h ok, passed-ok tagsAt floor h ok)
 after-ok tagsAt floor h ok (requested q i Ok) owed = requested-ok tagsAt floor h ok q (atCoordinator i) owed

@@ -29,7 +29,7 @@ Rising clock tagsAt = (c d : ℕ) → c ≤ d → d ≤ clock → tagsAt c ≤ t
 
 abbrev pub DoingOk : ℕ → ℕ → (ℕ → ℕ) → ℕ → Doing → Type 0
 DoingOk clock tags tagsAt floor nothing = Unit {0}
-DoingOk clock tags tagsAt floor (writing mask setpoints begin) = (begin < clock) × (tagsAt begin ≤ floor) × (floor ≤ tags)
+DoingOk clock tags tagsAt floor (writing mask badge setpoints begin) = (begin < clock) × (tagsAt begin ≤ floor) × (floor ≤ tags)
 DoingOk clock tags tagsAt floor (tagged tag) = (1 ≤ tag) × (tag ≤ tags)
 DoingOk clock tags tagsAt floor (reading mask begin deliveries) = (begin < clock) × (tagsAt begin ≤ floor) × (floor ≤ tags)
 

@@ -37,12 +37,12 @@ Masked c i = hasServer (maskIn c) i ≡ true
 
 -- State 1. A server that was sent the setpoint holds it, or the request is still under way and no version bears the key.
 module _ (x : World) (q : ℕ) (c : Client) where
-  abbrev pub WriteLink : List ℕ → ℕ → Content → Type 0
-  WriteLink setpoints i Nothing = Masked c i → Holds x i (own q c) (sentOf setpoints i)
-  WriteLink setpoints i (Request w) =
-      (w .key ≡ own q c) × (carried w ≡ sentOf setpoints i) × (i < x .servers) ×
+  abbrev pub WriteLink : ℕ → List ℕ → ℕ → Content → Type 0
+  WriteLink badge setpoints i Nothing = Masked c i → Holds x i (own q c) (sentOf badge setpoints i)
+  WriteLink badge setpoints i (Request w) =
+      (w .key ≡ own q c) × (carried w ≡ sentOf badge setpoints i) × (i < x .servers) ×
       (x .lookup i (own q c) (x .held i) ≡ none)
-  WriteLink setpoints i (Reply w) = Holds x i (own q c) (sentOf setpoints i)
+  WriteLink badge setpoints i (Reply w) = Holds x i (own q c) (sentOf badge setpoints i)
 
 -- State 3. The reply's number is that of the entries, one more than the last tag.
 module _ (x : World) (floor : ℕ) where
@@ -74,21 +74,23 @@ module _ (x : World) (floor : ℕ) (c : Client) where
 
 module _ (extra : ℕ) (x : World) (floor q : ℕ) (c : Client) (doing : Doing) where
   pub record Writing : Type 0 where
+    pub badge : ℕ
     pub setpoints : List ℕ
     pub begin : ℕ
-    pub is : doing ≡ writing (maskIn c) setpoints begin
+    pub is : doing ≡ writing (maskIn c) badge setpoints begin
     pub few : countIn c < 256
     pub bound : (i : ℕ) → Masked c i → i < x .servers
-    pub links : (i : ℕ) → i < targets → WriteLink x q c setpoints i (c .link i)
+    pub links : (i : ℕ) → i < targets → WriteLink x q c badge setpoints i (c .link i)
 
   -- State 2. The request: all servers of the mask hold the key. The reply: the WRITE has its tag.
   pub record Stored : Type 0 where
+    pub badge : ℕ
     pub setpoints : List ℕ
     pub begin : ℕ
-    pub is : doing ≡ writing (maskIn c) setpoints begin
+    pub is : doing ≡ writing (maskIn c) badge setpoints begin
     pub few : countIn c < 256
     pub bound : (i : ℕ) → Masked c i → i < x .servers
-    pub all : (i : ℕ) → Masked c i → Holds x i (own q c) (sentOf setpoints i)
+    pub all : (i : ℕ) → Masked c i → Holds x i (own q c) (sentOf badge setpoints i)
 
   abbrev pub EnterLink : Content → Type 0
   EnterLink Nothing = ⊥
@@ -172,16 +174,28 @@ pub record Grown (q : ℕ) (x y : World) : Type 0 where
   pub own : (i n : ℕ) → y .lookup i (keyOf n q) (y .held i) ≡ x .lookup i (keyOf n q) (x .held i)
 
 module _ (extra floor q : ℕ) (x y : World) (g : Grown q x y) (c : Client) (d : Doing) where
-  write-frame : (setpoints : List ℕ) (i : ℕ) (l : Content) → WriteLink x q c setpoints i l → WriteLink y q c setpoints i l
-  write-frame setpoints i Nothing h = λ m. g .own i (countIn c) ∙ h m
-  write-frame setpoints i (Request w) h = (h .0, h .1, rw (g .servers) (h .2), g .own i (countIn c) ∙ h .3)
-  write-frame setpoints i (Reply w) h = g .own i (countIn c) ∙ h
+  write-frame : (badge : ℕ) (setpoints : List ℕ) (i : ℕ) (l : Content) → WriteLink x q c badge setpoints i l →
+      WriteLink y q c badge setpoints i l
+  write-frame badge setpoints i Nothing h = λ m. g .own i (countIn c) ∙ h m
+  write-frame badge setpoints i (Request w) h = (h .0, h .1, rw (g .servers) (h .2), g .own i (countIn c) ∙ h .3)
+  write-frame badge setpoints i (Reply w) h = g .own i (countIn c) ∙ h
 
   enter-frame : (l : Content) → EnterLink extra x floor q c d l → EnterLink extra y floor q c d l
   enter-frame Nothing h = h
   enter-frame (Request w) h =
-      let s = h .2 in
-      (h .0, h .1, record { setpoints = s .setpoints; begin = s .begin; is = s .is; few = s .few; bound = λ i m. rw (g .servers) (s .bound i m); all = λ i m. g .own i (countIn c) ∙ s .all i m })
+      let s = h .2 in (
+        h .0,
+        h .1,
+        record {
+          badge = s .badge;
+          setpoints = s .setpoints;
+          begin = s .begin;
+          is = s .is;
+          few = s .few;
+          bound = λ i m. rw (g .servers) (s .bound i m);
+          all = λ i m. g .own i (countIn c) ∙ s .all i m;
+        },
+      )
   enter-frame (Reply w) h = h
 
   keys-frame : (deliveries : ℕ) (l : Content) → KeysLink x floor deliveries l → KeysLink y floor deliveries l
@@ -208,7 +222,15 @@ module _ (extra floor q : ℕ) (x y : World) (g : Grown q x y) (c : Client) (d :
   activity-frame : Activity extra x floor q c d → Activity extra y floor q c d
   activity-frame (at-rest e a) = at-rest e (record { is = a .is; links = a .links })
   activity-frame (at-writing e a) =
-      at-writing e (record { setpoints = a .setpoints; begin = a .begin; is = a .is; few = a .few; bound = λ i m. rw (g .servers) (a .bound i m); links = λ i l. write-frame (a .setpoints) i (c .link i) (a .links i l) })
+      at-writing e (record {
+        badge = a .badge;
+        setpoints = a .setpoints;
+        begin = a .begin;
+        is = a .is;
+        few = a .few;
+        bound = λ i m. rw (g .servers) (a .bound i m);
+        links = λ i l. write-frame (a .badge) (a .setpoints) i (c .link i) (a .links i l);
+      })
   activity-frame (at-entering e a) = at-entering e (record { others = a .others; entry = enter-frame (c .link coordinator) (a .entry) })
   activity-frame (at-keys e a) =
       at-keys e (record {

@@ -15,7 +15,8 @@ use Rattle.ranges.specs.PickedLaws.{is-picked, not-picked}
 use Rattle.keys.specs.Masks.{hasServer}
 use Rattle.tables.specs.Rows.{HasRow}
 use Rattle.tables.specs.Layout.{clientWidth, clientWord}
-use Rattle.tables.specs.Links.{targets, HasLinks, putLink, isEmpty, ContentFits, link-same, link-other, link-length}
+use Rattle.tables.specs.Links.{targets, HasLinks, putLink, isEmpty, ContentFits}
+use Rattle.tables.specs.LinkLaws.{link-same, link-other, link-length}
 use Rattle.tables.specs.declared.links.Content.{Content}
 use Rattle.tables.specs.declared.links.Content.the-variants.{Nothing, Request, Reply}
 use Rattle.tables.specs.declared.links.Link.{Link}

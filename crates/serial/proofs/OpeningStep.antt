@@ -1,6 +1,6 @@
 -- An accepted opening ties its tables to a history in which nothing has happened yet.
 use Prim.Native.Nat.{ℕ, _+_, _*_, _≤_, _<_}
-use mathlib.Core.Path.{_≡_, refl, ap, _∙_}
+use mathlib.Core.Path.{_≡_, refl, ap, _∙_, ap₂}
 use mathlib.Core.Option.{some}
 use mathlib.Core.List.{List, [], _∷_}
 use native.Mathlib.Omega.{arith}
@@ -66,7 +66,7 @@ module _ (m k p : ℕ) (setpoints : List ℕ) (t : Tables) (o : Openable m k p s
         place = 0;
         first = record { within = omega arith; before = λ u d. let z : ⊥ = omega arith in absurd z; here = λ d. eq-eqb _ _ (words .key i l) };
         below = omega arith;
-        kept = ap versionOf (words .value i l);
+        kept = ap₂ versionOf (words .badge i l) (words .value i l);
       }))
 
   -- no other key is held

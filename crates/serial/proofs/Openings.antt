@@ -19,7 +19,7 @@ module _ (P : History → Tables → Type 0) where
   abbrev pub Starts : Event → Tables → Type 0
   Starts (opened method k p setpoints Ok) t = P (openedWith method setpoints) t
   Starts (opened method k p setpoints (Refused n)) t = Unit {0}
-  Starts (begun-write q mask setpoints answer) t = Unit {0}
+  Starts (begun-write q mask badge setpoints answer) t = Unit {0}
   Starts (begun-read q mask answer) t = Unit {0}
   Starts (requested q i answer) t = Unit {0}
   Starts (replied q i d) t = Unit {0}
@@ -37,7 +37,7 @@ module _ (P : History → Tables → Type 0) where
       (left Ok (rules.opened method k p setpoints t)) t
       (λ m e. tt)
       (λ e. facts method k p setpoints t (openable method k p setpoints t e))
-  play-starts facts (beginning-write q mask setpoints) t = tt
+  play-starts facts (beginning-write q mask badge setpoints) t = tt
   play-starts facts (beginning-read q mask) t = tt
   play-starts facts (request q i) t = tt
   play-starts facts (reply q i) t = tt

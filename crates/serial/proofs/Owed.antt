@@ -22,7 +22,7 @@ valueIn h tag i = valueAt (h .initial) (h .write) tag i
 -- a delivery that does not end a READ leaves deliveries to come
 abbrev pub More : ℕ → Doing → Type 0
 More extra nothing = ⊥
-More extra (writing mask setpoints begin) = Unit {0}
+More extra (writing mask badge setpoints begin) = Unit {0}
 More extra (tagged tag) = Unit {0}
 More extra (reading mask begin deliveries) = suc deliveries < enough extra mask
 
@@ -48,8 +48,8 @@ OwedArrival floor h (arrival.Refused n) d q = Unit {0}
 
 abbrev pub Owed : (ℕ → ℕ) → History → Event → Type 0
 Owed floor h (opened method k p setpoints answer) = Unit {0}
-Owed floor h (begun-write q mask setpoints Ok) = h .doing q ≡ nothing
-Owed floor h (begun-write q mask setpoints (Refused n)) = Unit {0}
+Owed floor h (begun-write q mask badge setpoints Ok) = h .doing q ≡ nothing
+Owed floor h (begun-write q mask badge setpoints (Refused n)) = Unit {0}
 Owed floor h (begun-read q mask Ok) = (h .doing q ≡ nothing) × (0 < enough (h .extra) mask)
 Owed floor h (begun-read q mask (Refused n)) = Unit {0}
 Owed floor h (requested q i Ok) = More (h .extra) (h .doing q)
@@ -59,8 +59,8 @@ Owed floor h (replied q i d) = OwedArrival floor h (d .arrival) d q
 -- a begin sets the client's floor
 abbrev pub floorAfter : Event → History → (ℕ → ℕ) → ℕ → ℕ
 floorAfter (opened method k p setpoints answer) h floor = floor
-floorAfter (begun-write q mask setpoints Ok) h floor = changed floor q (h .tags)
-floorAfter (begun-write q mask setpoints (Refused n)) h floor = floor
+floorAfter (begun-write q mask badge setpoints Ok) h floor = changed floor q (h .tags)
+floorAfter (begun-write q mask badge setpoints (Refused n)) h floor = floor
 floorAfter (begun-read q mask Ok) h floor = changed floor q (h .tags)
 floorAfter (begun-read q mask (Refused n)) h floor = floor
 floorAfter (requested q i answer) h floor = floor

@@ -9,6 +9,7 @@ use Rattle.keys.specs.declared.Key.{Key}
 use Rattle.keys.specs.Masks.{hasServer}
 use Rattle.coordinator.specs.Latest.{latestKey}
 use Rattle.tables.specs.Layout.{clientWidth, clientWord, stateField, countField, maskField, tagField, setpointsField, receivedField}
+use Rattle.tables.specs.Layout.{badgesField}
 use Rattle.tables.specs.Layout.{tagsField}
 use Rattle.tables.specs.Links.{targets, linkAt}
 use Rattle.tables.specs.Tables.{Tables, methodOf, serversOf, stepOf, entriesOf, writesOf, readsOf, heldOf}
@@ -73,6 +74,10 @@ setpointIn c i = c .row (setpointsField + i)
 abbrev pub receivedIn : Client → ℕ → ℕ
 receivedIn c i = c .row (receivedField + i)
 
+-- the badge that it stores with it
+abbrev pub badgeIn : Client → ℕ → ℕ
+badgeIn c i = c .row (badgesField + i)
+
 -- the tag that it keeps of a server
 abbrev pub keptTagIn : Client → ℕ → ℕ
 keptTagIn c i = c .row (tagsField + i)
@@ -125,10 +130,10 @@ keptAt x tag i = keptOf (x .value tag i)
 
 -- what a message carries of a value, and what a client's row has of it
 abbrev pub carried : Contents → Version
-carried w = versionOf (w .number)
+carried w = versionOf (w .badge) (w .number)
 
 abbrev pub storedIn : Client → ℕ → Version
-storedIn c i = versionOf (setpointIn c i)
+storedIn c i = versionOf (badgeIn c i) (setpointIn c i)
 
 abbrev pub world : Press → History → World
 world p h = worldOf (p .shared) (h .tags) (valueIn h)

@@ -1,6 +1,6 @@
 -- The delivery of a reply keeps the tie and pays what it owes.
 use Prim.Native.Nat.{ℕ, suc, _+_, _-_, _*_, _≤_, _<_}
-use mathlib.Core.Path.{_≡_, refl, sym, ap, ap₂, _∙_}
+use mathlib.Core.Path.{_≡_, refl, sym, ap, _∙_}
 use mathlib.Core.Bool.{Bool, true}
 use mathlib.Core.Option.{some, Option·some-injective}
 use mathlib.Core.List.{List}
@@ -13,7 +13,7 @@ use Rattle.ranges.specs.LastLaws.{last-below, last-passes, last-most}
 use Rattle.keys.specs.Keys.{keyOf}
 use Rattle.keys.specs.Masks.{hasServer, serversIn}
 use Rattle.coordinator.specs.Latest.{latestTag, latestKey}
-use Rattle.tables.specs.Layout.{stateField, countField, maskField, tagField, setpointsField, receivedField, tagsField}
+use Rattle.tables.specs.Layout.{stateField, countField, maskField, tagField, setpointsField, receivedField, tagsField, badgesField}
 use Rattle.tables.specs.Links.{targets}
 use Rattle.tables.specs.declared.links.Contents.{Contents}
 use Rattle.tables.specs.declared.links.Content.{Content}
@@ -21,16 +21,18 @@ use Rattle.tables.specs.declared.links.Content.the-variants.{Nothing, Request, 
 use Rattle.rules.specs.Answers.{nothingShown}
 use Rattle.rules.specs.Common.{idle, entering, askingSetpoints, askingAll, coordinator, request}
 use Rattle.rules.specs.Common as rules
-use Rattle.rules.specs.Choice.{hasVersion, serves, qualifies, chosenTag, chosenSetpoint}
+use Rattle.rules.specs.Choice.{hasVersion, serves, qualifies, chosenTag, chosenPlace, chosenSetpoint, chosenBadge}
 use Rattle.rules.specs.declared.Arrival.the-variants as arrival
 use Rattle.serial.specs.Steps.{replied}
-use Rattle.serial.specs.History.{Value, valueOf, changed, nothing, writing, tagged, History, ended}
+use Rattle.serial.specs.History.{Value, changed, nothing, writing, tagged, History, ended}
 use Rattle.serial.proofs.Places.{changed-same, changed-other, changed-all, changed-both}
 use Rattle.serial.proofs.Owed.{valueAt}
 use Rattle.serial.proofs.HistoryKept.{value-ended}
-use Rattle.serial.proofs.Versions.{Version, versionOf, sentOf, found-place, place-found, found-more}
+use Rattle.serial.specs.Fields.{value-same}
+use Rattle.serial.proofs.Versions.{Version, versionAt, sentOf, found-place, place-found, found-more}
 use Rattle.serial.proofs.Press.{Shared, renumbered, Client, clientOf, Press, pressOf, stateIn, countIn, maskIn, tagIn, setpointIn}
-use Rattle.serial.proofs.Press.{keptTagIn, receivedIn, weight, toCome, sends, World, worldOf, keptAt, carried, world}
+use Rattle.serial.proofs.Press.{badgeIn}
+use Rattle.serial.proofs.Press.{keptTagIn, receivedIn, weight, toCome, sends, World, worldOf, keptAt, carried, storedIn, world}
 use Rattle.serial.proofs.Links.{come-changed, all-empty, no-coordinator, sends-masked, sends-other, sends-come}
 use Rattle.serial.proofs.Invariant.{Holds, WriteLink, Writing, Entering, AskingKeys, GetLink, Getting, Snapshot, AllLink, AskingAll, at-rest, at-writing, at-entering, at-getting, at-all, ClientOk, Tied, Grown, client-frame}
 use Rattle.serial.proofs.Kept.{Kept, turned-tied, moved-tied}
@@ -62,10 +64,10 @@ module _ (floor : ℕ → ℕ) (p : Press) (h : History) (tied : Tied floor p h)
 
     -- A server acknowledged.
     module _ (a : Writing (h .extra) x (floor q) q c (h .doing q)) where
-      done-link : (j : ℕ) → j < targets → WriteLink x q c (a .setpoints) j (emptied j)
+      done-link : (j : ℕ) → j < targets → WriteLink x q c (a .badge) (a .setpoints) j (emptied j)
       done-link j l =
-          changed-all (c .link) i Nothing (λ j k. j < targets → WriteLink x q c (a .setpoints) j k)
-          (λ m k. let e : Holds x i (keyOf (countIn c) q) (sentOf (a .setpoints) i) = rw lk at (a .links i hi) in e)
+          changed-all (c .link) i Nothing (λ j k. j < targets → WriteLink x q c (a .badge) (a .setpoints) j k)
+          (λ m k. let e : Holds x i (keyOf (countIn c) q) (sentOf (a .badge) (a .setpoints) i) = rw lk at (a .links i hi) in e)
           (λ j ne m. a .links j m) j l
 
       pub done-wait-kept : stateIn c ≡ rules.writing → Kept floor h (replied q i (nothingShown arrival.Wait)) (afterwards (withLink c i Nothing))
@@ -73,7 +75,16 @@ module _ (floor : ℕ → ℕ) (p : Press) (h : History) (tied : Tied floor p h)
         rw (a .is) tt,
         rw (a .is) (moved-tied floor p h tied step writes reads q (withLink c i Nothing) (record {
           latest = okay .latest;
-          activity = at-writing state (record { setpoints = a .setpoints; begin = a .begin; is = a .is; few = a .few; bound = a .bound; links = done-link });
+          activity =
+              at-writing state (record {
+                badge = a .badge;
+                setpoints = a .setpoints;
+                begin = a .begin;
+                is = a .is;
+                few = a .few;
+                bound = a .bound;
+                links = done-link;
+              });
         })),
       )
 
@@ -91,6 +102,7 @@ module _ (floor : ℕ → ℕ) (p : Press) (h : History) (tied : Tied floor p h)
                   rw count,
                   rw mask,
                   record {
+                    badge = a .badge;
                     setpoints = a .setpoints;
                     begin = a .begin;
                     is = rw mask (a .is);
@@ -103,28 +115,32 @@ module _ (floor : ℕ → ℕ) (p : Press) (h : History) (tied : Tied floor p h)
             })),
           )
         where
-          here : (j : ℕ) → hasServer (maskIn c) j ≡ true → Holds x j (keyOf (countIn c) q) (sentOf (a .setpoints) j)
+          here : (j : ℕ) → hasServer (maskIn c) j ≡ true → Holds x j (keyOf (countIn c) q) (sentOf (a .badge) (a .setpoints) j)
           here j m =
               let l : j < targets = omega (arith, a .bound j m) in
-              let e : WriteLink x q c (a .setpoints) j Nothing = rw (all-empty emptied all j l) at (done-link j l) in
+              let e : WriteLink x q c (a .badge) (a .setpoints) j Nothing = rw (all-empty emptied all j l) at (done-link j l) in
               e m
 
     -- A server's setpoint arrived.
     module _ (a : Getting (h .extra) x (floor q) q c (h .doing q)) (row : ℕ → ℕ) (count : row countField ≡ countIn c) (mask : row maskField ≡ maskIn c) (tag : row tagField ≡ tagIn c)
-        (new : row (setpointsField + i) ≡ w .number) (old : (j : ℕ) → (j ≡ i → ⊥) → row (setpointsField + j) ≡ setpointIn c j)
-        (tags : (j : ℕ) → row (tagsField + j) ≡ keptTagIn c j) where
+        (new : row (setpointsField + i) ≡ w .number) (old : (j : ℕ) → j < 16 → (j ≡ i → ⊥) → row (setpointsField + j) ≡ setpointIn c j)
+        (badge : row (badgesField + i) ≡ w .badge) (badges : (j : ℕ) → j < 16 → (j ≡ i → ⊥) → row (badgesField + j) ≡ badgeIn c j)
+        (tags : (j : ℕ) → j < 16 → row (tagsField + j) ≡ keptTagIn c j) where
       abbrev got : Client
       got = clientOf row emptied
 
+      below : (j : ℕ) → hasServer (maskIn c) j ≡ true → j < 16
+      below j m = omega (arith, a .bound j m, few)
+
       same-get : (j : ℕ) → (j ≡ i → ⊥) → (l : Content) → GetLink x c j l → GetLink x got j l
-      same-get j ne Nothing k = λ m. rw (old j ne, tag) (k (rw mask at m))
+      same-get j ne Nothing k = λ m. let n = rw mask at m in let l = below j n in rw (old j l ne, badges j l ne, tag) (k n)
       same-get j ne (Request v) k = rw tag k
       same-get j ne (Reply v) k = rw tag k
 
       got-link : (j : ℕ) → j < targets → GetLink x got j (emptied j)
       got-link j l =
           changed-all (c .link) i Nothing (λ j k. j < targets → GetLink x got j k)
-          (λ k m. let e : carried w ≡ keptAt x (tagIn c) i = rw lk at (a .links i hi) in rw (new, tag) e)
+          (λ k m. let e : carried w ≡ keptAt x (tagIn c) i = rw lk at (a .links i hi) in rw (new, badge, tag) e)
           (λ j ne k. same-get j ne (c .link j) (a .links j k)) j l
 
       pub got-wait-kept : 0 < toCome emptied → row stateField ≡ askingSetpoints → Kept floor h (replied q i (nothingShown arrival.Wait)) (afterwards got)
@@ -141,7 +157,7 @@ module _ (floor : ℕ → ℕ) (p : Press) (h : History) (tied : Tied floor p h)
             bound = λ j m. a .bound j (rw mask at m);
             count = rw mask (omega (arith, a .count, come));
             busy = left;
-            tags = λ j m. rw tag (tags j ∙ a .tags j (rw mask at m));
+            tags = λ j m. let n = rw mask at m in rw tag (tags j (below j n) ∙ a .tags j n);
             links = got-link;
           });
         })),
@@ -151,8 +167,10 @@ module _ (floor : ℕ → ℕ) (p : Press) (h : History) (tied : Tied floor p h)
       pub got-end-kept : toCome emptied ≡ 0 → row stateField ≡ idle →
           (shown : List ℕ) → ((j : ℕ) → hasServer (maskIn c) j ≡ true → getD shown j 0 ≡ row (setpointsField + j)) →
           (from : List ℕ) → ((j : ℕ) → hasServer (maskIn c) j ≡ true → getD from j 0 ≡ row (tagsField + j)) →
-          Kept floor h (replied q i (record { arrival = arrival.Read (tagIn c); setpoints = shown; tags = from })) (afterwards got)
-      got-end-kept all state shown shows from comes = (
+          (hands : List ℕ) → ((j : ℕ) → hasServer (maskIn c) j ≡ true → getD hands j 0 ≡ row (badgesField + j)) →
+          Kept floor h (replied q i (record { arrival = arrival.Read (tagIn c); setpoints = shown; tags = from; badges = hands }))
+          (afterwards got)
+      got-end-kept all state shown shows from comes hands by = (
         record {
           mask = maskIn c;
           begin = a .begin;
@@ -160,7 +178,9 @@ module _ (floor : ℕ → ℕ) (p : Press) (h : History) (tied : Tied floor p h)
           is = a .is;
           low = a .low;
           high = a .high;
-          shows = λ j m. ap₂ valueOf (shows j m ∙ here j m) (comes j m ∙ tags j ∙ a .tags j m);
+          shows = λ j m.
+              let v = here j m in
+              value-same (shows j m ∙ ap (λ (u : Version). u .setpoint) v) (comes j m ∙ tags j (below j m) ∙ a .tags j m) (by j m ∙ ap (λ (u : Version). u .badge) v);
           count = omega (arith, a .count, come);
         },
         rw (a .is) (
@@ -169,11 +189,11 @@ module _ (floor : ℕ → ℕ) (p : Press) (h : History) (tied : Tied floor p h)
             ),
       )
         where
-          here : (j : ℕ) → hasServer (maskIn c) j ≡ true → row (setpointsField + j) ≡ x .value (tagIn c) j .setpoint
+          here : (j : ℕ) → hasServer (maskIn c) j ≡ true → storedIn got j ≡ keptAt x (tagIn c) j
           here j m =
               let l : j < targets = omega (arith, a .bound j m) in
               let e : GetLink x got j Nothing = rw (all-empty emptied all j l) at (got-link j l) in
-              ap (λ (v : Version). v .setpoint) (rw tag at (e (rw mask m)))
+              rw tag at (e (rw mask m))
 
     -- C: a server or the coordinator told how much it holds.
     module _ (a : AskingAll (h .extra) x (floor q) q c (h .doing q)) (row : ℕ → ℕ) (mask : row maskField ≡ maskIn c)
@@ -244,21 +264,23 @@ module _ (floor : ℕ → ℕ) (p : Press) (h : History) (tied : Tied floor p h)
         high = omega (arith, last-below fits (received coordinator) (omega (arith, entries .0)), entries .1)
 
         pub chosen-value : (j : ℕ) → hasServer (maskIn c) j ≡ true →
-            chosenSetpoint (s .keys) (s .values) (s .log) received tag j ≡ x .value tag j .setpoint
+            versionAt (s .values) j (chosenPlace (s .keys) (s .log) received tag j) ≡ keptAt x tag j
         chosen-value j m =
             let l : j < s .servers = a .bound j m in
-            let v = versionOf (chosenSetpoint (s .keys) (s .values) (s .log) received tag j) in
+            let v = versionAt (s .values) j (chosenPlace (s .keys) (s .log) received tag j) in
             let has : hasVersion (s .keys) (s .log) received tag j ≡ true
             = rw m at (all-at (serves (s .keys) (s .log) (maskIn c) received tag) (s .servers) tag-fits j l) in
             let found = found-more (s .keys) (s .values) j (x .key tag j) (received j) (s .held j) v (snapshot j (omega arith) .1 m .0) (place-found (s .keys) (s .values) j (x .key tag j) (received j) (ltb-true _ _ has)) in
-            ap (λ (v : Version). v .setpoint) (Option·some-injective _ _ (sym found ∙ tied .value tag high j l))
+            Option·some-injective _ _ (sym found ∙ tied .value tag high j l)
 
         pub told-end-kept : (row′ : ℕ → ℕ) → row′ stateField ≡ idle → row′ countField ≡ countIn c → (shown : List ℕ) →
             ((j : ℕ) → hasServer (maskIn c) j ≡ true → getD shown j 0 ≡ chosenSetpoint (s .keys) (s .values) (s .log) received tag j) →
             (from : List ℕ) → ((j : ℕ) → hasServer (maskIn c) j ≡ true → getD from j 0 ≡ latestTag (s .log) j tag) →
-            Kept floor h (replied q i (record { arrival = arrival.Read tag; setpoints = shown; tags = from }))
+            (hands : List ℕ) →
+            ((j : ℕ) → hasServer (maskIn c) j ≡ true → getD hands j 0 ≡ chosenBadge (s .keys) (s .values) (s .log) received tag j) →
+            Kept floor h (replied q i (record { arrival = arrival.Read tag; setpoints = shown; tags = from; badges = hands }))
             (afterwards (clientOf row′ emptied))
-        told-end-kept row′ state count shown shows from comes = (
+        told-end-kept row′ state count shown shows from comes hands by = (
           record {
             mask = maskIn c;
             begin = a .begin;
@@ -266,7 +288,9 @@ module _ (floor : ℕ → ℕ) (p : Press) (h : History) (tied : Tied floor p h)
             is = a .is;
             low = low;
             high = high;
-            shows = λ j m. ap₂ valueOf (shows j m ∙ chosen-value j m) (comes j m ∙ tied .tags tag high j);
+            shows = λ j m.
+                let v = chosen-value j m in
+                value-same (shows j m ∙ ap (λ (u : Version). u .setpoint) v) (comes j m ∙ tied .tags tag high j) (by j m ∙ ap (λ (u : Version). u .badge) v);
             count = omega (arith, a .count, come);
           },
           rw (a .is) (

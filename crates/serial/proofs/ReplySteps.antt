@@ -7,13 +7,16 @@ use native.Mathlib.Omega.{arith}
 use native.Mathlib.Numerals.{add-one}
 use lib.ListN.{getD, length}
 use Rattle.ranges.specs.Tests.{by-equal, by-test}
-use Rattle.keys.specs.Keys.{keyOf, FitsByte, at-word-fits}
+use Rattle.keys.specs.Keys.{keyOf, FitsByte}
+use Rattle.keys.specs.KeyLaws.{at-word-fits}
 use Rattle.keys.specs.Masks.{hasServer}
 use Rattle.coordinator.specs.Latest.{latestKey, latestTagAt}
 use Rattle.tables.specs.Rows.{HasRow, word-same, word-other, word-length}
 use Rattle.tables.specs.Layout.{clientWidth, clientWord, putClientWord, stateField, countField, maskField, tagField, setpointsField}
+use Rattle.tables.specs.Layout.{badgesField}
 use Rattle.tables.specs.Layout.{receivedField, tagsField}
-use Rattle.tables.specs.Links.{targets, HasLinks, linkAt, putLink, link-length}
+use Rattle.tables.specs.Links.{targets, HasLinks, linkAt, putLink}
+use Rattle.tables.specs.LinkLaws.{link-length}
 use Rattle.tables.specs.Tables.{Tables, tablesOf, serversOf, stepOf, writesOf, readsOf, stateOf, countOf, maskOf, recordOf, contentAt}
 use Rattle.tables.specs.declared.links.Contents.{Contents}
 use Rattle.tables.specs.declared.links.Content.{Content}
@@ -24,7 +27,9 @@ use Rattle.rules.specs.WordsLaws.{kept-other, kept-length, kept-there, laid-at,
 use Rattle.rules.specs.Common.{idle, entering, askingKeys, askingSetpoints, askingAll, coordinator, request, counted, nextStep, pending, endedRecord, taggedRecord}
 use Rattle.rules.specs.Common as rules
 use Rattle.rules.specs.Begin.{sentGets, keptTags}
-use Rattle.rules.specs.Reply.{said, emptied, shownSetpoints, shownTags, readShown, onSetDone, onEntered, onKeys, gotSetpoint, onGot}
+use Rattle.rules.specs.Reply.{said, emptied, shownSetpoints, shownTags, shownBadges, readShown, onSetDone, onEntered, onKeys, gotValue}
+use Rattle.rules.specs.Reply.{onGot}
+use Rattle.rules.specs.Reply.{keptBadges, badgeAt}
 use Rattle.rules.specs.Reply.{gotNumber}
 use Rattle.rules.specs.Reply.{receivedIn, setpointAt, keptSetpoints, forgotten, tagChosen, concluded, chosenTags, onAll}
 use Rattle.rules.specs.Reply.{onReplyIn, onReply, replyDelivered}
@@ -35,6 +40,8 @@ use Rattle.serial.specs.Steps.{replied}
 use Rattle.serial.specs.History.{changed, History}
 use Rattle.serial.specs.Consequences.{numberOfArrival, countedArrival}
 use Rattle.serial.proofs.Places.{changed-same, changed-other}
+use Rattle.keeping.specs.Links.{link-asks, reply-kind}
+use Rattle.keeping.specs.States.{masked-server, uses-setpoints}
 use Rattle.serial.proofs.Press.{within, renumbered, Client, clientOf, Press, pressOf, stateIn, countIn, maskIn, tagIn, rowOf, linksOf, sharedOf, view, weight, toCome, sends}
 use Rattle.serial.proofs.View.{within-at, row-put, row-put-other, link-put, link-put-other, view-is, shared-step}
 use Rattle.serial.proofs.Links.{come-changed, all-empty, no-coordinator, sends-come}
@@ -266,50 +273,98 @@ module _ (floor : ℕ → ℕ) (t : Tables) (h : History) (s : Standing floor t 
     got-fair state a =
         by-test (pending (emptied q i t) q)
         (λ b. rw b (
-        moved-fair (gotSetpoint w q i t) (emptied q i t) (t .writes) (t .reads) (nothingShown arrival.Wait)
-        (one-word (setpointsField + i) (w .number) (omega arith)) (one-others (setpointsField + i) (w .number) (omega arith)) gone-links gone-others (λ z. omega arith) refl
+        moved-fair (gotValue w q i t) (emptied q i t) (t .writes) (t .reads) (nothingShown arrival.Wait)
+        got-row got-others gone-links gone-others (λ z. omega arith) refl
         (got-wait-kept floor (view t) h tied (few t q ready) q (in-range t q ready) (stepOf t + 1) (writesOf t) (readsOf t) i hi w link a row
-        (other-word countField (λ e. omega arith)) (other-word maskField (λ e. omega arith)) (other-word tagField (λ e. omega arith))
-        (changed-same (c .row) (setpointsField + i) (w .number)) (λ j d. other-word (setpointsField + j) (λ e. d (omega arith)))
-        (λ j. other-word (tagsField + j) (λ e. omega arith))
-        (come b) (other-word stateField (λ e. omega arith) ∙ state))
-        (gone-budget row askingSetpoints (other-word stateField (λ e. omega arith) ∙ state) (λ e. omega arith) (λ e. omega arith) (λ e. omega arith))
+        (low-word countField (omega arith)) (low-word maskField (omega arith)) (low-word tagField (omega arith))
+        new-setpoint (λ j l d. other-word (setpointsField + j) (λ e. d (omega arith)) (λ e. omega arith))
+        (changed-same _ (badgesField + i) (w .badge))
+        (λ j l d. other-word (badgesField + j) (λ e. omega (arith, server)) (λ e. d (omega arith)))
+        (λ j l. other-word (tagsField + j) (λ e. omega (arith, server)) (λ e. omega arith))
+        (come b) (low-word stateField (omega arith) ∙ state))
+        (gone-budget row askingSetpoints (low-word stateField (omega arith) ∙ state)
+        (λ e. omega arith) (λ e. omega arith) (λ e. omega arith))
         ))
         (λ b. rw (b, ← row-at t q tagField (omega arith)) (
-        moved-fair (putClientWord (gotSetpoint w q i t) q stateField idle) (emptied q i t) (t .writes)
+        moved-fair (putClientWord (gotValue w q i t) q stateField idle) (emptied q i t) (t .writes)
         (endedRecord (recordOf t q) (nextStep t) (taggedRecord (recordOf t q) (tagIn c) (t .reads)))
-        (readShown (tagIn c) (shownTags (gotSetpoint w q i t) q (maskOf t q)) (gotSetpoint w q i t) q (maskOf t q))
-        (two-words (setpointsField + i) (w .number) stateField idle (omega arith) (omega arith)) (two-others (setpointsField + i) (w .number) stateField idle (omega arith) (omega arith)) gone-links gone-others (λ z. omega arith) refl
+        (readShown (tagIn c) (shownTags (gotValue w q i t) q (maskOf t q)) (gotValue w q i t) q (maskOf t q))
+        ended-row ended-others gone-links gone-others (λ z. omega arith) refl
         (got-end-kept floor (view t) h tied (few t q ready) q (in-range t q ready) (stepOf t + 1) (writesOf t) (readsOf t) i hi w link a ended
-        (ended-word countField (λ e. omega arith) (λ e. omega arith)) (ended-word maskField (λ e. omega arith) (λ e. omega arith)) (ended-word tagField (λ e. omega arith) (λ e. omega arith))
-        (changed-other row stateField idle (setpointsField + i) (λ e. omega arith) ∙ changed-same (c .row) (setpointsField + i) (w .number)) (λ j d. ended-word (setpointsField + j) (λ e. d (omega arith)) (λ e. omega arith))
-        (λ j. ended-word (tagsField + j) (λ e. omega arith) (λ e. omega arith))
+        (ended-word countField (λ e. omega arith) ∙ low-word countField (omega arith)) (ended-word maskField (λ e. omega arith) ∙ low-word maskField (omega arith))
+        (ended-word tagField (λ e. omega arith) ∙ low-word tagField (omega arith))
+        (ended-word (setpointsField + i) (λ e. omega arith) ∙ new-setpoint)
+        (λ j l d. ended-word (setpointsField + j) (λ e. omega arith) ∙ other-word (setpointsField + j) (λ e. d (omega arith)) (λ e. omega arith))
+        (ended-word (badgesField + i) (λ e. omega arith) ∙ changed-same _ (badgesField + i) (w .badge))
+        (λ j l d. ended-word (badgesField + j) (λ e. omega arith) ∙ other-word (badgesField + j) (λ e. omega (arith, server)) (λ e. d (omega arith)))
+        (λ j l. ended-word (tagsField + j) (λ e. omega arith) ∙ other-word (tagsField + j) (λ e. omega (arith, server)) (λ e. omega arith))
         (none-left b) (changed-same row stateField idle)
-        (shownSetpoints (gotSetpoint w q i t) q (maskOf t q)) (λ j m. shows setpointsField (omega arith) (omega arith) j m)
-        (shownTags (gotSetpoint w q i t) q (maskOf t q)) (λ j m. shows tagsField (omega arith) (omega arith) j m))
+        (shownSetpoints (gotValue w q i t) q (maskOf t q)) (λ j m. shows setpointsField (omega arith) (omega arith) j m)
+        (shownTags (gotValue w q i t) q (maskOf t q)) (λ j m. shows tagsField (omega arith) (omega arith) j m)
+        (shownBadges (gotValue w q i t) q (maskOf t q)) (λ j m. shows badgesField (omega arith) (omega arith) j m))
         (gone-budget ended idle (changed-same row stateField idle) (λ e. omega arith) (λ e. omega arith) (λ e. omega arith))
         ))
       where
         row : ℕ → ℕ
-        row = changed (c .row) (setpointsField + i) (w .number)
+        row = changed (changed (c .row) (setpointsField + i) (w .number)) (badgesField + i) (w .badge)
 
         ended : ℕ → ℕ
         ended = changed row stateField idle
 
-        other-word : (x : ℕ) → (x ≡ setpointsField + i → ⊥) → row x ≡ c .row x
-        other-word x d = changed-other (c .row) (setpointsField + i) (w .number) x d
+        server : i < 16
+        server =
+            let asks = link-asks t q i (ready .sound .client q (ready .client) .link i hi) in
+            let was : stateOf t q ≡ askingSetpoints = sym (row-at t q stateField (omega arith)) ∙ state in
+            let used = asks .used (λ e. omega (arith, reply-kind (t .links) q i w (asks .kind) lk)) in
+            omega (
+              arith,
+              masked-server t (ready .sound) q i (ready .client) (sym (uses-setpoints (maskOf t q) i) ∙ (rw was at used)),
+              few t q ready,
+            )
 
-        ended-word : (x : ℕ) → (x ≡ setpointsField + i → ⊥) → (x ≡ stateField → ⊥) → ended x ≡ c .row x
-        ended-word x d e = left-by (setpointsField + i) (w .number) stateField idle x d e
+        got-row : rowOf (gotValue w q i t) q ≡ row
+        got-row = two-words (setpointsField + i) (w .number) (badgesField + i) (w .badge) (omega (arith, server)) (omega (arith, server))
 
-        -- what is shown of the words from a field on: the setpoints, and the tags
+        got-others : (r : ℕ) → (r ≡ q → ⊥) → rowOf (gotValue w q i t) r ≡ rowOf (t .clients) r
+        got-others =
+            two-others (setpointsField + i) (w .number) (badgesField + i) (w .badge) (omega (arith, server)) (omega (arith, server))
+
+        got-has : HasRow clientWidth (gotValue w q i t) q
+        got-has =
+            rw (
+              word-length clientWidth (putClientWord (t .clients) q (setpointsField + i) (w .number)) q (badgesField + i) (w .badge),
+              word-length clientWidth (t .clients) q (setpointsField + i) (w .number),
+            ) (has-row t q ready)
+
+        ended-row : rowOf (putClientWord (gotValue w q i t) q stateField idle) q ≡ ended
+        ended-row =
+            row-put (gotValue w q i t) q stateField idle (omega arith) got-has ∙ ap (λ (x : ℕ → ℕ). changed x stateField idle) got-row
+
+        ended-others : (r : ℕ) → (r ≡ q → ⊥) → rowOf (putClientWord (gotValue w q i t) q stateField idle) r ≡ rowOf (t .clients) r
+        ended-others r d = row-put-other (gotValue w q i t) q stateField idle (omega arith) r d ∙ got-others r d
+
+        other-word : (x : ℕ) → (x ≡ setpointsField + i → ⊥) → (x ≡ badgesField + i → ⊥) → row x ≡ c .row x
+        other-word x d e = left-by (setpointsField + i) (w .number) (badgesField + i) (w .badge) x d e
+
+        low-word : (x : ℕ) → x < setpointsField → row x ≡ c .row x
+        low-word x l = other-word x (λ e. omega arith) (λ e. omega arith)
+
+        new-setpoint : row (setpointsField + i) ≡ w .number
+        new-setpoint =
+            changed-other _ (badgesField + i) (w .badge) (setpointsField + i)
+            (λ e. omega arith) ∙ changed-same (c .row) (setpointsField + i) (w .number)
+
+        ended-word : (x : ℕ) → (x ≡ stateField → ⊥) → ended x ≡ row x
+        ended-word x d = changed-other row stateField idle x d
+
+        -- what is shown of the words from a field on: the setpoints, the tags and the badges
         shows : (field : ℕ) → stateField < field → field + 16 ≤ clientWidth →
-            (j : ℕ) → hasServer (maskIn c) j ≡ true → getD (shownWords field (gotSetpoint w q i t) q (maskOf t q)) j 0 ≡ ended (field + j)
+            (j : ℕ) → hasServer (maskIn c) j ≡ true → getD (shownWords field (gotValue w q i t) q (maskOf t q)) j 0 ≡ ended (field + j)
         shows field behind fits j m =
             let l : j < 16 = omega (arith, a .bound j m, few t q ready) in
-            shown-at field (gotSetpoint w q i t) q (maskOf t q) j l (rw mask-at at m)
-            ∙ sym (within-at clientWidth 0 (clientWord (gotSetpoint w q i t) q) (field + j) (omega arith))
-            ∙ ap (λ (f : ℕ → ℕ). f (field + j)) (one-word (setpointsField + i) (w .number) (omega arith))
+            shown-at field (gotValue w q i t) q (maskOf t q) j l (rw mask-at at m)
+            ∙ sym (within-at clientWidth 0 (clientWord (gotValue w q i t) q) (field + j) (omega arith))
+            ∙ ap (λ (f : ℕ → ℕ). f (field + j)) got-row
             ∙ sym (changed-other row stateField idle (field + j) (λ e. omega arith))
 
     -- C: how much a server or the coordinator holds arrived
@@ -331,7 +386,7 @@ module _ (floor : ℕ → ℕ) (t : Tables) (h : History) (s : Standing floor t 
         refl ended-others gone-links gone-others (λ z. omega arith) refl
         (told-end-kept floor (view t) h tied (few t q ready) q (in-range t q ready) (stepOf t + 1) (writesOf t) (readsOf t) i hi w link a row (other-word maskField (λ e. omega arith)) new old
         (none-left b) (receivedIn told q) same (rowOf (putClientWord (concluded tag told q t) q stateField idle) q) ended-state ended-count
-        (shownSetpoints (concluded tag told q t) q (maskOf t q)) shows from comes)
+        (shownSetpoints (concluded tag told q t) q (maskOf t q)) shows from comes (shownBadges (concluded tag told q t) q (maskOf t q)) by)
         (gone-budget (rowOf (putClientWord (concluded tag told q t) q stateField idle) q) idle ended-state (λ e. omega arith) (λ e. omega arith) (λ e. omega arith))
         ))
       where
@@ -362,6 +417,9 @@ module _ (floor : ℕ → ℕ) (t : Tables) (h : History) (s : Standing floor t 
         value : ℕ → ℕ
         value = setpointAt tag told q t
 
+        badge : ℕ → ℕ
+        badge = badgeAt tag told q t
+
         -- the tags shown with the setpoints
         from : List ℕ
         from = chosenTags (t .log) (maskOf t q) (serversOf t) tag
@@ -370,15 +428,21 @@ module _ (floor : ℕ → ℕ) (t : Tables) (h : History) (s : Standing floor t 
         comes j m =
             laid-at (hasServer (maskOf t q)) (latestTagAt (t .log) tag) (serversOf t) j (few t q ready) (a .bound j m) (rw mask-at at m)
 
-        -- the row at the end: setpoints at the tag, then the n forgotten, then the tag and the state
+        -- the row at the end: setpoints and badges at the tag, then the n forgotten, then the tag and the state
         kept : List ℕ
         kept = keptSetpoints value q (maskOf t q) (serversOf t) told
 
+        badged : List ℕ
+        badged = keptBadges badge q (maskOf t q) (serversOf t) kept
+
         forgot : List ℕ
-        forgot = forgotten q kept
+        forgot = forgotten q badged
 
         room : setpointsField + serversOf t ≤ clientWidth
         room = omega (arith, few t q ready)
+
+        badge-room : badgesField + serversOf t ≤ clientWidth
+        badge-room = omega (arith, few t q ready)
 
         told-has : HasRow clientWidth told q
         told-has = rw (word-length clientWidth (t .clients) q (receivedField + i) (w .number)) (has-row t q ready)
@@ -386,8 +450,11 @@ module _ (floor : ℕ → ℕ) (t : Tables) (h : History) (s : Standing floor t 
         kept-has : HasRow clientWidth kept q
         kept-has = rw (kept-length setpointsField (hasServer (maskOf t q)) value q (serversOf t) room told) told-has
 
+        badged-has : HasRow clientWidth badged q
+        badged-has = rw (kept-length badgesField (hasServer (maskOf t q)) badge q (serversOf t) badge-room kept) kept-has
+
         forgot-has : HasRow clientWidth forgot q
-        forgot-has = rw (kept-length receivedField every (λ j. 0) q targets (omega arith) kept) kept-has
+        forgot-has = rw (kept-length receivedField every (λ j. 0) q targets (omega arith) badged) badged-has
 
         concluded-has : HasRow clientWidth (concluded tag told q t) q
         concluded-has = rw (word-length clientWidth forgot q tagField tag) forgot-has
@@ -396,18 +463,26 @@ module _ (floor : ℕ → ℕ) (t : Tables) (h : History) (s : Standing floor t 
         ended-others r d =
             row-put-other (concluded tag told q t) q stateField idle (omega arith) r d
             ∙ row-put-other forgot q tagField tag (omega arith) r d
-            ∙ kept-rows receivedField every (λ j. 0) q targets (omega arith) kept r d
+            ∙ kept-rows receivedField every (λ j. 0) q targets (omega arith) badged r d
+            ∙ kept-rows badgesField (hasServer (maskOf t q)) badge q (serversOf t) badge-room kept r d
             ∙ kept-rows setpointsField (hasServer (maskOf t q)) value q (serversOf t) room told r d
             ∙ one-others (receivedField + i) (w .number) (omega arith) r d
 
         ended-state : rowOf (putClientWord (concluded tag told q t) q stateField idle) q stateField ≡ idle
         ended-state = within-at clientWidth 0 (clientWord (putClientWord (concluded tag told q t) q stateField idle) q) stateField (omega arith) ∙ word-same clientWidth (concluded tag told q t) q stateField idle concluded-has (omega arith)
 
-        -- a word of the row but for the tag and the n
+        -- a word of the row but for the tag and the n; before the n, no badge either
+        badged-word : (f : ℕ) → f < clientWidth → (f ≡ tagField → ⊥) → ((receivedField ≤ f) × (f < receivedField + targets) → ⊥) →
+            clientWord (concluded tag told q t) q f ≡ clientWord badged q f
+        badged-word f l d e =
+            word-other clientWidth forgot q tagField tag q f (omega arith) l (λ z. d (z .1))
+            ∙ kept-other receivedField every (λ j. 0) q targets (omega arith) badged q f l (λ z. e (z .1, z .2))
+
         concluded-word : (f : ℕ) → f < receivedField → (f ≡ tagField → ⊥) → clientWord (concluded tag told q t) q f ≡ clientWord kept q f
         concluded-word f l d =
-            word-other clientWidth forgot q tagField tag q f (omega arith) (omega arith) (λ e. d (e .1))
-            ∙ kept-other receivedField every (λ j. 0) q targets (omega arith) kept q f (omega arith) (λ e. omega (arith, e .1))
+            badged-word f (omega arith) d (λ e. omega (arith, e .0))
+            ∙ kept-other badgesField (hasServer (maskOf t q)) badge q (serversOf t) badge-room kept q f (omega arith)
+            (λ e. omega (arith, e .1))
 
         ended-count : rowOf (putClientWord (concluded tag told q t) q stateField idle) q countField ≡ countIn c
         ended-count =
@@ -425,6 +500,13 @@ module _ (floor : ℕ → ℕ) (t : Tables) (h : History) (s : Standing floor t 
             shown-at setpointsField (concluded tag told q t) q (maskOf t q) j (omega (arith, few t q ready)) (rw mask-at at m)
             ∙ concluded-word (setpointsField + j) (omega (arith, few t q ready)) (λ e. omega arith)
             ∙ kept-there setpointsField (hasServer (maskOf t q)) value q (serversOf t) room told j told-has l (rw mask-at at m)
+
+        by : (j : ℕ) → hasServer (maskIn c) j ≡ true → getD (shownBadges (concluded tag told q t) q (maskOf t q)) j 0 ≡ badge j
+        by j m =
+            let l : j < serversOf t = a .bound j m in
+            shown-at badgesField (concluded tag told q t) q (maskOf t q) j (omega (arith, few t q ready)) (rw mask-at at m)
+            ∙ badged-word (badgesField + j) (omega (arith, few t q ready)) (λ e. omega arith) (λ e. omega (arith, e .1))
+            ∙ kept-there badgesField (hasServer (maskOf t q)) badge q (serversOf t) badge-room kept j kept-has l (rw mask-at at m)
 
     in-activity : Does floor (view t) h q Activity → Okay (replyDelivered q i t)
     unfolding onReplyIn

@@ -10,8 +10,10 @@ use lib.Seq.{getD-set-other}
 use lib.Dec.{eqb}
 use borrow.Author.Tests.{lt-ltb}
 use Rattle.keys.specs.Keys.{keyWord}
-use Rattle.tables.specs.Layout.{countAt, countWords, heldField, stepField, entriesField, serverPlaces, logPlaces, putVersionWord, putEntry, stateField, tagField}
-use Rattle.tables.specs.Links.{targets, putLink, link-same}
+use Rattle.tables.specs.Layout.{countAt, countWords, heldField, stepField, entriesField, serverPlaces, logPlaces, putVersionWord}
+use Rattle.tables.specs.Layout.{putValue, putEntry, stateField, tagField}
+use Rattle.tables.specs.Links.{targets, putLink}
+use Rattle.tables.specs.LinkLaws.{link-same}
 use Rattle.tables.specs.Tables.{Tables, tablesOf, stepOf, entriesOf, writesOf, readsOf, heldOf, stateOf, recordOf, contentAt, serversOf}
 use Rattle.tables.specs.declared.links.Contents.{Contents}
 use Rattle.tables.specs.declared.links.Content.{Content}
@@ -19,7 +21,7 @@ use Rattle.tables.specs.declared.links.Content.the-variants.{Nothing, Request, 
 use Rattle.server.specs.Held.{appended, firstBearing}
 use Rattle.coordinator.specs.Log as log
 use Rattle.rules.specs.Answers.{Left, left}
-use Rattle.rules.specs.Common.{entering, askingKeys, askingSetpoints, askingAll, coordinator, reply, taggedRecord}
+use Rattle.rules.specs.Common.{entering, askingKeys, askingSetpoints, askingAll, coordinator, gotReply, taggedRecord}
 use Rattle.rules.specs.Common as rules
 use Rattle.rules.specs.Request.{refused, onSet, onEnter, onWhichKeys, onGet, onGetAll, onRequestIn, onRequest, requestDelivered}
 use Rattle.rules.specs.declared.Answer.the-variants.{Ok}
@@ -28,7 +30,7 @@ use Rattle.soundness.specs.Room.{server-fits, keys-row, values-row, next-entry}
 use Rattle.serial.specs.Steps.{requested}
 use Rattle.serial.specs.History.{changed, History}
 use Rattle.serial.specs.Claim.{IsReply}
-use Rattle.serial.proofs.Press.{Shared, renumbered, Client, Press, pressOf, stateIn, sharedOf, view, weight, keptAt, world}
+use Rattle.serial.proofs.Press.{Shared, renumbered, Client, Press, pressOf, stateIn, sharedOf, view, weight, keptAt, carried, world}
 use Rattle.serial.proofs.View.{link-put, link-put-other, view-is, sharedIn, shared-step, shared-held, shared-entries}
 use Rattle.serial.proofs.Links.{come-changed}
 use Rattle.serial.proofs.Versions.{Version, found-place}
@@ -62,29 +64,36 @@ module _ (floor : ℕ → ℕ) (t : Tables) (h : History) (s : Standing floor t 
   c = view t .client q
 
   -- the tables when a reply has taken the request's place
-  abbrev replied : List ℕ → List ℕ → List ℕ → List ℕ → List ℕ → ℕ → Tables
-  replied counts keys values log writes n = tablesOf (rules.counted counts) (t .clients) (putLink (t .links) q i (reply n)) keys values log writes (t .reads)
+  abbrev replied : List ℕ → List ℕ → List ℕ → List ℕ → List ℕ → Content → Tables
+  replied counts keys values log writes answer =
+      tablesOf (rules.counted counts) (t .clients) (putLink (t .links) q i answer) keys values log writes (t .reads)
 
   abbrev next : Shared → Shared
   next s = renumbered (stepOf t + 1) (s .writes) (s .reads) s
 
-  abbrev repliedPress : Shared → ℕ → Press
-  repliedPress s n = pressOf (next s) (changed (view t .client) q (withLink c i (reply n)))
+  abbrev repliedPress : Shared → Content → Press
+  repliedPress s answer = pressOf (next s) (changed (view t .client) q (withLink c i answer))
 
-  module _ (counts keys values log writes : List ℕ) (n : ℕ) (long : countWords ≤ length counts) (step : countAt counts stepField ≡ stepOf t) where
-    replied-view : (s : Shared) → sharedIn counts keys values log ≡ s → view (replied counts keys values log writes n) ≡ repliedPress s n
+  module _ (counts keys values log writes : List ℕ) (badge n : ℕ) (long : countWords ≤ length counts)
+      (step : countAt counts stepField ≡ stepOf t) where
+    abbrev answer : Content
+    answer = gotReply badge n
+
+    replied-view : (s : Shared) → sharedIn counts keys values log ≡ s →
+        view (replied counts keys values log writes answer) ≡ repliedPress s answer
     replied-view s e =
-        view-is t (replied counts keys values log writes n) q
+        view-is t (replied counts keys values log writes answer) q
         (shared-step counts (countAt counts stepField + 1) keys values log long
         ∙ ap (λ (x : Shared). renumbered (countAt counts stepField + 1) (x .writes) (x .reads) x) e
         ∙ ap (λ (m : ℕ). renumbered (m + 1) (s .writes) (s .reads) s) step)
-        refl (link-put (t .links) q i (reply n) hi (has-link t q ready i hi) (record { count = omega arith; client = omega arith }))
-        (λ r d. refl) (λ r d. link-put-other (t .links) q i (reply n) hi r d)
+        refl (link-put (t .links) q i answer hi (has-link t q ready i hi) (record { count = omega arith; client = omega arith }))
+        (λ r d. refl) (λ r d. link-put-other (t .links) q i answer hi r d)
 
-    replied-reply : contentAt (replied counts keys values log writes n) q i ≡ reply n
-    replied-reply = link-same (t .links) q i (reply n) (has-link t q ready i hi) (record { count = omega arith; client = omega arith })
+    replied-reply : contentAt (replied counts keys values log writes answer) q i ≡ answer
+    replied-reply = link-same (t .links) q i answer (has-link t q ready i hi) (record { count = omega arith; client = omega arith })
 
-    replied-fair : (s : Shared) → sharedIn counts keys values log ≡ s → Kept floor h (requested q i Ok) (repliedPress s n) → Budget (repliedPress s n) → Okay (left Ok (replied counts keys values log writes n))
+    replied-fair : (s : Shared) → sharedIn counts keys values log ≡ s → Kept floor h (requested q i Ok) (repliedPress s answer) →
+        Budget (repliedPress s answer) → Okay (left Ok (replied counts keys values log writes answer))
     replied-fair s e k b = record {
       kept = subst (λ (v : Press). Kept floor h (requested q i Ok) v) (sym (replied-view s e)) k;
       budget = subst Budget (sym (replied-view s e)) b;
@@ -97,9 +106,11 @@ module _ (floor : ℕ → ℕ) (t : Tables) (h : History) (s : Standing floor t 
   counts-long = ready .sound .long .counts
 
   -- a READ's request: one delivery further
-  read-further : (n : ℕ) (w : Contents) → c .link i ≡ Request w → (state : ℕ) → stateIn c ≡ state → (state ≡ rules.writing → ⊥) → (state ≡ entering → ⊥) → Budget (repliedPress (sharedOf t) n)
-  read-further n w lk state is a b =
-      further (view t) budget q (in-range t q ready) (withLink c i (reply n)) state is a b (omega (arith, come-changed (c .link) i (reply n) hi, ap weight lk))
+  read-further : (badge n : ℕ) (w : Contents) → c .link i ≡ Request w → (state : ℕ) → stateIn c ≡ state → (state ≡ rules.writing → ⊥) →
+      (state ≡ entering → ⊥) → Budget (repliedPress (sharedOf t) (gotReply badge n))
+  read-further badge n w lk state is a b =
+      further (view t) budget q (in-range t q ready) (withLink c i (gotReply badge n)) state is a b
+      (omega (arith, come-changed (c .link) i (gotReply badge n) hi, ap weight lk))
 
   module _ (w : Contents) (lk : contentAt t q i ≡ Request w) where
     link : c .link i ≡ Request w
@@ -121,12 +132,13 @@ module _ (floor : ℕ → ℕ) (t : Tables) (h : History) (s : Standing floor t 
         let room : heldOf t i < serverPlaces = omega (arith, waiting-room (view t) budget q (in-range t q ready) i waiting, ready .sound .scalars .writes) in
         let l : i < serversOf t = rw link at (a .links i hi) .2 in
         rw (lt-ltb (heldOf t i) serverPlaces room)
-        (replied-fair (set (t .counts) (heldField + i) (heldOf t i + 1)) (putVersionWord (t .keys) i (heldOf t i) (keyWord (w .key))) (putVersionWord (t .values) i (heldOf t i) (w .number)) (t .log) (t .writes) 0
+        (replied-fair (set (t .counts) (heldField + i) (heldOf t i + 1)) (putVersionWord (t .keys) i (heldOf t i) (keyWord (w .key)))
+        (putValue (t .values) i (heldOf t i) (w .badge) (w .number)) (t .log) (t .writes) 0 0
         (rw (length-set (t .counts) (heldField + i) (heldOf t i + 1)) counts-long) (getD-set-other (t .counts) (heldField + i) stepField (heldOf t i + 1) 0 (λ e. omega arith))
-        (versionMore (sharedOf t) i (keyWord (w .key)) (w .number))
+        (versionMore (sharedOf t) i (keyWord (w .key)) (carried w))
         (shared-held (t .counts) (heldOf t i + 1) _ _ _ counts-long i (server-fits t (ready .sound) i l) ∙ rw (add-one (heldOf t i)))
         (set-kept floor (view t) h tied (few t q ready) q (in-range t q ready) (stepOf t + 1) (writesOf t) (readsOf t) i w link hi state a (keys-row t (ready .sound) i l) (values-row t (ready .sound) i l) room)
-        (set-budget (view t) budget q (in-range t q ready) i hi w link state (keyWord (w .key)) (w .number)))
+        (set-budget (view t) budget q (in-range t q ready) i hi w link state (keyWord (w .key)) (carried w)))
 
     -- an entry finds room
     enter-fair : i ≡ coordinator → stateIn c ≡ entering → (a : Does floor (view t) h q Entering) → Okay (onEnter w q i t)
@@ -137,7 +149,8 @@ module _ (floor : ℕ → ℕ) (t : Tables) (h : History) (s : Standing floor t 
         let room : entriesOf t < logPlaces = omega (arith, entry-room (view t) budget q (in-range t q ready) waiting, ready .sound .scalars .writes) in
         let entry = rw there at (a .entry) in
         rw (lt-ltb (entriesOf t) logPlaces room)
-        (replied-fair (set (t .counts) entriesField (entriesOf t + 1)) (t .keys) (t .values) (putEntry (t .log) (entriesOf t) (w .key) (w .number)) (taggedRecord (recordOf t q) (entriesOf t) (t .writes)) (entriesOf t)
+        (replied-fair (set (t .counts) entriesField (entriesOf t + 1)) (t .keys) (t .values)
+        (putEntry (t .log) (entriesOf t) (w .key) (w .number)) (taggedRecord (recordOf t q) (entriesOf t) (t .writes)) 0 (entriesOf t)
         (rw (length-set (t .counts) entriesField (entriesOf t + 1)) counts-long) (getD-set-other (t .counts) entriesField stepField (entriesOf t + 1) 0 (λ e. omega arith))
         (entryMore (sharedOf t) (w .key) (w .number))
         (shared-entries (t .counts) (entriesOf t + 1) _ _ _ counts-long ∙ rw (add-one (entriesOf t)))
@@ -149,16 +162,17 @@ module _ (floor : ℕ → ℕ) (t : Tables) (h : History) (s : Standing floor t 
     unfolding onWhichKeys
     which-fair at state a =
         let there : c .link coordinator ≡ Request w = ap (c .link) (sym at) ∙ link in
-        replied-fair (t .counts) (t .keys) (t .values) (t .log) (t .writes) (entriesOf t) counts-long refl (sharedOf t) refl
+        replied-fair (t .counts) (t .keys) (t .values) (t .log) (t .writes) 0 (entriesOf t) counts-long refl (sharedOf t) refl
         (rw at (which-keys-kept floor (view t) h tied (few t q ready) q (in-range t q ready) (stepOf t + 1) (writesOf t) (readsOf t) w there state a))
-        (read-further (entriesOf t) w link askingKeys state (λ e. omega arith) (λ e. omega arith))
+        (read-further 0 (entriesOf t) w link askingKeys state (λ e. omega arith) (λ e. omega arith))
 
     all-fair : stateIn c ≡ askingAll → Does floor (view t) h q AskingAll → Okay (onGetAll q i t)
     unfolding onGetAll
     all-fair state a =
-        replied-fair (t .counts) (t .keys) (t .values) (t .log) (t .writes) (cond (eqb i coordinator) (entriesOf t) (heldOf t i)) counts-long refl (sharedOf t) refl
+        replied-fair (t .counts) (t .keys) (t .values) (t .log) (t .writes) 0
+        (cond (eqb i coordinator) (entriesOf t) (heldOf t i)) counts-long refl (sharedOf t) refl
         (get-all-kept floor (view t) h tied (few t q ready) q (in-range t q ready) (stepOf t + 1) (writesOf t) (readsOf t) i hi w link state a)
-        (read-further _ w link askingAll state (λ e. omega arith) (λ e. omega arith))
+        (read-further 0 _ w link askingAll state (λ e. omega arith) (λ e. omega arith))
 
     -- a get request finds its key
     get-fair : stateIn c ≡ askingSetpoints → Does floor (view t) h q Getting → Okay (onGet w q i t)
@@ -166,10 +180,14 @@ module _ (floor : ℕ → ℕ) (t : Tables) (h : History) (s : Standing floor t 
     get-fair state a =
         let v = keptAt (world (view t) h) (c .row tagField) i in
         let f = found-place (t .keys) (t .values) i (w .key) (heldOf t i) v (rw link at (a .links i hi)) in
-        rw (lt-ltb (firstBearing (t .keys) i (w .key) (heldOf t i)) (heldOf t i) (f .0), ap (λ (x : Version). x .setpoint) (f .1))
-        (replied-fair (t .counts) (t .keys) (t .values) (t .log) (t .writes) (v .setpoint) counts-long refl (sharedOf t) refl
+        rw (
+          lt-ltb (firstBearing (t .keys) i (w .key) (heldOf t i)) (heldOf t i) (f .0),
+          ap (λ (x : Version). x .setpoint) (f .1),
+          ap (λ (x : Version). x .badge) (f .1),
+        )
+        (replied-fair (t .counts) (t .keys) (t .values) (t .log) (t .writes) (v .badge) (v .setpoint) counts-long refl (sharedOf t) refl
         (get-kept floor (view t) h tied (few t q ready) q (in-range t q ready) (stepOf t + 1) (writesOf t) (readsOf t) i hi w link state a)
-        (read-further (v .setpoint) w link askingSetpoints state (λ e. omega arith) (λ e. omega arith)))
+        (read-further (v .badge) (v .setpoint) w link askingSetpoints state (λ e. omega arith) (λ e. omega arith)))
 
     in-activity : Does floor (view t) h q Activity → Okay (requestDelivered q i t)
     unfolding onRequestIn

@@ -14,13 +14,13 @@ use Rattle.coordinator.specs.declared.Latest.{Latest}
 use Rattle.coordinator.specs.Latest.{latestTag, latestKey, entryAt, latestOf}
 use Rattle.coordinator.specs.LatestLaws.{latest-here, latest-before, latest-tag-kept, latest-key-kept}
 use Rattle.tables.specs.Rows.{HasRow}
-use Rattle.tables.specs.Layout.{serverPlaces, putVersionWord, entryWidth, entryMask, putEntry}
+use Rattle.tables.specs.Layout.{serverPlaces, putVersionWord, putValue, HasValues, entryWidth, entryMask, putEntry}
 use Rattle.tables.specs.Entries.{entry-key-same, entry-mask-same}
 use Rattle.tables.specs.Links.{targets}
 use Rattle.tables.specs.declared.links.Contents.{Contents}
 use Rattle.tables.specs.declared.links.Content.{Content}
 use Rattle.tables.specs.declared.links.Content.the-variants.{Nothing, Request, Reply}
-use Rattle.rules.specs.Common.{entering, askingKeys, askingSetpoints, askingAll, coordinator, reply}
+use Rattle.rules.specs.Common.{entering, askingKeys, askingSetpoints, askingAll, coordinator, reply, gotReply}
 use Rattle.rules.specs.Common as rules
 use Rattle.rules.specs.declared.Answer.the-variants.{Ok}
 use Rattle.serial.specs.Steps.{requested}
@@ -29,7 +29,7 @@ use Rattle.serial.specs.Claim.{enough}
 use Rattle.serial.proofs.Places.{changed-same, changed-other, changed-all, changed-both}
 use Rattle.serial.proofs.Owed.{valueAt, valueIn}
 use Rattle.serial.proofs.HistoryKept.{value-before}
-use Rattle.serial.proofs.Versions.{sentOf, find-before, find-more, find-new, find-other}
+use Rattle.serial.proofs.Versions.{Version, sentOf, find-before, find-more, find-new, find-other}
 use Rattle.serial.proofs.Press.{Shared, renumbered, Client, clientOf, Press, pressOf, stateIn, countIn, maskIn, tagIn, weight}
 use Rattle.serial.proofs.Press.{toCome, World, worldOf, keptAt, carried, world}
 use Rattle.serial.proofs.Links.{come-changed, come-some}
@@ -37,7 +37,7 @@ use Rattle.serial.proofs.Invariant.{own, WriteLink, Writing, Stored, En
 use Rattle.serial.proofs.Kept.{Kept, turned-tied}
 
 -- one version more of server i
-abbrev pub versionMore : Shared → ℕ → ℕ → ℕ → Shared
+abbrev pub versionMore : Shared → ℕ → ℕ → Version → Shared
 versionMore s i word v = record {
   method = s .method;
   servers = s .servers;
@@ -47,7 +47,7 @@ versionMore s i word v = record {
   reads = s .reads;
   held = changed (s .held) i (suc (s .held i));
   keys = putVersionWord (s .keys) i (s .held i) word;
-  values = putVersionWord (s .values) i (s .held i) v;
+  values = putValue (s .values) i (s .held i) (v .badge) (v .setpoint);
   log = s .log;
 }
 
@@ -85,18 +85,18 @@ module _ (floor : ℕ → ℕ) (p : Press) (h : History) (tied : Tied floor p h)
 
   -- A set request: the server holds the key now.
   module _ (i : ℕ) (w : Contents) (lk : c .link i ≡ Request w) (hi : i < targets) (state : stateIn c ≡ rules.writing) (a : Writing (h .extra) x (floor q) q c (h .doing q))
-      (keyed : HasRow serverPlaces (s .keys) i) (valued : HasRow serverPlaces (s .values) i) (room : s .held i < serverPlaces) where
+      (keyed : HasRow serverPlaces (s .keys) i) (valued : HasValues (s .values) i) (room : s .held i < serverPlaces) where
     abbrev word : ℕ
     word = keyWord (w .key)
 
     abbrev s′ : Shared
-    s′ = versionMore s i word (w .number)
+    s′ = versionMore s i word (carried w)
 
     abbrev y : World
     y = worldOf s′ (h .tags) (valueIn h)
 
     link :
-        (w .key ≡ keyOf (countIn c) q) × (carried w ≡ sentOf (a .setpoints) i) × (i < s .servers) ×
+        (w .key ≡ keyOf (countIn c) q) × (carried w ≡ sentOf (a .badge) (a .setpoints) i) × (i < s .servers) ×
         (x .lookup i (keyOf (countIn c) q) (x .held i) ≡ none)
     link = rw lk at (a .links i hi)
 
@@ -112,8 +112,8 @@ module _ (floor : ℕ → ℕ) (p : Press) (h : History) (tied : Tied floor p h)
     -- a key of another word is found where it was
     other-key : (key : Key) → (word ≡ keyWord key → ⊥) → (j : ℕ) → y .lookup j key (y .held j) ≡ x .lookup j key (x .held j)
     other-key key d = changed-all (s .held) i (suc (s .held i)) (λ j n. y .lookup j key n ≡ x .lookup j key (x .held j))
-        (find-other (s .keys) (s .values) i (s .held i) word (w .number) keyed valued room key d)
-        (λ j ne. find-before (s .keys) (s .values) i (s .held i) word (w .number) keyed valued room j (s .held j) key (λ e. absurd (ne e)) (tied .room j))
+        (find-other (s .keys) (s .values) i (s .held i) word (carried w) keyed valued room key d)
+        (λ j ne. find-before (s .keys) (s .values) i (s .held i) word (carried w) keyed valued room j (s .held j) key (λ e. absurd (ne e)) (tied .room j))
 
     grown : (r : ℕ) → r < 16 → (r ≡ q → ⊥) → Grown r x y
     grown r hr ne = record {
@@ -122,38 +122,41 @@ module _ (floor : ℕ → ℕ) (p : Press) (h : History) (tied : Tied floor p h)
       value = λ tag l j. refl;
       key = λ tag l j. refl;
       held = held-more;
-      fewer = λ j key n l. find-before (s .keys) (s .values) i (s .held i) word (w .number) keyed valued room j n key (λ e. omega (arith, same-place j e)) (omega (arith, tied .room j));
-      more = λ j key v e. find-more (s .keys) (s .values) i (s .held i) word (w .number) keyed valued room j key (s .held j) (y .held j) v (same-place j) (tied .room j) (held-more j) e;
+      fewer = λ j key n l. find-before (s .keys) (s .values) i (s .held i) word (carried w) keyed valued room j n key (λ e. omega (arith, same-place j e)) (omega (arith, tied .room j));
+      more = λ j key v e. find-more (s .keys) (s .values) i (s .held i) word (carried w) keyed valued room j key (s .held j) (y .held j) v (same-place j) (tied .room j) (held-more j) e;
       own = λ j n. other-key (keyOf n r) (λ e. ne (omega (arith, word-is))) j;
     }
 
-    write-link : (j : ℕ) → (j ≡ i → ⊥) → (l : Content) → WriteLink x q c (a .setpoints) j l → WriteLink y q c (a .setpoints) j l
+    write-link : (j : ℕ) → (j ≡ i → ⊥) → (l : Content) → WriteLink x q c (a .badge) (a .setpoints) j l →
+        WriteLink y q c (a .badge) (a .setpoints) j l
     write-link j ne l k = go l k
       where
         same : y .lookup j (keyOf (countIn c) q) (y .held j) ≡ x .lookup j (keyOf (countIn c) q) (x .held j)
         same = rw (changed-other (s .held) i (suc (s .held i)) j ne)
-            (find-before (s .keys) (s .values) i (s .held i) word (w .number) keyed valued room j (s .held j) (keyOf (countIn c) q) (λ e. absurd (ne e)) (tied .room j))
+            (find-before (s .keys) (s .values) i (s .held i) word (carried w) keyed valued room j (s .held j) (keyOf (countIn c) q)
+            (λ e. absurd (ne e)) (tied .room j))
 
-        go : (l : Content) → WriteLink x q c (a .setpoints) j l → WriteLink y q c (a .setpoints) j l
+        go : (l : Content) → WriteLink x q c (a .badge) (a .setpoints) j l → WriteLink y q c (a .badge) (a .setpoints) j l
         go Nothing k = λ m. same ∙ k m
         go (Request w) k = (k .0, k .1, k .2, same ∙ k .3)
         go (Reply w) k = same ∙ k
 
-    here : y .lookup i (keyOf (countIn c) q) (y .held i) ≡ some (sentOf (a .setpoints) i)
+    here : y .lookup i (keyOf (countIn c) q) (y .held i) ≡ some (sentOf (a .badge) (a .setpoints) i)
     here =
         rw (changed-same (s .held) i (suc (s .held i)), ← link .1)
-        (find-new (s .keys) (s .values) i (s .held i) word (w .number) keyed valued room (keyOf (countIn c) q) word-is (link .3))
+        (find-new (s .keys) (s .values) i (s .held i) word (carried w) keyed valued room (keyOf (countIn c) q) word-is (link .3))
 
     mine : ClientOk (h .extra) y (floor q) q (withLink c i (reply 0)) (h .doing q)
     mine = record {
       latest = λ j n v e. by-equal n (countIn c) (λ z. omega arith) (λ z. okay .latest j n v (sym (other-key (keyOf n q) (λ d. z (omega (arith, word-is))) j) ∙ e));
       activity = at-writing state (record {
+        badge = a .badge;
         setpoints = a .setpoints;
         begin = a .begin;
         is = a .is;
         few = a .few;
         bound = a .bound;
-        links = λ j l. changed-all (c .link) i (reply 0) (λ j l. j < targets → WriteLink y q c (a .setpoints) j l) (λ k. here) (λ j ne k. write-link j ne (c .link j) (a .links j k)) j l;
+        links = λ j l. changed-all (c .link) i (reply 0) (λ j l. j < targets → WriteLink y q c (a .badge) (a .setpoints) j l) (λ k. here) (λ j ne k. write-link j ne (c .link j) (a .links j k)) j l;
       });
     }
 
@@ -165,7 +168,7 @@ module _ (floor : ℕ → ℕ) (p : Press) (h : History) (tied : Tied floor p h)
             method = tied .method;
             entries = tied .entries;
             room = changed-all (s .held) i (suc (s .held i)) (λ j n. n ≤ serverPlaces) room (λ j ne. tied .room j);
-            value = λ tag l j k. find-more (s .keys) (s .values) i (s .held i) word (w .number) keyed valued room j _ (s .held j) (y .held j) _ (same-place j) (tied .room j) (held-more j) (tied .value tag l j k);
+            value = λ tag l j k. find-more (s .keys) (s .values) i (s .held i) word (carried w) keyed valued room j _ (s .held j) (y .held j) _ (same-place j) (tied .room j) (held-more j) (tied .value tag l j k);
             tags = tied .tags;
             clients = changed-all (p .client) q (withLink c i (reply 0)) (λ j b. j < 16 → ClientOk (h .extra) y (floor j) j b (h .doing j)) (λ l. mine)
                 (λ j ne l. client-frame (h .extra) (floor j) j x y (grown j l ne) (p .client j) (h .doing j) (tied .clients j l));
@@ -180,7 +183,7 @@ module _ (floor : ℕ → ℕ) (p : Press) (h : History) (tied : Tied floor p h)
     s″ = entryMore s (w .key) (w .number)
 
     abbrev new : Transaction
-    new = writeOf q (maskIn c) (valueWritten (suc (h .tags)) (b .setpoints)) (suc (h .tags)) (b .begin) none
+    new = writeOf q (maskIn c) (valueWritten (suc (h .tags)) (b .badge) (b .setpoints)) (suc (h .tags)) (b .begin) none
 
     abbrev write′ : ℕ → Transaction
     write′ = changed (h .write) (suc (h .tags)) new
@@ -220,7 +223,7 @@ module _ (floor : ℕ → ℕ) (p : Press) (h : History) (tied : Tied floor p h)
     key-other i e = ap (λ (y : Latest). y .key) (found-other i e)
 
     value-new : (i : ℕ) → z .value (suc (h .tags)) i ≡
-        cond (hasServer (maskIn c) i) (valueWritten (suc (h .tags)) (b .setpoints) i) (z .value (h .tags) i)
+        cond (hasServer (maskIn c) i) (valueWritten (suc (h .tags)) (b .badge) (b .setpoints) i) (z .value (h .tags) i)
     unfolding valueAt
     value-new i = rw (changed-same (h .write) (suc (h .tags)) new)
 
@@ -289,14 +292,16 @@ module _ (floor : ℕ → ℕ) (p : Press) (h : History) (tied : Tied floor p h)
     )
 
   -- A READ's request: one delivery more, and the reply takes its place.
-  module _ (i : ℕ) (hi : i < targets) (w : Contents) (lk : c .link i ≡ Request w) (n mask begin deliveries : ℕ) (is : h .doing q ≡ reading mask begin deliveries) where
-    replied-come : toCome (withLink c i (reply n) .link) + 1 ≡ toCome (c .link)
-    replied-come = omega (arith, come-changed (c .link) i (reply n) hi, ap weight lk)
+  module _ (i : ℕ) (hi : i < targets) (w : Contents) (lk : c .link i ≡ Request w) (answer : Content) (one : weight answer ≡ 1)
+      (mask begin deliveries : ℕ) (is : h .doing q ≡ reading mask begin deliveries) where
+    replied-come : toCome (withLink c i answer .link) + 1 ≡ toCome (c .link)
+    replied-come = omega (arith, come-changed (c .link) i answer hi, ap weight lk, one)
 
-    read-kept : suc deliveries < enough (h .extra) mask → ClientOk (h .extra) x (floor q) q (withLink c i (reply n)) (reading mask begin (suc deliveries)) →
-        Kept floor h (requested q i Ok) (pressOf (renumbered step writes reads s) (changed (p .client) q (withLink c i (reply n))))
+    read-kept : suc deliveries < enough (h .extra) mask →
+        ClientOk (h .extra) x (floor q) q (withLink c i answer) (reading mask begin (suc deliveries)) →
+        Kept floor h (requested q i Ok) (pressOf (renumbered step writes reads s) (changed (p .client) q (withLink c i answer)))
     read-kept more ok =
-        let t = turned-tied floor p h tied step writes reads q (withLink c i (reply n)) (reading mask begin (suc deliveries)) ok in (
+        let t = turned-tied floor p h tied step writes reads q (withLink c i answer) (reading mask begin (suc deliveries)) ok in (
           rw is more,
           by-test (atCoordinator i) (λ e. rw (e, is) t) (λ e. rw (e, is) t),
         )
@@ -306,7 +311,8 @@ module _ (floor : ℕ → ℕ) (p : Press) (h : History) (tied : Tied floor p h)
       Kept floor h (requested q coordinator Ok) (pressOf (renumbered step writes reads s) (changed (p .client) q (withLink c coordinator (reply (s .entries)))))
   which-keys-kept w lk state a =
       let none-yet : a .deliveries ≡ 0 = rw lk at (a .keys) in
-      read-kept coordinator (omega arith) w lk (s .entries) (maskIn c) (a .begin) (a .deliveries) (a .is) (omega (arith, a .two, a .some)) (record {
+      read-kept coordinator (omega arith) w lk (reply (s .entries)) refl (maskIn c) (a .begin) (a .deliveries) (a .is)
+      (omega (arith, a .two, a .some)) (record {
         latest = okay .latest;
         activity = at-keys state (record {
           begin = a .begin;
@@ -321,15 +327,17 @@ module _ (floor : ℕ → ℕ) (p : Press) (h : History) (tied : Tied floor p h)
         });
       })
 
-  -- A server answers a get with the setpoint of the key: the value behind the client's tag.
+  -- A server answers a get with the badge and the setpoint of the key: the value behind the client's tag.
   pub get-kept : (i : ℕ) → i < targets → (w : Contents) → c .link i ≡ Request w → stateIn c ≡ askingSetpoints → Getting (h .extra) x (floor q) q c (h .doing q) →
-      let answer = reply (keptAt x (tagIn c) i .setpoint) in
-      Kept floor h (requested q i Ok) (pressOf (renumbered step writes reads s) (changed (p .client) q (withLink c i answer)))
+      let v = keptAt x (tagIn c) i in
+      Kept floor h (requested q i Ok) (pressOf (renumbered step writes reads s)
+      (changed (p .client) q (withLink c i (gotReply (v .badge) (v .setpoint)))))
   get-kept i hi w lk state a =
-      let v = keptAt x (tagIn c) i .setpoint in
-      let come = replied-come i hi w lk v (maskIn c) (a .begin) (a .deliveries) (a .is) in
-      let left = come-some (withLink c i (reply v) .link) i hi (rw (changed-same (c .link) i (reply v)) (omega arith)) in
-      read-kept i hi w lk v (maskIn c) (a .begin) (a .deliveries) (a .is) (omega (arith, a .count, come, left)) (record {
+      let v = keptAt x (tagIn c) i in
+      let answer = gotReply (v .badge) (v .setpoint) in
+      let come = replied-come i hi w lk answer refl (maskIn c) (a .begin) (a .deliveries) (a .is) in
+      let left = come-some (withLink c i answer .link) i hi (rw (changed-same (c .link) i answer) (omega arith)) in
+      read-kept i hi w lk answer refl (maskIn c) (a .begin) (a .deliveries) (a .is) (omega (arith, a .count, come, left)) (record {
         latest = okay .latest;
         activity = at-getting state (record {
           begin = a .begin;
@@ -341,7 +349,7 @@ module _ (floor : ℕ → ℕ) (p : Press) (h : History) (tied : Tied floor p h)
           count = omega (arith, a .count, come);
           busy = left;
           tags = a .tags;
-          links = λ j l. changed-all (c .link) i (reply v) (λ j k. j < targets → GetLink x c j k) (λ m. refl) (λ j ne m. a .links j m) j l;
+          links = λ j l. changed-all (c .link) i answer (λ j k. j < targets → GetLink x c j k) (λ m. refl) (λ j ne m. a .links j m) j l;
         });
       })
 
@@ -353,9 +361,9 @@ module _ (floor : ℕ → ℕ) (p : Press) (h : History) (tied : Tied floor p h)
       Kept floor h (requested q i Ok) (pressOf (renumbered step writes reads s) (changed (p .client) q (withLink c i (reply (holding i)))))
   get-all-kept i hi w lk state a =
       let n = holding i in
-      let come = replied-come i hi w lk n (maskIn c) (a .begin) (a .deliveries) (a .is) in
+      let come = replied-come i hi w lk (reply n) refl (maskIn c) (a .begin) (a .deliveries) (a .is) in
       let left = come-some (withLink c i (reply n) .link) i hi (rw (changed-same (c .link) i (reply n)) (omega arith)) in
-      read-kept i hi w lk n (maskIn c) (a .begin) (a .deliveries) (a .is) (omega (arith, a .count, come, left)) (record {
+      read-kept i hi w lk (reply n) refl (maskIn c) (a .begin) (a .deliveries) (a .is) (omega (arith, a .count, come, left)) (record {
         latest = okay .latest;
         activity = at-all state (record {
           begin = a .begin;

@@ -17,6 +17,7 @@ use Rattle.serial.proofs.Places.{changed-same, changed-other}
 use Rattle.serial.proofs.Press.{Shared, renumbered, Client, Press, pressOf, stateIn, weight, toCome}
 use Rattle.serial.proofs.Links.{come-changed}
 use Rattle.serial.proofs.Budget.{asks, waits, ahead, Budget, budget-kept, no-waits, no-due}
+use Rattle.serial.proofs.Versions.{Version}
 use Rattle.serial.proofs.Requests.{versionMore, entryMore, withLink}
 
 asks-most : (l : Content) → asks l ≤ 1
@@ -52,7 +53,8 @@ module _ (p : Press) (b : Budget p) (q : ℕ) (hq : q < 16) where
       (omega (arith, l))
 
   -- a set request is delivered
-  pub set-budget : (i : ℕ) → i < targets → (w : Contents) → c .link i ≡ Request w → stateIn c ≡ writing → (word v : ℕ) → Budget (pressOf (next (versionMore s i word v)) (changed (p .client) q (withLink c i (reply 0))))
+  pub set-budget : (i : ℕ) → i < targets → (w : Contents) → c .link i ≡ Request w → stateIn c ≡ writing → (word : ℕ) (v : Version) →
+      Budget (pressOf (next (versionMore s i word v)) (changed (p .client) q (withLink c i (reply 0))))
   set-budget i hi w lk state word v =
       budget-kept p b q hq (withLink c i (reply 0)) (next (versionMore s i word v)) (b .writes) (b .reads)
       (λ j. by-equal j i

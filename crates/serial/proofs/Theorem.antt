@@ -18,7 +18,7 @@ use Rattle.soundness.specs.Facts.{Sound}
 use Rattle.keeping.specs.Accepted.{Openable, openable, writable, readable, deliverable}
 use Rattle.keeping.specs.Opening.{opened-words, opened-sound}
 use Rattle.keeping.specs.Steps.{open-keeps, beginWrite-sound, beginRead-sound, deliverRequest-sound, deliverReply-sound}
-use Rattle.refusals.specs.Steps.{open′, beginWrite, beginRead, deliverRequest, deliverReply}
+use Rattle.refusals.specs.Steps.{badgeOf, open′, beginWrite, beginRead, deliverRequest, deliverReply}
 use Rattle.refusals.specs.Either.{by-refusal, by-refusal-arrived}
 use Rattle.serial.specs.Steps.{Step, opening, beginning-write, beginning-read, request, reply, Event, begun-write, begun-read}
 use Rattle.serial.specs.Steps.{requested, replied}
@@ -75,12 +75,12 @@ module _ (floor : ℕ → ℕ) (t : Tables) (h : History) (s : Standing floor t 
       (λ e. let o = opened-starts method k p setpoints t (openable method k p setpoints t e) in
       let l = o .standing floor in
       record { kept = (tt, l .tied); budget = l .budget; answers = tt; room = λ z. omega arith; step = o .step })
-  step-fair (beginning-write q mask setpoints) =
-      by-refusal (λ x. Steps (leaving (begun-write q mask setpoints) x)) (writeRefusal q mask setpoints t)
-      (left Ok (begunWrite q mask setpoints t)) t
+  step-fair (beginning-write q mask badge setpoints) =
+      by-refusal (λ x. Steps (leaving (begun-write q mask badge setpoints) x)) (writeRefusal q mask setpoints t)
+      (left Ok (begunWrite q mask (badgeOf badge) setpoints t)) t
       (λ m e. let room = write-number t q mask setpoints in
       record { kept = (tt, stays); budget = s .budget; answers = tt; room = rw (← e) room; step = refl })
-      (λ e. write-fair floor t h s q mask setpoints (writable q mask setpoints t e))
+      (λ e. write-fair floor t h s q mask badge setpoints (writable q mask setpoints t e))
   step-fair (beginning-read q mask) =
       by-refusal (λ x. Steps (leaving (begun-read q mask) x)) (readRefusal q mask t) (left Ok (begunRead q mask t)) t
       (λ m e. let room = read-number t q mask in
@@ -97,7 +97,7 @@ module _ (floor : ℕ → ℕ) (t : Tables) (h : History) (s : Standing floor t 
 
 step-sound : (step : Step) (t : Tables) → Sound t → Sound (play step t .tables)
 step-sound (opening method k p setpoints) t s = open-keeps method k p setpoints t s
-step-sound (beginning-write q mask setpoints) t s = beginWrite-sound q mask setpoints t s
+step-sound (beginning-write q mask badge setpoints) t s = beginWrite-sound q mask badge setpoints t s
 step-sound (beginning-read q mask) t s = beginRead-sound q mask t s
 step-sound (request q i) t s = deliverRequest-sound q i t s
 step-sound (reply q i) t s = deliverReply-sound q i t s

@@ -1,6 +1,6 @@
 -- What a server keeps of a key among its versions, and what one version more leaves of it.
 use Prim.Native.Nat.{ℕ, suc, _≤_, _<_}
-use mathlib.Core.Path.{_≡_, refl, sym, ap, _∙_}
+use mathlib.Core.Path.{_≡_, refl, sym, ap, _∙_, ap₂}
 use mathlib.Core.Bool.{false, cond}
 use mathlib.Core.Option.{Option, none, some, Option·none-ne-some, Option·some-injective}
 use mathlib.Core.List.{List}
@@ -12,28 +12,31 @@ use Rattle.ranges.specs.Tests.{by-equal, by-test, not-both}
 use Rattle.ranges.specs.FirstLaws.{First, first-found, first-is, first-same}
 use Rattle.keys.specs.declared.Key.{Key}
 use Rattle.keys.specs.Keys.{keyWord}
-use Rattle.tables.specs.Rows.{HasRow, word-same, word-other}
-use Rattle.tables.specs.Layout.{serverPlaces, versionWord, putVersionWord}
+use Rattle.tables.specs.Rows.{wordAt, HasRow, word-same, word-other}
+use Rattle.tables.specs.Layout.{serverPlaces, versionWord, putVersionWord, valueWidth, valueRow, versionBadge, versionSetpoint, putValue}
+use Rattle.tables.specs.Layout.{HasValues}
+use Rattle.tables.specs.Values.{badge-same, setpoint-same, value-other}
 use Rattle.server.specs.Held.{bears, firstBearing}
 use Rattle.serial.specs.History.{Value}
 
 -- What a version bears beside its key: what a server keeps of a value, and what messages carry of it.
 pub record Version : Type 0 where
+  pub badge : ℕ
   pub setpoint : ℕ
 
-abbrev pub versionOf : ℕ → Version
-versionOf setpoint = record { setpoint = setpoint }
+abbrev pub versionOf : ℕ → ℕ → Version
+versionOf badge setpoint = record { badge = badge; setpoint = setpoint }
 
 abbrev pub keptOf : Value → Version
-keptOf value = versionOf (value .setpoint)
+keptOf value = versionOf (value .badge) (value .setpoint)
 
 -- what is kept of a WRITE's value: the tag, which it does not have yet, is no part of it
-abbrev pub sentOf : List ℕ → ℕ → Version
-sentOf setpoints i = versionOf (getD setpoints i 0)
+abbrev pub sentOf : ℕ → List ℕ → ℕ → Version
+sentOf badge setpoints i = versionOf badge (getD setpoints i 0)
 
 -- at a place of the table
 abbrev pub versionAt : List ℕ → ℕ → ℕ → Version
-versionAt values i place = versionOf (versionWord values i place)
+versionAt values i place = versionOf (versionBadge values i place) (versionSetpoint values i place)
 
 -- "A key is looked up as the first version that bears it": what the first n versions of server i keep of it
 unfoldable pub find : List ℕ → List ℕ → ℕ → Key → ℕ → Option Version
@@ -103,12 +106,13 @@ module _ (keys values : List ℕ) (i : ℕ) (key : Key) where
       })
 
 -- One version more of server i, at place n.
-module _ (keys values : List ℕ) (i n word v : ℕ) (keyed : HasRow serverPlaces keys i) (valued : HasRow serverPlaces values i) (room : n < serverPlaces) where
+module _ (keys values : List ℕ) (i n word : ℕ) (v : Version) (keyed : HasRow serverPlaces keys i) (valued : HasValues values i)
+    (room : n < serverPlaces) where
   abbrev keys′ : List ℕ
   keys′ = putVersionWord keys i n word
 
   abbrev values′ : List ℕ
-  values′ = putVersionWord values i n v
+  values′ = putValue values i n (v .badge) (v .setpoint)
 
   -- the versions before it, and those of another server, are as they were
   pub find-before : (j m : ℕ) (key : Key) → (j ≡ i → m ≤ n) → m ≤ serverPlaces → find keys′ values′ j key m ≡ find keys values j key m
@@ -119,8 +123,11 @@ module _ (keys values : List ℕ) (i n word v : ℕ) (keyed : HasRow serverPlace
       = first-same (bears keys′ j key) (bears keys j key) m (λ u k. ap (λ (x : ℕ). eqb x (keyWord key)) (word-other serverPlaces keys i n word j u room (omega arith) (apart u k))) in
       by-test (ltb (firstBearing keys j key m) m)
       (λ b. let k = ltb-true _ _ b in
-      rw (same, b) (ap (λ (x : ℕ). some (versionOf x))
-      (word-other serverPlaces values i n v j (firstBearing keys j key m) room (omega arith) (apart _ k))))
+      let place = firstBearing keys j key m in
+      let stays : (f : ℕ) → f < valueWidth → wordAt valueWidth values′ (valueRow j place) f ≡ wordAt valueWidth values
+      (valueRow j place) f =
+      λ f g. value-other values i n (v .badge) (v .setpoint) j place f room (omega arith) (apart _ k) g in
+      rw (same, b) (ap₂ (λ (x y : ℕ). some (versionOf x y)) (stays 0 (omega arith)) (stays 1 (omega arith))))
       (λ b. rw (same, b))
 
   pub find-more : (j : ℕ) (key : Key) (m m′ : ℕ) (x : Version) → (j ≡ i → m ≤ n) → m ≤ serverPlaces → m ≤ m′ →
@@ -128,9 +135,9 @@ module _ (keys values : List ℕ) (i n word v : ℕ) (keyed : HasRow serverPlace
   find-more j key m m′ x before l k e = found-more keys′ values′ j key m m′ x k (find-before j m key before l ∙ e)
 
   -- a key that none bore, borne now
-  pub find-new : (key : Key) → word ≡ keyWord key → find keys values i key n ≡ none → find keys′ values′ i key (suc n) ≡ some (versionOf v)
+  pub find-new : (key : Key) → word ≡ keyWord key → find keys values i key n ≡ none → find keys′ values′ i key (suc n) ≡ some v
   find-new key w e =
-      found-is keys′ values′ i key (suc n) (versionOf v) (record {
+      found-is keys′ values′ i key (suc n) v (record {
         place = n;
         first = record {
           within = omega arith;
@@ -138,7 +145,9 @@ module _ (keys values : List ℕ) (i n word v : ℕ) (keyed : HasRow serverPlace
           here = λ g. eq-eqb _ _ (word-same serverPlaces keys i n word keyed room ∙ w);
         };
         below = omega arith;
-        kept = ap versionOf (word-same serverPlaces values i n v valued room);
+        kept =
+            ap₂ versionOf (badge-same values i n (v .badge) (v .setpoint) (omega arith))
+            (setpoint-same values i n (v .badge) (v .setpoint) (omega arith));
       })
 
   -- any other key as before

@@ -10,7 +10,8 @@ use borrow.Author.Tests.{lt-ltb, le-ltb, ltb-true, ltb-false}
 use Rattle.ranges.specs.Tests.{by-test}
 use Rattle.tables.specs.Rows.{HasRow, word-same, word-other}
 use Rattle.tables.specs.Layout.{countAt, countWords, methodField, serversField, stepField, entriesField, writesField, readsField, heldField, clientWidth, clientWord, putClientWord}
-use Rattle.tables.specs.Links.{targets, linkWidth, linkRow, putLink, ContentFits, link-same, link-other}
+use Rattle.tables.specs.Links.{targets, linkWidth, linkRow, putLink, ContentFits}
+use Rattle.tables.specs.LinkLaws.{link-same, link-other}
 use Rattle.tables.specs.Tables.{Tables}
 use Rattle.tables.specs.declared.links.Content.{Content}
 use Rattle.tables.specs.declared.links.Content.the-variants.{Nothing}

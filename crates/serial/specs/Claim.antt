@@ -26,7 +26,7 @@ EndsAt extra x = x .isWrite ≡ false → x .deliveries ≡ enough extra (x .mas
 -- "an unfinished READ has had fewer of them than the number at which it ends"
 abbrev pub Unfinished : ℕ → Doing → Type 0
 Unfinished extra nothing = Unit {0}
-Unfinished extra (writing mask setpoints begin) = Unit {0}
+Unfinished extra (writing mask badge setpoints begin) = Unit {0}
 Unfinished extra (tagged tag) = Unit {0}
 Unfinished extra (reading mask begin deliveries) = deliveries < enough extra mask
 
@@ -42,7 +42,7 @@ LeavesReply (Refused n) content = Unit {0}
 
 abbrev pub AnswersAt : Event → Tables → Type 0
 AnswersAt (opened method k p setpoints answer) t = Unit {0}
-AnswersAt (begun-write q mask setpoints answer) t = Unit {0}
+AnswersAt (begun-write q mask badge setpoints answer) t = Unit {0}
 AnswersAt (begun-read q mask answer) t = Unit {0}
 AnswersAt (requested q i answer) t = LeavesReply answer (contentAt t q i)
 AnswersAt (replied q i d) t = Unit {0}

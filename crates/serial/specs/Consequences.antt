@@ -26,7 +26,7 @@ numberOfArrival (arrival.Refused n) = n
 
 abbrev pub number : Event → ℕ
 number (opened method k p setpoints a) = numberOf a
-number (begun-write q mask setpoints a) = numberOf a
+number (begun-write q mask badge setpoints a) = numberOf a
 number (begun-read q mask a) = numberOf a
 number (requested q i a) = numberOf a
 number (replied q i d) = numberOfArrival (d .arrival)
@@ -46,7 +46,7 @@ countedArrival (arrival.Refused m) n = n
 abbrev pub accepted : Event → ℕ → ℕ
 accepted (opened method k p setpoints answer.Ok) n = 1
 accepted (opened method k p setpoints (answer.Refused m)) n = n
-accepted (begun-write q mask setpoints a) n = countedAnswer a n
+accepted (begun-write q mask badge setpoints a) n = countedAnswer a n
 accepted (begun-read q mask a) n = countedAnswer a n
 accepted (requested q i a) n = countedAnswer a n
 accepted (replied q i d) n = countedArrival (d .arrival) n

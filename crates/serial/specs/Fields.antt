@@ -11,7 +11,8 @@ use lib.Dec.{ltb}
 use borrow.Author.Tests.{ltb-true, ltb-false, ne-eqb}
 use Rattle.ranges.specs.Tests.{either, by-test, not-both}
 use Rattle.ranges.specs.Each.{Each}
-use Rattle.keys.specs.Masks.{hasServer, no-server}
+use Rattle.keys.specs.Masks.{hasServer}
+use Rattle.keys.specs.MaskLaws.{no-server}
 use Rattle.tables.specs.declared.links.Content.{Content}
 use Rattle.tables.specs.declared.links.Content.the-variants.{Nothing, Request, Reply}
 use Rattle.tables.specs.Tables.{Tables, contentAt}
@@ -107,11 +108,15 @@ in-mask mask i e =
     (λ b. ltb-true i mask b)
     (λ b. absurd (not-both e (no-server mask mask i (small mask) (ltb-false i mask b))))
 
+-- two values are the same where each part is
+pub value-same : {s s′ t t′ b b′ : ℕ} → s ≡ s′ → t ≡ t′ → b ≡ b′ → valueOf s t b ≡ valueOf s′ t′ b′
+value-same e f g = rw (e, f, g)
+
 abbrev sameValue : (v w : Value) → Test (v ≡ w)
 sameValue v w =
-    meaning (both (equal (v .setpoint) (w .setpoint)) (equal (v .tag) (w .tag)))
-    (λ e. ap₂ valueOf (e .0) (e .1))
-    (λ e. (ap (λ (u : Value). u .setpoint) e, ap (λ (u : Value). u .tag) e))
+    meaning (both (equal (v .setpoint) (w .setpoint)) (both (equal (v .tag) (w .tag)) (equal (v .badge) (w .badge))))
+    (λ e. value-same (e .0) (e .1 .0) (e .1 .1))
+    (λ e. (ap (λ (u : Value). u .setpoint) e, (ap (λ (u : Value). u .tag) e, ap (λ (u : Value). u .badge) e)))
 
 abbrev shows : (values : ℕ → Value) (x : Transaction) → Test (Shows values x)
 shows values x =
@@ -154,14 +159,14 @@ leavesReply (answer.Refused n) content = always tt
 
 abbrev answersAt : (e : Event) (t : Tables) → Test (AnswersAt e t)
 answersAt (opened method k p setpoints a) t = always tt
-answersAt (begun-write q mask setpoints a) t = always tt
+answersAt (begun-write q mask badge setpoints a) t = always tt
 answersAt (begun-read q mask a) t = always tt
 answersAt (requested q i a) t = leavesReply a (contentAt t q i)
 answersAt (replied q i d) t = always tt
 
 abbrev isUnfinished : (extra : ℕ) (d : Doing) → Test (Unfinished extra d)
 isUnfinished extra nothing = always tt
-isUnfinished extra (writing mask setpoints begin) = always tt
+isUnfinished extra (writing mask badge setpoints begin) = always tt
 isUnfinished extra (tagged tag) = always tt
 isUnfinished extra (reading mask begin deliveries) = less deliveries (enough extra mask)
 
@@ -173,7 +178,7 @@ saysTag (some b) tag = meaning (equal b tag) (λ e a f. sym (Option·some-inject
 
 abbrev clientOf : Event → ℕ
 clientOf (opened method k p setpoints a) = 0
-clientOf (begun-write q mask setpoints a) = q
+clientOf (begun-write q mask badge setpoints a) = q
 clientOf (begun-read q mask a) = q
 clientOf (requested q i a) = q
 clientOf (replied q i d) = q
@@ -194,31 +199,31 @@ module _ (j : ℕ) where
 
     begun-idle : (c x : Doing) → Idle (begun c q x h)
     begun-idle nothing x = others x
-    begun-idle (writing mask setpoints begin) x = idle
+    begun-idle (writing mask badge setpoints begin) x = idle
     begun-idle (tagged tag) x = idle
     begun-idle (reading mask begin deliveries) x = idle
 
     delivered-idle : (c : Doing) → Idle (delivered c q h)
     delivered-idle nothing = idle
-    delivered-idle (writing mask setpoints begin) = idle
+    delivered-idle (writing mask badge setpoints begin) = idle
     delivered-idle (tagged tag) = idle
     delivered-idle (reading mask begin deliveries) = others _
 
     entered-idle : (c : Doing) → Idle (entered c q h)
     entered-idle nothing = idle
-    entered-idle (writing mask setpoints begin) = others _
+    entered-idle (writing mask badge setpoints begin) = others _
     entered-idle (tagged tag) = idle
     entered-idle (reading mask begin deliveries) = others _
 
     wrote-idle : (a : ℕ) (c : Doing) → Idle (wrote a c q h)
     wrote-idle a nothing = idle
-    wrote-idle a (writing mask setpoints begin) = idle
+    wrote-idle a (writing mask badge setpoints begin) = idle
     wrote-idle a (tagged tag) = others _
     wrote-idle a (reading mask begin deliveries) = idle
 
     showed-idle : (tag : ℕ) (s : Delivered) (c : Doing) → Idle (showed tag s c q h)
     showed-idle tag s nothing = idle
-    showed-idle tag s (writing mask setpoints begin) = idle
+    showed-idle tag s (writing mask badge setpoints begin) = idle
     showed-idle tag s (tagged t) = idle
     showed-idle tag s (reading mask begin deliveries) = others _
 
@@ -232,8 +237,8 @@ module _ (j : ℕ) where
   after-idle : (e : Event) (h : History) → Idle h → clientOf e < j → Idle (after e h)
   after-idle (opened method k p setpoints answer.Ok) h idle l = refl
   after-idle (opened method k p setpoints (answer.Refused n)) h idle l = idle
-  after-idle (begun-write q mask setpoints answer.Ok) h idle l = begun-idle h idle q (λ e. omega arith) (h .doing q) _
-  after-idle (begun-write q mask setpoints (answer.Refused n)) h idle l = idle
+  after-idle (begun-write q mask badge setpoints answer.Ok) h idle l = begun-idle h idle q (λ e. omega arith) (h .doing q) _
+  after-idle (begun-write q mask badge setpoints (answer.Refused n)) h idle l = idle
   after-idle (begun-read q mask answer.Ok) h idle l = begun-idle h idle q (λ e. omega arith) (h .doing q) _
   after-idle (begun-read q mask (answer.Refused n)) h idle l = idle
   after-idle (requested q i answer.Ok) h idle l =

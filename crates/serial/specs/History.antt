@@ -13,31 +13,35 @@ use Rattle.rules.specs.declared.Arrival.{Arrival}
 use Rattle.rules.specs.declared.Arrival.the-variants as arrival
 use Rattle.rules.specs.declared.Delivered.{Delivered}
 use Rattle.rules.specs.Common.{coordinator}
+use Rattle.refusals.specs.Steps.{badgeOf}
 use Rattle.serial.specs.Steps.{Event, opened, begun-write, begun-read, requested, replied, Played, Machine, run}
 
 -- a function changed at one place
 unfoldable pub changed : {A : Type 0} → (ℕ → A) → ℕ → A → ℕ → A
 changed f i a j = cond (eqb j i) a (f j)
 
--- What a station has at a place of the row: a setpoint, and the tag of the WRITE that put it there.
+-- What a station has at a place of the row: a setpoint, and tag and badge of the WRITE that put it there.
 pub record Value : Type 0 where
   pub setpoint : ℕ
   pub tag : ℕ
+  pub badge : ℕ
 
-abbrev pub valueOf : ℕ → ℕ → Value
-valueOf setpoint tag = record { setpoint = setpoint; tag = tag }
+abbrev pub valueOf : ℕ → ℕ → ℕ → Value
+valueOf setpoint tag badge = record { setpoint = setpoint; tag = tag; badge = badge }
 
--- "at first the opening's", whose tag is 0
+-- "at first the opening's", whose tag is 0; "the opening has badge 0"
 abbrev pub valueOpened : List ℕ → ℕ → Value
-valueOpened setpoints i = valueOf (getD setpoints i 0) 0
+valueOpened setpoints i = valueOf (getD setpoints i 0) 0 0
 
--- "A WRITE sets the value of each station in its mask to the setpoint that its begin gave for that station", and its tag to its own
-abbrev pub valueWritten : ℕ → List ℕ → ℕ → Value
-valueWritten tag setpoints i = valueOf (getD setpoints i 0) tag
+-- "A WRITE sets the value of each station in its mask to the setpoint that its begin gave for that station", and tag and badge
+-- to its own: "Every WRITE carries a 16-bit badge number"
+abbrev pub valueWritten : ℕ → ℕ → List ℕ → ℕ → Value
+valueWritten tag badge setpoints i = valueOf (getD setpoints i 0) tag badge
 
--- "A READ's tag and the setpoints it shows are those in its *read*", and so are the tags that it shows with them
+-- "A READ's tag and the setpoints it shows are those in its *read*", and so are the tags and
+-- badges that it shows with them
 abbrev pub valueShown : Delivered → ℕ → Value
-valueShown d i = valueOf (getD (d .setpoints) i 0) (getD (d .tags) i 0)
+valueShown d i = valueOf (getD (d .setpoints) i 0) (getD (d .tags) i 0) (getD (d .badges) i 0)
 
 -- A transaction that stands in the row. Steps are numbered from 0 behind the opening, refused ones too.
 pub record Transaction : Type 0 where
@@ -55,7 +59,7 @@ pub record Transaction : Type 0 where
 -- What a client is at: no transaction; a WRITE whose request at target 16 was not delivered yet; a WRITE of a tag; a READ with its deliveries so far.
 pub data Doing : Type 0 where
   nothing : Doing
-  writing : (mask : ℕ) → List ℕ → (begin : ℕ) → Doing
+  writing : (mask badge : ℕ) → List ℕ → (begin : ℕ) → Doing
   tagged : (tag : ℕ) → Doing
   reading : (mask begin deliveries : ℕ) → Doing
 
@@ -93,14 +97,14 @@ turned q doing h = historyOf (h .initial) (h .extra) (suc (h .clock)) (h .tags) 
 -- "A transaction begins at an accepted begin"
 abbrev pub begun : Doing → ℕ → Doing → History → History
 begun nothing q doing h = turned q doing h
-begun (writing mask setpoints begin) q doing h = strayed h
+begun (writing mask badge setpoints begin) q doing h = strayed h
 begun (tagged tag) q doing h = strayed h
 begun (reading mask begin deliveries) q doing h = strayed h
 
 -- "A READ's deliveries are the accepted ones, of requests and replies, on its panel's links from its begin to its end"
 abbrev pub delivered : Doing → ℕ → History → History
 delivered nothing q h = strayed h
-delivered (writing mask setpoints begin) q h = passed h
+delivered (writing mask badge setpoints begin) q h = passed h
 delivered (tagged tag) q h = passed h
 delivered (reading mask begin deliveries) q h = turned q (reading mask begin (suc deliveries)) h
 
@@ -109,16 +113,16 @@ abbrev pub writeOf : ℕ → ℕ → (ℕ → Value) → ℕ → ℕ → Option 
 writeOf q mask value tag begin end =
     record { isWrite = true; client = q; mask = mask; value = value; tag = tag; begin = begin; end = end; deliveries = 0 }
 
-abbrev pub given : ℕ → ℕ → List ℕ → ℕ → History → History
-given q mask setpoints begin h =
+abbrev pub given : ℕ → ℕ → ℕ → List ℕ → ℕ → History → History
+given q mask badge setpoints begin h =
     historyOf (h .initial) (h .extra) (suc (h .clock)) (suc (h .tags))
-    (changed (h .write) (suc (h .tags)) (writeOf q mask (valueWritten (suc (h .tags)) setpoints) (suc (h .tags)) begin none))
+    (changed (h .write) (suc (h .tags)) (writeOf q mask (valueWritten (suc (h .tags)) badge setpoints) (suc (h .tags)) begin none))
     (changed (h .said) (suc (h .tags)) none)
     (h .reads) (changed (h .doing) q (tagged (suc (h .tags)))) (h .astray)
 
 abbrev pub entered : Doing → ℕ → History → History
 entered nothing q h = strayed h
-entered (writing mask setpoints begin) q h = given q mask setpoints begin h
+entered (writing mask badge setpoints begin) q h = given q mask badge setpoints begin h
 entered (tagged tag) q h = passed h
 entered (reading mask begin deliveries) q h = turned q (reading mask begin (suc deliveries)) h
 
@@ -137,7 +141,7 @@ ended end x = record {
 
 abbrev pub wrote : ℕ → Doing → ℕ → History → History
 wrote answer nothing q h = strayed h
-wrote answer (writing mask setpoints begin) q h = strayed h
+wrote answer (writing mask badge setpoints begin) q h = strayed h
 wrote answer (tagged tag) q h =
     historyOf (h .initial) (h .extra) (suc (h .clock)) (h .tags)
     (changed (h .write) tag (ended (h .clock) (h .write tag)))
@@ -151,7 +155,7 @@ readOf q mask value tag begin end deliveries =
 
 abbrev pub showed : ℕ → Delivered → Doing → ℕ → History → History
 showed tag d nothing q h = strayed h
-showed tag d (writing mask setpoints begin) q h = strayed h
+showed tag d (writing mask badge setpoints begin) q h = strayed h
 showed tag d (tagged t) q h = strayed h
 showed tag d (reading mask begin deliveries) q h =
     historyOf (h .initial) (h .extra) (suc (h .clock)) (h .tags) (h .write) (h .said)
@@ -167,7 +171,7 @@ arrived (arrival.Refused n) d q h = passed h
 
 -- Behind an accepted opening there is nothing yet. Demand 3: a READ of m stations ends at exactly the 2m-th delivery on its links under A, at the (2m + 2)-th under B and C.
 abbrev pub noWrite : Transaction
-noWrite = writeOf 0 0 (valueWritten 0 []) 0 0 none
+noWrite = writeOf 0 0 (valueWritten 0 0 []) 0 0 none
 
 abbrev pub fresh : (ℕ → Value) → ℕ → History
 fresh initial extra = historyOf initial extra 0 0 (λ tag. noWrite) (λ tag. none) [] (λ q. nothing) 0
@@ -186,8 +190,8 @@ atCoordinator i = eqb i coordinator
 abbrev pub after : Event → History → History
 after (opened method k p setpoints Ok) h = openedWith method setpoints
 after (opened method k p setpoints (Refused n)) h = passed h
-after (begun-write q mask setpoints Ok) h = begun (h .doing q) q (writing mask setpoints (h .clock)) h
-after (begun-write q mask setpoints (Refused n)) h = passed h
+after (begun-write q mask badge setpoints Ok) h = begun (h .doing q) q (writing mask (badgeOf badge) setpoints (h .clock)) h
+after (begun-write q mask badge setpoints (Refused n)) h = passed h
 after (begun-read q mask Ok) h = begun (h .doing q) q (reading mask (h .clock) 0) h
 after (begun-read q mask (Refused n)) h = passed h
 after (requested q i Ok) h = cond (atCoordinator i) (entered (h .doing q) q h) (delivered (h .doing q) q h)

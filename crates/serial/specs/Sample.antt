@@ -11,7 +11,7 @@ use Rattle.ranges.specs.First.{firstFrom}
 use Rattle.ranges.specs.Last.{lastBelow}
 use Rattle.ranges.specs.Turns.{turns}
 use Rattle.ranges.specs.Inserted.{inserted}
-use Rattle.tables.specs.Layout.{countWords, clientWidth, serverPlaces, logPlaces, entryWidth, recordPlaces, recordWidth}
+use Rattle.tables.specs.Layout.{countWords, clientWidth, serverPlaces, valueWidth, logPlaces, entryWidth, recordPlaces, recordWidth}
 use Rattle.tables.specs.Links.{targets, linkWidth, linkAt, putLink}
 use Rattle.tables.specs.Tables.{Tables, tablesOf}
 use Rattle.server.specs.Held.{appended}
@@ -32,7 +32,7 @@ use Rattle.serial.specs.Row.{readsOf, rowTo, row}
 unfoldable pub zeros : Tables
 zeros =
     tablesOf (replicate countWords 0) (replicate (clientWidth * 2) 0) (replicate (linkWidth * (targets * 2)) 0)
-    (replicate (serverPlaces * 2) 0) (replicate (serverPlaces * 2) 0) (replicate (entryWidth * logPlaces) 0)
+    (replicate (serverPlaces * 2) 0) (replicate (valueWidth * (serverPlaces * 2)) 0) (replicate (entryWidth * logPlaces) 0)
     (replicate (recordWidth * recordPlaces) 0) (replicate (recordWidth * recordPlaces) 0)
 
 unfoldable pub start : Tables
@@ -41,17 +41,20 @@ start = store.open′ 2 2 2 (1200 ∷ 30 ∷ []) zeros .tables
 -- the sample's lines behind the opening
 unfoldable pub sample : List Step
 sample =
-    beginning-write 0 3 (1800 ∷ 45 ∷ []) ∷ request 0 0 ∷ beginning-read 1 3 ∷ request 1 16 ∷ request 0 1 ∷ reply 0 0 ∷ reply 0 1 ∷ request 0 16 ∷ reply 1 16 ∷
+    beginning-write 0 3 0 (1800 ∷ 45 ∷ []) ∷ request 0 0 ∷ beginning-read 1 3 ∷ request 1 16 ∷ request 0 1 ∷ reply 0 0 ∷ reply 0 1 ∷
+    request 0 16 ∷
+    reply 1 16 ∷
     request 1 0 ∷ reply 1 0 ∷ request 1 1 ∷ reply 1 1 ∷ reply 0 16 ∷ []
 
--- an answer that shows the setpoints of two servers and the tags that they come from
-abbrev pub shows : ℕ → List ℕ → List ℕ → Delivered
-shows tag setpoints tags = record { arrival = Read tag; setpoints = setpoints ++ replicate 14 0; tags = tags ++ replicate 14 0 }
+-- an answer that shows the setpoints of two servers, and the tags and badges that they come from
+abbrev pub shows : ℕ → List ℕ → List ℕ → List ℕ → Delivered
+shows tag setpoints tags badges =
+    record { arrival = Read tag; setpoints = setpoints ++ replicate 14 0; tags = tags ++ replicate 14 0; badges = badges ++ replicate 14 0 }
 
--- `R 0 1 4 14` and `W 1 0 1 2 15`: the steps count from 0 behind the opening, which is document 01's step 1
+-- `R 0 1 4 14` and `W 1 0 1 2 15 0`: the steps count from 0 behind the opening, which is document 01's step 1
 pub sample-row : row (history (run play sample start) (openedWith 2 (1200 ∷ 30 ∷ []))) ≡
-    readOf 1 3 (valueShown (shows 0 (1200 ∷ 30 ∷ []) (0 ∷ 0 ∷ []))) 0 2 12 6 ∷
-    writeOf 0 3 (valueWritten 1 (1800 ∷ 45 ∷ [])) 1 0 (some 13) ∷ []
+    readOf 1 3 (valueShown (shows 0 (1200 ∷ 30 ∷ []) (0 ∷ 0 ∷ []) (0 ∷ 0 ∷ []))) 0 2 12 6 ∷
+    writeOf 0 3 (valueWritten 1 0 (1800 ∷ 45 ∷ [])) 1 0 (some 13) ∷ []
 unfolding zeros start sample changed inserted readsOf rowTo store.open′ store.beginWrite store.beginRead store.deliverRequest
     store.deliverReply openRefusal writeRefusal readRefusal deliveryRefusal longEnough pressFits turns sound scalarsSound keyInRange
     serverSound entrySound logSound stateAllowed uses requestSound replySound contentSound linkSound receivedSound clientSound
@@ -61,7 +64,7 @@ unfolding zeros start sample changed inserted readsOf rowTo store.open′ store.
 sample-row = refl
 
 -- "A READ now shows with each setpoint the tag of the WRITE that put it there, 0 for the opening": one WRITE of server 0 alone, from its
--- begin to its end, and then a READ of both servers. Client 0 reads, since under A no other does.
+-- begin to its end, and then a READ of both servers. Client 0 reads, since under A no other does. The WRITE has badge 7.
 unfoldable pub startBy : ℕ → Tables
 startBy method = store.open′ method 2 2 (1200 ∷ 30 ∷ []) zeros .tables
 
@@ -69,7 +72,7 @@ unfoldable pub rowBy : ℕ → List Step → List Transaction
 rowBy method steps = row (history (run play steps (startBy method)) (openedWith method (1200 ∷ 30 ∷ [])))
 
 unfoldable pub one : List Step
-one = beginning-write 1 1 (1800 ∷ 45 ∷ []) ∷ request 1 0 ∷ reply 1 0 ∷ request 1 16 ∷ reply 1 16 ∷ []
+one = beginning-write 1 1 7 (1800 ∷ 45 ∷ []) ∷ request 1 0 ∷ reply 1 0 ∷ request 1 16 ∷ reply 1 16 ∷ []
 
 unfoldable pub readA : List Step
 readA = beginning-read 0 3 ∷ request 0 0 ∷ reply 0 0 ∷ request 0 1 ∷ reply 0 1 ∷ []
@@ -84,15 +87,26 @@ readC = beginning-read 0 3 ∷ request 0 0 ∷ request 0 1 ∷ request 0 16 ∷ 
 unfoldable pub behindC : List Step
 behindC =
     beginning-read 0 3 ∷ request 0 0 ∷ request 0 1 ∷
-    beginning-write 1 3 (900 ∷ 12 ∷ []) ∷ request 1 0 ∷ request 1 1 ∷ reply 1 0 ∷ reply 1 1 ∷ request 1 16 ∷
+    beginning-write 1 3 9 (900 ∷ 12 ∷ []) ∷ request 1 0 ∷ request 1 1 ∷ reply 1 0 ∷ reply 1 1 ∷ request 1 16 ∷
     request 0 16 ∷ reply 0 0 ∷ reply 0 1 ∷ reply 0 16 ∷ []
 
--- the WRITE, and a READ behind it that shows 1800 of tag 1 and the opening's 30
+-- the WRITE, and a READ behind it that shows 1800 of tag 1 and badge 7, and the opening's 30
 abbrev wroteOne : Transaction
-wroteOne = writeOf 1 1 (valueWritten 1 (1800 ∷ 45 ∷ [])) 1 0 (some 4)
+wroteOne = writeOf 1 1 (valueWritten 1 7 (1800 ∷ 45 ∷ [])) 1 0 (some 4)
 
 abbrev readBehind : ℕ → ℕ → Transaction
-readBehind end deliveries = readOf 0 3 (valueShown (shows 1 (1800 ∷ 30 ∷ []) (1 ∷ 0 ∷ []))) 1 5 end deliveries
+readBehind end deliveries = readOf 0 3 (valueShown (shows 1 (1800 ∷ 30 ∷ []) (1 ∷ 0 ∷ []) (7 ∷ 0 ∷ []))) 1 5 end deliveries
+
+-- "A READ must show the badge … that belongs to the same WRITE as the setpoint beside it": behind the first WRITE a second with the same
+-- setpoint and another badge, and then a READ
+unfoldable pub again : List Step
+again = beginning-write 1 1 65535 (1800 ∷ 45 ∷ []) ∷ request 1 0 ∷ reply 1 0 ∷ request 1 16 ∷ reply 1 16 ∷ []
+
+abbrev wroteAgain : Transaction
+wroteAgain = writeOf 1 1 (valueWritten 2 65535 (1800 ∷ 45 ∷ [])) 2 5 (some 9)
+
+abbrev readAgain : ℕ → ℕ → Transaction
+readAgain end deliveries = readOf 0 3 (valueShown (shows 2 (1800 ∷ 30 ∷ []) (2 ∷ 0 ∷ []) (65535 ∷ 0 ∷ []))) 2 10 end deliveries
 
 -- "READs of one tag in order of begin step": by B, client 0 begins a READ of server 0 and then client 1 another, which ends first.
 unfoldable pub laterFirst : List Step
@@ -103,21 +117,24 @@ laterFirst =
 
 -- each shows the opening's 1200
 abbrev readOpening : ℕ → ℕ → ℕ → Transaction
-readOpening client begin end = readOf client 1 (valueShown (shows 0 (1200 ∷ 0 ∷ []) (0 ∷ 0 ∷ []))) 0 begin end 4
+readOpening client begin end = readOf client 1 (valueShown (shows 0 (1200 ∷ 0 ∷ []) (0 ∷ 0 ∷ []) (0 ∷ 0 ∷ []))) 0 begin end 4
 
 pub record Rows : Type 0 where
   pub byA : rowBy 1 (one ++ readA) ≡ wroteOne ∷ readBehind 9 4 ∷ []
   pub byB : rowBy 2 (one ++ readB) ≡ wroteOne ∷ readBehind 11 6 ∷ []
   pub byC : rowBy 3 (one ++ readC) ≡ wroteOne ∷ readBehind 11 6 ∷ []
-  pub back : rowBy 3 (one ++ behindC) ≡ wroteOne ∷ readBehind 17 6 ∷ writeOf 1 3 (valueWritten 2 (900 ∷ 12 ∷ [])) 2 8 none ∷ []
+  pub back : rowBy 3 (one ++ behindC) ≡ wroteOne ∷ readBehind 17 6 ∷ writeOf 1 3 (valueWritten 2 9 (900 ∷ 12 ∷ [])) 2 8 none ∷ []
+  pub againA : rowBy 1 (one ++ again ++ readA) ≡ wroteOne ∷ wroteAgain ∷ readAgain 14 4 ∷ []
+  pub againB : rowBy 2 (one ++ again ++ readB) ≡ wroteOne ∷ wroteAgain ∷ readAgain 16 6 ∷ []
+  pub againC : rowBy 3 (one ++ again ++ readC) ≡ wroteOne ∷ wroteAgain ∷ readAgain 16 6 ∷ []
   -- begun at steps 0 and 1, ended at steps 9 and 5
   pub byBegin : rowBy 2 laterFirst ≡ readOpening 0 0 9 ∷ readOpening 1 1 5 ∷ []
 
 pub rows : Rows
-unfolding startBy rowBy one readA readB readC behindC laterFirst zeros changed inserted readsOf rowTo store.open′ store.beginWrite
+unfolding startBy rowBy one again readA readB readC behindC laterFirst zeros changed inserted readsOf rowTo store.open′ store.beginWrite
     store.beginRead store.deliverRequest store.deliverReply openRefusal writeRefusal readRefusal deliveryRefusal longEnough pressFits
     turns sound scalarsSound keyInRange serverSound entrySound logSound stateAllowed uses requestSound replySound contentSound linkSound
     receivedSound clientSound writeSound readSound openSound recordsSound allBelow anyBelow sumBelow linkAt putLink firstFrom lastBelow
     appended log.entered begunWrite begunRead onSet onEnter onWhichKeys onGet onGetAll onRequestIn requestDelivered onSetDone onEntered
     onKeys onGot onAll onReplyIn replyDelivered
-rows = record { byA = refl; byB = refl; byC = refl; back = refl; byBegin = refl }
+rows = record { byA = refl; byB = refl; byC = refl; back = refl; againA = refl; againB = refl; againC = refl; byBegin = refl }

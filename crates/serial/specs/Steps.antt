@@ -11,7 +11,7 @@ use Rattle.refusals.specs.Steps.{open′, beginWrite, beginRead, deliverRequest
 -- refused ones and refused openings too." The numbers are those of `store`'s steps.
 pub data Step : Type 0 where
   opening : (method k p : ℕ) → List ℕ → Step
-  beginning-write : (client mask : ℕ) → List ℕ → Step
+  beginning-write : (client mask badge : ℕ) → List ℕ → Step
   beginning-read : (client mask : ℕ) → Step
   request : (client target : ℕ) → Step
   reply : (client target : ℕ) → Step
@@ -19,7 +19,7 @@ pub data Step : Type 0 where
 -- "Its words go by steps and answers": a step and its answer
 pub data Event : Type 0 where
   opened : (method k p : ℕ) → List ℕ → Answer → Event
-  begun-write : (client mask : ℕ) → List ℕ → Answer → Event
+  begun-write : (client mask badge : ℕ) → List ℕ → Answer → Event
   begun-read : (client mask : ℕ) → Answer → Event
   requested : (client target : ℕ) → Answer → Event
   replied : (client target : ℕ) → Delivered → Event
@@ -42,7 +42,7 @@ Machine S = S → Tables → Played
 -- the store's machine: its five public steps
 abbrev pub play : Machine Step
 play (opening method k p setpoints) t = leaving (opened method k p setpoints) (open′ method k p setpoints t)
-play (beginning-write q mask setpoints) t = leaving (begun-write q mask setpoints) (beginWrite q mask setpoints t)
+play (beginning-write q mask badge setpoints) t = leaving (begun-write q mask badge setpoints) (beginWrite q mask badge setpoints t)
 play (beginning-read q mask) t = leaving (begun-read q mask) (beginRead q mask t)
 play (request q i) t = leaving (requested q i) (deliverRequest q i t)
 play (reply q i) t = arriving (replied q i) (deliverReply q i t)

@@ -49,12 +49,12 @@ readByB q = beginning-read q 3 ∷ visits q (16 ∷ 0 ∷ 1 ∷ [])
 abbrev readByC : ℕ → List Step
 readByC q = beginning-read q 3 ∷ visits q (0 ∷ 1 ∷ 16 ∷ [])
 
--- a WRITE of both, and one of server 0
+-- a WRITE of both, and one of server 0; every WRITE here has badge 7
 abbrev writeBoth : ℕ → List Step
-writeBoth q = beginning-write q 3 second ∷ visits q (0 ∷ 1 ∷ 16 ∷ [])
+writeBoth q = beginning-write q 3 7 second ∷ visits q (0 ∷ 1 ∷ 16 ∷ [])
 
 abbrev writeOne : ℕ → List Step
-writeOne q = beginning-write q 1 second ∷ visits q (0 ∷ 16 ∷ [])
+writeOne q = beginning-write q 1 7 second ∷ visits q (0 ∷ 16 ∷ [])
 
 -- a WRITE and then a READ, by each method; client 0 reads by A and writes by B and C
 abbrev pub thenReadByA : List Step
@@ -72,7 +72,7 @@ thenReadOfBoth = writeOne 0 ++ readByC 1
 
 -- by C, a WRITE that has its tag and not its answer; then two READs, one after the other
 abbrev pub twoReads : List Step
-twoReads = beginning-write 0 3 second ∷ visits 0 (0 ∷ 1 ∷ []) ++ (request 0 16 ∷ readByC 1 ++ readByC 1)
+twoReads = beginning-write 0 3 7 second ∷ visits 0 (0 ∷ 1 ∷ []) ++ (request 0 16 ∷ readByC 1 ++ readByC 1)
 
 -- by B, a READ of server 1, and then a WRITE of server 0
 abbrev pub thenWrite : List Step
@@ -80,11 +80,11 @@ thenWrite = beginning-read 1 2 ∷ visits 1 (16 ∷ 1 ∷ []) ++ writeOne 0
 
 -- by C, a WRITE that the coordinator has before server 1, and then a READ
 abbrev pub hasty : List Step
-hasty = beginning-write 0 3 second ∷ visits 0 (0 ∷ 16 ∷ []) ++ readByC 1
+hasty = beginning-write 0 3 7 second ∷ visits 0 (0 ∷ 16 ∷ []) ++ readByC 1
 
 -- by B, a READ that has its keys, and then a setpoint that comes to server 0 before the READ does
 abbrev pub crossing : List Step
-crossing = beginning-read 1 3 ∷ visits 1 (16 ∷ []) ++ (beginning-write 0 3 second ∷ request 0 0 ∷ visits 1 (0 ∷ 1 ∷ []))
+crossing = beginning-read 1 3 ∷ visits 1 (16 ∷ []) ++ (beginning-write 0 3 7 second ∷ request 0 0 ∷ visits 1 (0 ∷ 1 ∷ []))
 
 -- a READ that has a reply more than it needs, and one that has not all
 abbrev pub replyMore : List Step
@@ -95,10 +95,10 @@ replyLess = beginning-read 1 3 ∷ visits 1 (16 ∷ 0 ∷ [])
 
 -- a WRITE whose request was delivered, and one whose acknowledgements are in
 abbrev pub requestOnly : List Step
-requestOnly = beginning-write 0 1 second ∷ request 0 0 ∷ []
+requestOnly = beginning-write 0 1 7 second ∷ request 0 0 ∷ []
 
 abbrev pub acknowledged : ℕ → List Step
-acknowledged q = beginning-write q 1 second ∷ visits q (0 ∷ [])
+acknowledged q = beginning-write q 1 7 second ∷ visits q (0 ∷ [])
 
 -- two WRITEs, the second begun when the first was acknowledged, that come to the coordinator the other way round
 abbrev pub overtaken : List Step
@@ -106,7 +106,7 @@ overtaken = acknowledged 0 ++ (acknowledged 1 ++ (request 1 16 ∷ request 0 16 
 
 -- a begin of a client that is at a WRITE, and of one that is at a READ
 abbrev pub writeTwice : List Step
-writeTwice = beginning-write 1 1 second ∷ beginning-write 1 2 second ∷ []
+writeTwice = beginning-write 1 1 7 second ∷ beginning-write 1 2 7 second ∷ []
 
 abbrev pub readTwice : List Step
 readTwice = beginning-read 1 1 ∷ beginning-read 1 2 ∷ []
@@ -131,6 +131,7 @@ record Tested : Type 0 where
   not-opening-at-server-1 : Computed (walk ∷ []) store.openingAtServer1 2 thenReadByB
   not-latest : Computed (walk ∷ []) store.showingLatest 2 crossing
   not-own-tag : Computed (walk ∷ []) store.ownTag 3 thenReadOfBoth
+  not-mixed : Computed (walk ∷ []) store.mixingBadges 2 crossing
   not-beyond : Computed (whole ∷ complete ∷ []) store.tagTooLarge 2 (readByB 1)
   not-opening-again : Computed (readAfterRead ∷ []) store.openingAgain 3 twoReads
   not-to-come : Computed (writeAfterRead ∷ []) store.tagTooLarge 2 thenWrite
@@ -171,6 +172,7 @@ tested = record {
   not-opening-at-server-1 = refl;
   not-latest = refl;
   not-own-tag = refl;
+  not-mixed = refl;
   not-beyond = refl;
   not-opening-again = refl;
   not-to-come = refl;
@@ -228,6 +230,10 @@ not-latest = breaks store.showingLatest 2 crossing walk [] opensB (tested .not-l
 -- a READ shows right setpoints with a wrong tag: its own, with a setpoint that the opening put there
 pub not-own-tag : Breaks (walk ∷ []) store.ownTag 3 thenReadOfBoth
 not-own-tag = breaks store.ownTag 3 thenReadOfBoth walk [] opensC (tested .not-own-tag)
+
+-- a READ shows right setpoints and tags with the badge of another WRITE
+pub not-mixed : Breaks (walk ∷ []) store.mixingBadges 2 crossing
+not-mixed = breaks store.mixingBadges 2 crossing walk [] opensB (tested .not-mixed)
 
 -- a READ answers a tag beyond the last
 pub not-beyond : Breaks (whole ∷ complete ∷ []) store.tagTooLarge 2 (readByB 1)

@@ -6,9 +6,10 @@ use lib.ListN.{getD, replicate}
 use lib.Dec.{eqb, ltb}
 use Rattle.ranges.specs.Turns.{turns}
 use Rattle.keys.specs.Keys.{keyOf}
-use Rattle.tables.specs.Layout.{putClientWord, stateField, versionWord}
-use Rattle.tables.specs.Links.{putLink}
+use Rattle.tables.specs.Layout.{putClientWord, stateField, versionBadge}
+use Rattle.tables.specs.Links.{linkWord, putLink}
 use Rattle.tables.specs.Tables.{Tables, withClients, withLinks, readsOf, stateOf, countOf, maskOf, heldOf}
+use Rattle.tables.specs.declared.links.Content.{Content}
 use Rattle.tables.specs.declared.links.Content.the-variants.{Nothing}
 use Rattle.rules.specs.declared.Answer.the-variants.{Ok}
 use Rattle.rules.specs.declared.Arrival.{Arrival}
@@ -16,6 +17,7 @@ use Rattle.rules.specs.declared.Arrival.the-variants.{Wait, Next, Write, Read, 
 use Rattle.rules.specs.declared.Delivered.{Delivered}
 use Rattle.rules.specs.Answers.{nothingShown}
 use Rattle.rules.specs.Common as rules
+use Rattle.rules.specs.Request.{gotFrom}
 use Rattle.refusals.specs.Steps.{deliverReply}
 use Rattle.serial.specs.Steps.{Step, opening, beginning-write, beginning-read, request, reply}
 use Rattle.serial.specs.Steps.{Event, opened, begun-write, begun-read, requested, replied, Played, Machine, play}
@@ -31,11 +33,11 @@ second = 1800 ∷ 45 ∷ []
 
 -- another answer that shows the same
 abbrev said : Arrival → Delivered → Delivered
-said a d = record { arrival = a; setpoints = d .setpoints; tags = d .tags }
+said a d = record { arrival = a; setpoints = d .setpoints; tags = d .tags; badges = d .badges }
 
--- an answer that shows the opening: its setpoints, and no tag but 0
+-- an answer that shows the opening: its setpoints, and no tag or badge but 0
 abbrev showsOpening : Arrival → Delivered
-showsOpening a = record { arrival = a; setpoints = first; tags = [] }
+showsOpening a = record { arrival = a; setpoints = first; tags = []; badges = [] }
 
 -- what is answered in place of an answer, with the tables that the step left
 abbrev pub Answering : Type 0
@@ -43,7 +45,7 @@ Answering = Tables → Arrival → Delivered → Delivered
 
 abbrev otherwise : Answering → Tables → Event → Event
 otherwise f t (opened method k p setpoints a) = opened method k p setpoints a
-otherwise f t (begun-write q mask setpoints a) = begun-write q mask setpoints a
+otherwise f t (begun-write q mask badge setpoints a) = begun-write q mask badge setpoints a
 otherwise f t (begun-read q mask a) = begun-read q mask a
 otherwise f t (requested q i a) = requested q i a
 otherwise f t (replied q i d) = replied q i (f t (d .arrival) d)
@@ -104,11 +106,18 @@ openingShown = answering (inPlaceOfRead (λ t tag shown. showsOpening (Read tag)
 
 -- a READ shows the opening at server 1
 abbrev pub openingAtServer1 : Machine Step
-openingAtServer1 = answering (inPlaceOfRead (λ t tag shown. record { arrival = Read tag; setpoints = getD (shown .setpoints) 0 0 ∷ 30 ∷ []; tags = getD (shown .tags) 0 0 ∷ [] }))
+openingAtServer1 =
+    answering (inPlaceOfRead (λ t tag shown. record {
+      arrival = Read tag;
+      setpoints = getD (shown .setpoints) 0 0 ∷ 30 ∷ [];
+      tags = getD (shown .tags) 0 0 ∷ [];
+      badges = getD (shown .badges) 0 0 ∷ [];
+    }))
 
 -- a READ shows the right setpoints, and with every one of them its own tag
 abbrev pub ownTag : Machine Step
-ownTag = answering (inPlaceOfRead (λ t tag shown. record { arrival = Read tag; setpoints = shown .setpoints; tags = replicate 16 tag }))
+ownTag =
+    answering (inPlaceOfRead (λ t tag shown. record { arrival = Read tag; setpoints = shown .setpoints; tags = replicate 16 tag; badges = shown .badges }))
 
 -- a READ answers a tag too large
 abbrev pub tagTooLarge : Machine Step
@@ -147,7 +156,7 @@ waitingAtNothing = answering (inPlaceOfRefused (nothingShown Wait))
 -- *ok* to every begin, of a busy client too
 abbrev begunAlways : Event → Event
 begunAlways (opened method k p setpoints a) = opened method k p setpoints a
-begunAlways (begun-write q mask setpoints a) = begun-write q mask setpoints Ok
+begunAlways (begun-write q mask badge setpoints a) = begun-write q mask badge setpoints Ok
 begunAlways (begun-read q mask a) = begun-read q mask Ok
 begunAlways (requested q i a) = requested q i a
 begunAlways (replied q i d) = replied q i d
@@ -158,7 +167,7 @@ beginningAlways step t = let x = play step t in record { event = begunAlways (x 
 -- *ok* to a request whose reply is not there
 abbrev pub unanswering : Machine Step
 unanswering (opening method k p setpoints) t = play (opening method k p setpoints) t
-unanswering (beginning-write q mask setpoints) t = play (beginning-write q mask setpoints) t
+unanswering (beginning-write q mask badge setpoints) t = play (beginning-write q mask badge setpoints) t
 unanswering (beginning-read q mask) t = play (beginning-read q mask) t
 unanswering (request q i) t = record { event = requested q i Ok; tables = t }
 unanswering (reply q i) t = play (reply q i) t
@@ -180,22 +189,36 @@ hurried (Refused n) q i x = x
 
 abbrev pub hurrying : Machine Step
 hurrying (opening method k p setpoints) t = play (opening method k p setpoints) t
-hurrying (beginning-write q mask setpoints) t = play (beginning-write q mask setpoints) t
+hurrying (beginning-write q mask badge setpoints) t = play (beginning-write q mask badge setpoints) t
 hurrying (beginning-read q mask) t = play (beginning-read q mask) t
 hurrying (request q i) t = play (request q i) t
 hurrying (reply q i) t = hurried (deliverReply q i t .delivered .arrival) q i (play (reply q i) t)
 
--- "A station showing its latest arrival in place of the asked key"
-abbrev arriving : ℕ → ℕ → Tables → Played → Played
-arriving q i t x =
-    let latest = rules.reply (versionWord (t .values) i (heldOf t i - 1)) in
+-- another got reply in place of a station's
+abbrev arriving : Content → ℕ → ℕ → Tables → Played → Played
+arriving content q i t x =
     cond (eqb (stateOf t q) rules.askingSetpoints)
-    (record { event = x .event; tables = withLinks (putLink (x .tables .links) q i latest) (x .tables) })
+    (record { event = x .event; tables = withLinks (putLink (x .tables .links) q i content) (x .tables) })
     x
+
+-- "A station showing its latest arrival in place of the asked key"
+abbrev latest : ℕ → Tables → Content
+latest i t = gotFrom (t .values) i (heldOf t i - 1)
 
 abbrev pub showingLatest : Machine Step
 showingLatest (opening method k p setpoints) t = play (opening method k p setpoints) t
-showingLatest (beginning-write q mask setpoints) t = play (beginning-write q mask setpoints) t
+showingLatest (beginning-write q mask badge setpoints) t = play (beginning-write q mask badge setpoints) t
 showingLatest (beginning-read q mask) t = play (beginning-read q mask) t
-showingLatest (request q i) t = arriving q i t (play (request q i) t)
+showingLatest (request q i) t = arriving (latest i t) q i t (play (request q i) t)
 showingLatest (reply q i) t = play (reply q i) t
+
+-- a station shows the setpoint of the asked key with the badge of its latest arrival: badges of two WRITEs mixed
+abbrev mixed : ℕ → ℕ → Tables → Tables → Content
+mixed q i t t′ = rules.gotReply (versionBadge (t .values) i (heldOf t i - 1)) (linkWord (t′ .links) q i 2)
+
+abbrev pub mixingBadges : Machine Step
+mixingBadges (opening method k p setpoints) t = play (opening method k p setpoints) t
+mixingBadges (beginning-write q mask badge setpoints) t = play (beginning-write q mask badge setpoints) t
+mixingBadges (beginning-read q mask) t = play (beginning-read q mask) t
+mixingBadges (request q i) t = let x = play (request q i) t in arriving (mixed q i t (x .tables)) q i t x
+mixingBadges (reply q i) t = play (reply q i) t

@@ -8,9 +8,9 @@ use Rattle.ranges.specs.First.{firstBelow}
 use Rattle.keys.specs.declared.Key.{Key}
 use Rattle.keys.specs.Keys.{keyWord}
 use Rattle.tables.specs.Rows.{HasRow}
-use Rattle.tables.specs.Layout.{countAt, heldField, serverPlaces, versionWord, putVersionWord, countWords}
+use Rattle.tables.specs.Layout.{countAt, heldField, serverPlaces, versionWord, putVersionWord, putValue, HasValues, countWords}
 
--- "A request delivered there appends (key, setpoint)." What an append leaves, and whether it was done: 256 versions are the most.
+-- "A request delivered there appends (key, setpoint)", with its badge. What an append leaves, and whether it was done: 256 are the most.
 pub record Appended : Type 0 where
   pub done : Bool
   pub counts : List ℕ
@@ -24,14 +24,17 @@ abbrev pub heldBy : List ℕ → ℕ → ℕ
 heldBy counts i = countAt counts (heldField + i)
 
 -- the version goes to the first place that is not held, and one more is held
-abbrev pub stored : List ℕ → List ℕ → List ℕ → ℕ → Key → ℕ → Appended
-stored counts keys values i key setpoint =
-    appendLeft true (set counts (heldField + i) (heldBy counts i + 1)) (putVersionWord keys i (heldBy counts i) (keyWord key)) (putVersionWord values i (heldBy counts i) setpoint)
+abbrev pub stored : List ℕ → List ℕ → List ℕ → ℕ → Key → ℕ → ℕ → Appended
+stored counts keys values i key badge setpoint =
+    appendLeft true
+    (set counts (heldField + i) (heldBy counts i + 1))
+    (putVersionWord keys i (heldBy counts i) (keyWord key))
+    (putValue values i (heldBy counts i) badge setpoint)
 
-unfoldable pub appended : List ℕ → List ℕ → List ℕ → ℕ → Key → ℕ → Appended
-appended counts keys values i key setpoint =
+unfoldable pub appended : List ℕ → List ℕ → List ℕ → ℕ → Key → ℕ → ℕ → Appended
+appended counts keys values i key badge setpoint =
     cond (ltb (heldBy counts i) serverPlaces)
-    (stored counts keys values i key setpoint)
+    (stored counts keys values i key badge setpoint)
     (appendLeft false counts keys values)
 
 -- "A key is looked up as the first version that bears it." The place of that version among the first n, and n where none bears it.
@@ -46,4 +49,4 @@ pub record Room (counts keys values : List ℕ) (i : ℕ) : Type 0 where
   pub server : i < 16
   pub counted : countWords ≤ length counts
   pub keyed : HasRow serverPlaces keys i
-  pub valued : HasRow serverPlaces values i
+  pub valued : HasValues values i

@@ -10,30 +10,34 @@ use lib.Seq.{getD-set-other}
 use Rattle.ranges.specs.Tests.{by-test, not-both}
 use Rattle.keys.specs.declared.Key.{Key}
 use Rattle.keys.specs.Keys.{keyWord}
-use Rattle.tables.specs.Layout.{countAt, heldField, serverPlaces, putVersionWord}
+use Rattle.tables.specs.Layout.{countAt, heldField, serverPlaces, putVersionWord, putValue}
 use Rattle.server.specs.Held.{appendLeft, heldBy, appended}
 
 -- the cases of an append, as the code meets them; h is what was read of the counts
-module _ (counts keys values : List ℕ) (i : ℕ) (key : Key) (setpoint : ℕ) {h : ℕ} (d : h ≡ heldBy counts i) where
-  pub append-full : serverPlaces ≤ h → appendLeft false counts keys values ≡ appended counts keys values i key setpoint
+module _ (counts keys values : List ℕ) (i : ℕ) (key : Key) (badge setpoint : ℕ) {h : ℕ} (d : h ≡ heldBy counts i) where
+  pub append-full : serverPlaces ≤ h → appendLeft false counts keys values ≡ appended counts keys values i key badge setpoint
   unfolding appended
   append-full g = rw (← d, le-ltb _ _ g)
 
-  pub append-stored : {keys′ values′ counts′ : List ℕ} → h < serverPlaces → keys′ ≡ putVersionWord keys i h (keyWord key) → values′ ≡ putVersionWord values i h setpoint →
-      counts′ ≡ set counts (heldField + i) (h + 1) → appendLeft true counts′ keys′ values′ ≡ appended counts keys values i key setpoint
+  pub append-stored : {keys′ values′ counts′ : List ℕ} → h < serverPlaces →
+      keys′ ≡ putVersionWord keys i h (keyWord key) → values′ ≡ putValue values i h badge setpoint →
+      counts′ ≡ set counts (heldField + i) (h + 1) → appendLeft true counts′ keys′ values′ ≡ appended counts keys values i key badge
+      setpoint
   unfolding appended
   append-stored g k v n = rw (← d, lt-ltb _ _ g, k, v, n)
 
 -- what an append leaves: nothing where it was not done, and every other count as it was
-module _ (counts keys values : List ℕ) (i : ℕ) (key : Key) (setpoint : ℕ) where
-  pub append-kept : appended counts keys values i key setpoint .done ≡ false → appended counts keys values i key setpoint ≡ appendLeft false counts keys values
+module _ (counts keys values : List ℕ) (i : ℕ) (key : Key) (badge setpoint : ℕ) where
+  pub append-kept : appended counts keys values i key badge setpoint .done ≡ false →
+      appended counts keys values i key badge setpoint ≡ appendLeft false counts keys values
   unfolding appended
   append-kept e =
       by-test (ltb (heldBy counts i) serverPlaces)
       (λ b. absurd (not-both refl (rw b at e)))
       (λ b. rw b)
 
-  pub append-count : (field : ℕ) → (field ≡ heldField + i → ⊥) → countAt (appended counts keys values i key setpoint .counts) field ≡ countAt counts field
+  pub append-count : (field : ℕ) → (field ≡ heldField + i → ⊥) →
+      countAt (appended counts keys values i key badge setpoint .counts) field ≡ countAt counts field
   unfolding appended
   append-count field d =
       by-test (ltb (heldBy counts i) serverPlaces)

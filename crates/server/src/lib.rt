@@ -15,17 +15,18 @@ pub fn append(
     values: &mut [u32],
     server: usize,
     key: Key,
+    badge: u32,
     setpoint: u32,
 ) -> bool
     requires { ⌜ Room (now counts) (now keys) (now values) server ⌝ }
     ensures { λ r. ⌜ appendLeft r (now (counts .exit)) (now (keys .exit)) (now (values .exit))
-        ≡ appended (now (counts .entry)) (now (keys .entry)) (now (values .entry)) server key setpoint ⌝ }
+        ≡ appended (now (counts .entry)) (now (keys .entry)) (now (values .entry)) server key badge setpoint ⌝ }
 {
     let held = counts::count_at(counts, counts::HELD + server);
     if versions::PLACES <= held as usize {
         return false;
     }
-    versions::put_version(keys, values, server, held as usize, key, setpoint);
+    versions::put_version(keys, values, server, held as usize, key, badge, setpoint);
     counts::put_count(counts, counts::HELD + server, held + 1);
     true
 }

@@ -2,7 +2,8 @@
 use Prim.Native.Nat.{ℕ, _*_, _≤_, _<_}
 use mathlib.Core.List.{List}
 use lib.ListN.{length}
-use Rattle.tables.specs.Layout.{countAt, countWords, serversField, clientsField, entriesField, writesField, readsField, clientWidth, serverPlaces, logPlaces, entryWidth, recordPlaces, recordWidth}
+use Rattle.tables.specs.Layout.{countAt, countWords, serversField, clientsField, entriesField, writesField, readsField, clientWidth}
+use Rattle.tables.specs.Layout.{serverPlaces, valueWidth, logPlaces, entryWidth, recordPlaces, recordWidth}
 use Rattle.tables.specs.Rows.{HasRow}
 use Rattle.tables.specs.Links.{linkWidth, linkRow, targets, HasLinks}
 
@@ -15,9 +16,10 @@ pub record Counted (counts : List ℕ) : Type 0 where
   pub writes : countAt counts writesField ≤ recordPlaces
   pub reads : countAt counts readsField ≤ recordPlaces
 
--- the versions of the servers in use
-abbrev pub VersionsThere : List ℕ → List ℕ → Type 0
-VersionsThere counts words = serverPlaces * countAt counts serversField ≤ length words
+-- the versions of the servers in use: their keys, and their badges and setpoints
+pub record VersionsThere (counts keys values : List ℕ) : Type 0 where
+  pub keyed : serverPlaces * countAt counts serversField ≤ length keys
+  pub valued : valueWidth * (serverPlaces * countAt counts serversField) ≤ length values
 
 abbrev pub LogThere : List ℕ → Type 0
 LogThere log = entryWidth * logPlaces ≤ length log
@@ -45,10 +47,10 @@ abbrev pub RecordsThere : List ℕ → Type 0
 RecordsThere records = recordWidth * recordPlaces ≤ length records
 
 -- all of it
-pub record TablesThere (counts clients links keys log writes reads : List ℕ) : Type 0 where
+pub record TablesThere (counts clients links keys values log writes reads : List ℕ) : Type 0 where
   pub counted : Counted counts
   pub client : ClientsThere counts clients links
-  pub keyed : VersionsThere counts keys
+  pub stored : VersionsThere counts keys values
   pub entered : LogThere log
   pub written : RecordsThere writes
   pub begun : RecordsThere reads

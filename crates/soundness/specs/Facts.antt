@@ -11,15 +11,25 @@ use Rattle.ranges.specs.Tests.{by-equal, both, both-left, both-right}
 use Rattle.ranges.specs.All.{allBelow}
 use Rattle.ranges.specs.AllLaws.{all-at, all-of}
 use Rattle.ranges.specs.Sum.{sumBelow, countBelow}
-use Rattle.keys.specs.Masks.{maskWithin, Within, within-true, within-test}
+use Rattle.keys.specs.Masks.{maskWithin, Within}
+use Rattle.keys.specs.MaskLaws.{within-true, within-test}
 use Rattle.tables.specs.Rows.{wordAt}
-use Rattle.tables.specs.Layout.{countWords, lastStep, clientWidth, serverPlaces, logPlaces, entryWidth, recordPlaces, recordWidth, versionWord, entryMask, recordWord, clientOfRecord, numberOfRecord, tagOfRecord}
+use Rattle.tables.specs.Layout.{countWords, lastStep, clientWidth, serverPlaces, valueWidth, logPlaces, entryWidth, recordPlaces}
+use Rattle.tables.specs.Layout.{recordWidth}
+use Rattle.tables.specs.Layout.{versionWord, versionBadge, entryMask, recordWord, clientOfRecord, numberOfRecord, tagOfRecord}
+use Rattle.tables.specs.Layout.{badgeOfRecord}
 use Rattle.tables.specs.Links.{targets, linkWidth, linkRow}
-use Rattle.tables.specs.Tables.{Tables, methodOf, serversOf, clientsOf, stepOf, entriesOf, writesOf, readsOf, heldOf, stateOf, countOf, maskOf, tagOf, recordOf, keptTagOf, contentAt}
+use Rattle.tables.specs.Tables.{Tables, methodOf, serversOf, clientsOf, stepOf, entriesOf, writesOf, readsOf, heldOf, stateOf, countOf}
+use Rattle.tables.specs.Tables.{maskOf, tagOf}
+use Rattle.tables.specs.Tables.{recordOf, keptTagOf, keptBadgeOf, contentAt}
 use Rattle.rules.specs.Common.{idle, pending}
 use Rattle.rules.specs.Open.{allServers}
 use Rattle.ranges.specs.Every.{passed, every-passed}
-use Rattle.soundness.specs.Sound.{longEnough, between, pressFits, scalarsSound, keyInRange, serverSound, entrySound, logSound, isWriting, isReading, stateAllowed, contentSound, linkSound, receivedSound, keptTagSound, clientSound, writeSound, readSound, isOpen, openSound, recordsSound, sound}
+use Rattle.soundness.specs.Sound.{longEnough, between, pressFits, scalarsSound, keyInRange, badgeFits, serverSound, entrySound}
+use Rattle.soundness.specs.Sound.{logSound, isWriting}
+use Rattle.soundness.specs.Sound.{isReading, stateAllowed, contentSound, linkSound, receivedSound, keptSound, clientSound}
+use Rattle.soundness.specs.Sound.{writeSound, readSound}
+use Rattle.soundness.specs.Sound.{isOpen, openSound, recordsSound, sound}
 
 pub record Between (low n high : ℕ) : Type 0 where
   pub least : low ≤ n
@@ -38,7 +48,7 @@ pub record Long (k p : ℕ) (t : Tables) : Type 0 where
   pub clients : clientWidth * p ≤ length (t .clients)
   pub links : linkWidth * (targets * p) ≤ length (t .links)
   pub keys : serverPlaces * k ≤ length (t .keys)
-  pub values : serverPlaces * k ≤ length (t .values)
+  pub values : valueWidth * (serverPlaces * k) ≤ length (t .values)
   pub log : entryWidth * logPlaces ≤ length (t .log)
   pub writes : recordWidth * recordPlaces ≤ length (t .writes)
   pub reads : recordWidth * recordPlaces ≤ length (t .reads)
@@ -50,7 +60,7 @@ module _ (k p : ℕ) (t : Tables) where
       ∷ leb (clientWidth * p) (length (t .clients))
       ∷ leb (linkWidth * (targets * p)) (length (t .links))
       ∷ leb (serverPlaces * k) (length (t .keys))
-      ∷ leb (serverPlaces * k) (length (t .values))
+      ∷ leb (valueWidth * (serverPlaces * k)) (length (t .values))
       ∷ leb (entryWidth * logPlaces) (length (t .log))
       ∷ leb (recordWidth * recordPlaces) (length (t .writes))
       ∷ leb (recordWidth * recordPlaces) (length (t .reads))
@@ -133,28 +143,44 @@ module _ (t : Tables) where
   facts-scalars f =
       every-passed scalarTests (facts-press _ _ _ (f .press), (facts-between _ _ _ (f .step), (facts-between _ _ _ (f .entries), (le-leb _ _ (f .writes), (le-leb _ _ (f .reads), tt)))))
 
--- A server: its first version bears the opening's key, whose word is 0, and each key it holds is in range.
+-- A server: its first version bears the opening's key, whose word is 0, and each key and badge it holds is in range.
 pub record ServerFacts (t : Tables) (i : ℕ) : Type 0 where
   pub held : Between 1 (heldOf t i) serverPlaces
   pub first : versionWord (t .keys) i 0 ≡ 0
   pub key : (place : ℕ) → place < heldOf t i → keyInRange (clientsOf t) (versionWord (t .keys) i place) ≡ true
+  pub badge : (place : ℕ) → place < heldOf t i → versionBadge (t .values) i place < 65536
 
 module _ (t : Tables) (i : ℕ) where
   abbrev keyTest : ℕ → Bool
   keyTest place = keyInRange (clientsOf t) (versionWord (t .keys) i place)
 
+  abbrev badgeTest : ℕ → Bool
+  badgeTest place = badgeFits (versionBadge (t .values) i place)
+
   abbrev serverTests : List Bool
-  serverTests = between 1 (heldOf t i) serverPlaces ∷ eqb (versionWord (t .keys) i 0) 0 ∷ allBelow keyTest (heldOf t i) ∷ []
+  serverTests =
+      between 1 (heldOf t i) serverPlaces ∷ eqb (versionWord (t .keys) i 0) 0 ∷ allBelow keyTest (heldOf t i) ∷ allBelow badgeTest
+      (heldOf t i) ∷ []
 
   pub server-facts : serverSound t i ≡ true → ServerFacts t i
   unfolding serverSound
   server-facts e =
       let f = passed serverTests e in
-      record { held = between-facts _ _ _ (f .0); first = eqb-true _ _ (f .1 .0); key = all-at keyTest (heldOf t i) (f .1 .1 .0) }
+      record {
+        held = between-facts _ _ _ (f .0);
+        first = eqb-true _ _ (f .1 .0);
+        key = all-at keyTest (heldOf t i) (f .1 .1 .0);
+        badge = λ place h. ltb-true _ _ (all-at badgeTest (heldOf t i) (f .1 .1 .1 .0) place h);
+      }
 
   pub facts-server : ServerFacts t i → serverSound t i ≡ true
   unfolding serverSound
-  facts-server f = every-passed serverTests (facts-between _ _ _ (f .held), (eq-eqb _ _ (f .first), (all-of keyTest (heldOf t i) (f .key), tt)))
+  facts-server f =
+      let badges = all-of badgeTest (heldOf t i) (λ place h. lt-ltb _ _ (f .badge place h)) in
+      every-passed serverTests (
+        facts-between _ _ _ (f .held),
+        (eq-eqb _ _ (f .first), (all-of keyTest (heldOf t i) (f .key), (badges, tt))),
+      )
 
 -- The log: tag 0 holds the opening's key with all servers, and each entry is in range.
 pub record EntryFacts (t : Tables) (tag : ℕ) : Type 0 where
@@ -214,13 +240,18 @@ module _ (t : Tables) (q i : ℕ) where
   unfolding linkSound
   facts-link f = every-passed linkTests (le-leb _ _ (f .kind), (f .content, tt))
 
+-- what a client keeps for a server: a tag and a badge
+pub record KeptFacts (t : Tables) (q i : ℕ) : Type 0 where
+  pub tag : keptTagOf t q i < entriesOf t
+  pub badge : keptBadgeOf t q i < 65536
+
 pub record ClientFacts (t : Tables) (q : ℕ) : Type 0 where
   pub allowed : stateAllowed (methodOf t) q (stateOf t q) ≡ true
   pub count : Between (cond (isWriting (stateOf t q)) 1 0) (countOf t q) 255
   pub mask : maskOf t q < 2 ^ serversOf t
   pub masked : (stateOf t q ≡ idle → ⊥) → 0 < maskOf t q
   pub tag : tagOf t q < entriesOf t
-  pub kept : (i : ℕ) → i < serversOf t → keptTagOf t q i < entriesOf t
+  pub kept : (i : ℕ) → i < serversOf t → KeptFacts t q i
   pub link : (i : ℕ) → i < targets → LinkFacts t q i
   pub received : (i : ℕ) → i < targets → receivedSound t q i ≡ true
   pub busy : (stateOf t q ≡ idle → ⊥) → pending (t .links) q ≡ true
@@ -249,13 +280,23 @@ module _ (t : Tables) (q : ℕ) where
   abbrev within : Bool
   within = maskWithin (maskOf t q) (serversOf t)
 
+  module _ (i : ℕ) where
+    abbrev keptTests : List Bool
+    keptTests = ltb (keptTagOf t q i) (entriesOf t) ∷ badgeFits (keptBadgeOf t q i) ∷ []
+
+    kept-facts : keptSound t q i ≡ true → KeptFacts t q i
+    kept-facts e = let f = passed keptTests e in record { tag = ltb-true _ _ (f .0); badge = ltb-true _ _ (f .1 .0) }
+
+    facts-kept : KeptFacts t q i → keptSound t q i ≡ true
+    facts-kept f = every-passed keptTests (lt-ltb _ _ (f .tag), (lt-ltb _ _ (f .badge), tt))
+
   abbrev clientTests : List Bool
   clientTests =
       stateAllowed (methodOf t) q (stateOf t q)
       ∷ between (cond (isWriting (stateOf t q)) 1 0) (countOf t q) 255
       ∷ cond (eqb (stateOf t q) idle) below within
       ∷ ltb (tagOf t q) (entriesOf t)
-      ∷ allBelow (keptTagSound t q) (serversOf t)
+      ∷ allBelow (keptSound t q) (serversOf t)
       ∷ allBelow (linkSound t q) targets
       ∷ allBelow (receivedSound t q) targets
       ∷ (eqb (stateOf t q) idle || pending (t .links) q)
@@ -272,7 +313,7 @@ module _ (t : Tables) (q : ℕ) where
         mask = by-equal (stateOf t q) idle (λ d. ltb-true _ _ (way-idle (stateOf t q) below within (f .1 .1 .0) d)) (λ d. busy d .below);
         masked = λ d. busy d .some;
         tag = ltb-true _ _ (f .1 .1 .1 .0);
-        kept = λ i h. ltb-true _ _ (all-at (keptTagSound t q) (serversOf t) (f .1 .1 .1 .1 .0) i h);
+        kept = λ i h. kept-facts i (all-at (keptSound t q) (serversOf t) (f .1 .1 .1 .1 .0) i h);
         link = λ i h. link-facts t q i (all-at (linkSound t q) targets (f .1 .1 .1 .1 .1 .0) i h);
         received = all-at (receivedSound t q) targets (f .1 .1 .1 .1 .1 .1 .0);
         busy = or-busy (stateOf t q) true (pending (t .links) q) (f .1 .1 .1 .1 .1 .1 .1 .0);
@@ -282,7 +323,7 @@ module _ (t : Tables) (q : ℕ) where
   unfolding clientSound
   facts-client f =
       let mask = two-ways (stateOf t q) below within (λ d. lt-ltb _ _ (f .mask)) (λ d. within-test _ _ (record { some = f .masked d; below = f .mask })) in
-      let kept = all-of (keptTagSound t q) (serversOf t) (λ i h. lt-ltb _ _ (f .kept i h)) in
+      let kept = all-of (keptSound t q) (serversOf t) (λ i h. facts-kept i (f .kept i h)) in
       let links = all-of (linkSound t q) targets (λ i h. facts-link t q i (f .link i h)) in
       let received = all-of (receivedSound t q) targets (f .received) in
       let busy = busy-or (stateOf t q) true (pending (t .links) q) (f .busy) in
@@ -294,6 +335,7 @@ pub record WriteFacts (t : Tables) (n : ℕ) : Type 0 where
   pub client : recordWord (t .writes) n clientOfRecord < clientsOf t
   pub count : Between 1 (recordWord (t .writes) n numberOfRecord) 255
   pub tag : recordWord (t .writes) n tagOfRecord < entriesOf t
+  pub badge : recordWord (t .writes) n badgeOfRecord < 65536
 
 pub record ReadFacts (t : Tables) (n : ℕ) : Type 0 where
   pub client : recordWord (t .reads) n clientOfRecord < clientsOf t
@@ -302,15 +344,28 @@ pub record ReadFacts (t : Tables) (n : ℕ) : Type 0 where
 
 module _ (t : Tables) (n : ℕ) where
   abbrev writeTests : List Bool
-  writeTests = ltb (recordWord (t .writes) n clientOfRecord) (clientsOf t) ∷ between 1 (recordWord (t .writes) n numberOfRecord) 255 ∷ ltb (recordWord (t .writes) n tagOfRecord) (entriesOf t) ∷ []
+  writeTests =
+      ltb (recordWord (t .writes) n clientOfRecord) (clientsOf t)
+      ∷ between 1 (recordWord (t .writes) n numberOfRecord) 255
+      ∷ ltb (recordWord (t .writes) n tagOfRecord) (entriesOf t)
+      ∷ badgeFits (recordWord (t .writes) n badgeOfRecord)
+      ∷ []
 
   pub write-facts : writeSound t n ≡ true → WriteFacts t n
   unfolding writeSound
-  write-facts e = let f = passed writeTests e in record { client = ltb-true _ _ (f .0); count = between-facts _ _ _ (f .1 .0); tag = ltb-true _ _ (f .1 .1 .0) }
+  write-facts e =
+      let f = passed writeTests e in
+      record {
+        client = ltb-true _ _ (f .0);
+        count = between-facts _ _ _ (f .1 .0);
+        tag = ltb-true _ _ (f .1 .1 .0);
+        badge = ltb-true _ _ (f .1 .1 .1 .0);
+      }
 
   pub facts-write : WriteFacts t n → writeSound t n ≡ true
   unfolding writeSound
-  facts-write f = every-passed writeTests (lt-ltb _ _ (f .client), (facts-between _ _ _ (f .count), (lt-ltb _ _ (f .tag), tt)))
+  facts-write f =
+      every-passed writeTests (lt-ltb _ _ (f .client), (facts-between _ _ _ (f .count), (lt-ltb _ _ (f .tag), (lt-ltb _ _ (f .badge), tt))))
 
   abbrev readTests : List Bool
   readTests = ltb (recordWord (t .reads) n clientOfRecord) (clientsOf t) ∷ maskWithin (recordWord (t .reads) n numberOfRecord) (serversOf t) ∷ ltb (recordWord (t .reads) n tagOfRecord) (entriesOf t) ∷ []

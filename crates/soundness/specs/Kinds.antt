@@ -1,15 +1,16 @@
 -- Whether a link is sound, by the word of its kind, as the code meets it.
 use Prim.Native.Nat.{ℕ, _<_}
 use mathlib.Core.Path.{_≡_}
-use mathlib.Core.Bool.{Bool, true, false}
+use mathlib.Core.Bool.{Bool, true, false, _&&_}
 use native.Mathlib.Omega.{arith}
 use borrow.Author.Tests.{lt-leb}
 use Rattle.ranges.specs.Tests.{by-equal}
 use Rattle.tables.specs.Rows.{wordAt}
 use Rattle.tables.specs.Links.{linkWidth, linkRow, linkAt}
 use Rattle.tables.specs.Tables.{Tables, stateOf, maskOf}
-use Rattle.soundness.specs.Sound.{uses, requestSound, replySound, keyOn, contentSound, linkSound}
-use Rattle.soundness.specs.Parts.{numberOn}
+use Rattle.rules.specs.Common.{writing, askingSetpoints}
+use Rattle.soundness.specs.Sound.{uses, requestSound, replySound, badgeSound, keyOn, contentSound, linkSound}
+use Rattle.soundness.specs.Parts.{numberOn, badgeOn}
 
 module _ (t : Tables) (q i : ℕ) {kind : ℕ} (d : kind ≡ wordAt linkWidth (t .links) (linkRow q i) 0) where
   abbrev used : Bool
@@ -26,11 +27,14 @@ module _ (t : Tables) (q i : ℕ) {kind : ℕ} (d : kind ≡ wordAt linkWidth (t
       let l : 2 < kind = by-equal kind 0 (λ e. absurd (f e)) (λ e. by-equal kind 1 (λ e. absurd (g e)) (λ e. by-equal kind 2 (λ e. absurd (h e)) (λ e. omega arith))) in
       rw (← d, lt-leb _ _ l)
 
-  pub request-sound : {r : Bool} → kind ≡ 1 → used ≡ true → r ≡ requestSound (stateOf t q) q (keyOn t q i) (numberOn t q i) t → r ≡ linkSound t q i
+  pub request-sound : {r : Bool} → kind ≡ 1 → used ≡ true →
+      r ≡ (requestSound (stateOf t q) q (keyOn t q i) (numberOn t q i) t && badgeSound writing (stateOf t q)
+      (badgeOn t q i)) → r ≡ linkSound t q i
   unfolding linkSound contentSound linkAt
   request-sound e u s = rw (← d, e, u) s
 
-  pub reply-sound : {r : Bool} → kind ≡ 2 → used ≡ true → r ≡ replySound (stateOf t q) i (numberOn t q i) t → r ≡ linkSound t q i
+  pub reply-sound : {r : Bool} → kind ≡ 2 → used ≡ true →
+      r ≡ (replySound (stateOf t q) i (numberOn t q i) t && badgeSound askingSetpoints (stateOf t q) (badgeOn t q i)) → r ≡ linkSound t q i
   unfolding linkSound contentSound linkAt
   reply-sound e u s = rw (← d, e, u) s
 

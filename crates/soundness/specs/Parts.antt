@@ -1,7 +1,6 @@
 -- Runs of conditions of `Sound` as one function of the check decides them.
 use Prim.Native.Nat.{ℕ, _^_}
 use mathlib.Core.Bool.{Bool, cond, _&&_}
-use mathlib.Core.List.{List}
 use lib.Dec.{eqb, leb, ltb}
 use Rattle.ranges.specs.All.{allBelow}
 use Rattle.ranges.specs.Sum.{sumBelow}
@@ -10,14 +9,12 @@ use Rattle.keys.specs.Masks.{maskWithin}
 use Rattle.tables.specs.Rows.{wordAt}
 use Rattle.tables.specs.Layout.{lastStep, logPlaces, recordPlaces, entryWidth, entryMask}
 use Rattle.tables.specs.Links.{linkWidth, linkRow, isEmpty}
-use Rattle.tables.specs.Tables.{Tables, withVersions, methodOf, serversOf, clientsOf, stepOf, entriesOf, writesOf, readsOf, stateOf, countOf, maskOf, tagOf, recordOf, contentAt}
+use Rattle.tables.specs.Tables.{Tables, methodOf, serversOf, clientsOf, stepOf, entriesOf, writesOf, readsOf, stateOf, countOf, maskOf}
+use Rattle.tables.specs.Tables.{tagOf, recordOf, contentAt}
 use Rattle.rules.specs.Common.{idle, askingAll}
 use Rattle.rules.specs.Open.{allServers}
-use Rattle.soundness.specs.Sound.{between, serverSound, logSound, isWriting, isReading, stateAllowed, uses, keptTagSound, clientSound, openSound, writeSound, readSound, recordsSound}
-
--- the keys alone; no condition is on the setpoints of versions
-abbrev pub withKeys : List ℕ → Tables → Tables
-withKeys keys t = withVersions keys (t .values) t
+use Rattle.soundness.specs.Sound.{between, serverSound, logSound, isWriting, isReading, stateAllowed, uses, keptSound, clientSound}
+use Rattle.soundness.specs.Sound.{openSound, writeSound, readSound, recordsSound}
 
 -- the scalars behind `pressFits`
 abbrev pub progressSound : Tables → Bool
@@ -27,9 +24,12 @@ progressSound t = between 1 (stepOf t) lastStep && between 1 (entriesOf t) logPl
 abbrev pub firstEntrySound : Tables → Bool
 firstEntrySound t = eqb (wordAt entryWidth (t .log) 0 0) (keyWord opening) && eqb (entryMask (t .log) 0) (allServers (serversOf t))
 
--- the number on a link
+-- the number and the badge on a link
 abbrev pub numberOn : Tables → ℕ → ℕ → ℕ
 numberOn t q i = wordAt linkWidth (t .links) (linkRow q i) 2
+
+abbrev pub badgeOn : Tables → ℕ → ℕ → ℕ
+badgeOn t q i = wordAt linkWidth (t .links) (linkRow q i) 3
 
 -- the first conditions of `clientSound`: count, mask and tags; all that its row alone decides
 abbrev pub countSound : Tables → ℕ → Bool
@@ -43,7 +43,7 @@ tagSound t q = ltb (tagOf t q) (entriesOf t)
 
 abbrev pub rowSound : Tables → ℕ → Bool
 rowSound t q =
-    stateAllowed (methodOf t) q (stateOf t q) && countSound t q && maskSound t q && tagSound t q && allBelow (keptTagSound t q) (serversOf t)
+    stateAllowed (methodOf t) q (stateOf t q) && countSound t q && maskSound t q && tagSound t q && allBelow (keptSound t q) (serversOf t)
 
 -- the test of `receivedSound`
 abbrev pub expects : Tables → ℕ → ℕ → Bool

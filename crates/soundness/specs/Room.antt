@@ -6,7 +6,7 @@ use mathlib.Core.Bool.{true}
 use native.Mathlib.Omega.{arith}
 use lib.ListN.{length}
 use Rattle.tables.specs.Rows.{HasRow}
-use Rattle.tables.specs.Layout.{clientWidth, serverPlaces, logPlaces, entryWidth, recordPlaces, recordWidth}
+use Rattle.tables.specs.Layout.{clientWidth, serverPlaces, HasValues, logPlaces, entryWidth, recordPlaces, recordWidth}
 use Rattle.tables.specs.Links.{targets, HasLinks, linkWidth, linkRow}
 use Rattle.tables.specs.Tables.{Tables, serversOf, clientsOf, entriesOf, writesOf, readsOf, stateOf, recordOf}
 use Rattle.soundness.specs.Sound.{isWriting, isReading}
@@ -27,7 +27,7 @@ module _ (t : Tables) (s : Sound t) where
     pub keys-row : HasRow serverPlaces (t .keys) i
     keys-row = omega (arith, s .long .keys)
 
-    pub values-row : HasRow serverPlaces (t .values) i
+    pub values-row : HasValues (t .values) i
     values-row = omega (arith, s .long .values)
 
   -- a client, its links, and its record in progress

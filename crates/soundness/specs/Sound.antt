@@ -9,9 +9,12 @@ use Rattle.ranges.specs.Sum.{sumBelow, countBelow}
 use Rattle.keys.specs.Keys.{keyWord, opening}
 use Rattle.keys.specs.Masks.{hasServer, maskWithin}
 use Rattle.tables.specs.Rows.{wordAt}
-use Rattle.tables.specs.Layout.{lastStep, countWords, clientWidth, serverPlaces, logPlaces, entryWidth, recordPlaces, recordWidth, versionWord, entryMask, recordWord, clientOfRecord, numberOfRecord, tagOfRecord, endOfRecord}
+use Rattle.tables.specs.Layout.{lastStep, countWords, clientWidth, serverPlaces, valueWidth, logPlaces, entryWidth, recordPlaces}
+use Rattle.tables.specs.Layout.{recordWidth, versionWord, versionBadge, entryMask, recordWord, clientOfRecord, numberOfRecord, tagOfRecord}
+use Rattle.tables.specs.Layout.{endOfRecord, badgeOfRecord}
 use Rattle.tables.specs.Links.{targets, linkWidth, linkRow, isEmpty}
-use Rattle.tables.specs.Tables.{Tables, methodOf, serversOf, clientsOf, stepOf, entriesOf, writesOf, readsOf, heldOf, stateOf, countOf, maskOf, tagOf, recordOf, receivedOf, keptTagOf, contentAt}
+use Rattle.tables.specs.Tables.{Tables, methodOf, serversOf, clientsOf, stepOf, entriesOf, writesOf, readsOf, heldOf, stateOf, countOf}
+use Rattle.tables.specs.Tables.{maskOf, tagOf, recordOf, receivedOf, keptTagOf, keptBadgeOf, contentAt}
 use Rattle.tables.specs.declared.links.Content.{Content}
 use Rattle.tables.specs.declared.links.Content.the-variants.{Nothing, Request, Reply}
 use Rattle.rules.specs.Common.{idle, writing, entering, askingKeys, askingSetpoints, askingAll, coordinator, pending}
@@ -25,7 +28,7 @@ longEnough k p t =
     && leb (clientWidth * p) (length (t .clients))
     && leb (linkWidth * (targets * p)) (length (t .links))
     && leb (serverPlaces * k) (length (t .keys))
-    && leb (serverPlaces * k) (length (t .values))
+    && leb (valueWidth * (serverPlaces * k)) (length (t .values))
     && leb (entryWidth * logPlaces) (length (t .log))
     && leb (recordWidth * recordPlaces) (length (t .writes))
     && leb (recordWidth * recordPlaces) (length (t .reads))
@@ -50,12 +53,17 @@ scalarsSound t =
 unfoldable pub keyInRange : ℕ → ℕ → Bool
 keyInRange p word = eqb word 0 || (between 256 word 65535 && ltb (word % 256) p)
 
+-- "a 16-bit badge number"
+abbrev pub badgeFits : ℕ → Bool
+badgeFits word = ltb word 65536
+
 -- "each station's first version bears the opening's key"
 unfoldable pub serverSound : Tables → ℕ → Bool
 serverSound t i =
     between 1 (heldOf t i) serverPlaces
     && eqb (versionWord (t .keys) i 0) (keyWord opening)
     && allBelow (λ place. keyInRange (clientsOf t) (versionWord (t .keys) i place)) (heldOf t i)
+    && allBelow (λ place. badgeFits (versionBadge (t .values) i place)) (heldOf t i)
 
 -- an entry of the log: "every number in its range"
 unfoldable pub entrySound : Tables → ℕ → Bool
@@ -110,10 +118,16 @@ replySound state i number t =
 abbrev pub keyOn : Tables → ℕ → ℕ → ℕ
 keyOn t q i = wordAt linkWidth (t .links) (linkRow q i) 1
 
+-- the badge on a link, where it carries one: in a set request, which state 1 sends, and in a got reply, which state 4 gets back
+abbrev pub badgeSound : ℕ → ℕ → ℕ → Bool
+badgeSound carrier state badge = cond (eqb state carrier) (badgeFits badge) true
+
 unfoldable pub contentSound : Content → ℕ → ℕ → ℕ → Tables → Bool
 contentSound Nothing state q i t = true
-contentSound (Request w) state q i t = uses state (maskOf t q) i && requestSound state q (keyOn t q i) (w .number) t
-contentSound (Reply w) state q i t = uses state (maskOf t q) i && replySound state i (w .number) t
+contentSound (Request w) state q i t =
+    uses state (maskOf t q) i && (requestSound state q (keyOn t q i) (w .number) t && badgeSound writing state (w .badge))
+contentSound (Reply w) state q i t =
+    uses state (maskOf t q) i && (replySound state i (w .number) t && badgeSound askingSetpoints state (w .badge))
 
 -- a link's kind is nothing, a request or a reply
 unfoldable pub linkSound : Tables → ℕ → ℕ → Bool
@@ -126,28 +140,29 @@ receivedSound t q i =
     (between 1 (receivedOf t q i) (holding t i))
     (eqb (receivedOf t q i) 0)
 
--- "tags within the log": also the one that a client keeps for a server, left over or not
-abbrev pub keptTagSound : Tables → ℕ → ℕ → Bool
-keptTagSound t q i = ltb (keptTagOf t q i) (entriesOf t)
+-- "tags within the log": also the one that a client keeps for a server, left over or not; the badge beside it
+abbrev pub keptSound : Tables → ℕ → ℕ → Bool
+keptSound t q i = ltb (keptTagOf t q i) (entriesOf t) && badgeFits (keptBadgeOf t q i)
 
--- counts, mask and tags in their ranges; "a busy panel has a link not empty"
+-- counts, mask, tags and badges in their ranges; "a busy panel has a link not empty"
 unfoldable pub clientSound : Tables → ℕ → Bool
 clientSound t q =
     stateAllowed (methodOf t) q (stateOf t q)
     && between (cond (isWriting (stateOf t q)) 1 0) (countOf t q) 255
     && cond (eqb (stateOf t q) idle) (ltb (maskOf t q) (2 ^ serversOf t)) (maskWithin (maskOf t q) (serversOf t))
     && ltb (tagOf t q) (entriesOf t)
-    && allBelow (keptTagSound t q) (serversOf t)
+    && allBelow (keptSound t q) (serversOf t)
     && allBelow (linkSound t q) targets
     && allBelow (receivedSound t q) targets
     && (eqb (stateOf t q) idle || pending (t .links) q)
 
--- the records: client, count or mask, and tag in their ranges
+-- the records: client, count or mask, tag, and a WRITE's badge in their ranges
 unfoldable pub writeSound : Tables → ℕ → Bool
 writeSound t n =
     ltb (recordWord (t .writes) n clientOfRecord) (clientsOf t)
     && between 1 (recordWord (t .writes) n numberOfRecord) 255
     && ltb (recordWord (t .writes) n tagOfRecord) (entriesOf t)
+    && badgeFits (recordWord (t .writes) n badgeOfRecord)
 
 unfoldable pub readSound : Tables → ℕ → Bool
 readSound t n =

@@ -20,7 +20,15 @@ counted t h e =
     let f = scalars-facts t e in
     record { long = h; servers = f .press .servers .most; clients = f .press .clients .most; entries = f .entries .most; writes = f .writes; reads = f .reads }
 
-pub tables-there : (t : Tables) → longEnough (serversOf t) (clientsOf t) t ≡ true → scalarsSound t ≡ true → TablesThere (t .counts) (t .clients) (t .links) (t .keys) (t .log) (t .writes) (t .reads)
+pub tables-there : (t : Tables) → longEnough (serversOf t) (clientsOf t) t ≡ true → scalarsSound t ≡ true →
+    TablesThere (t .counts) (t .clients) (t .links) (t .keys) (t .values) (t .log) (t .writes) (t .reads)
 tables-there t e s =
     let l = long-facts (serversOf t) (clientsOf t) t e in
-    record { counted = counted t (l .counts) s; client = record { rows = l .clients; linked = l .links }; keyed = l .keys; entered = l .log; written = l .writes; begun = l .reads }
+    record {
+      counted = counted t (l .counts) s;
+      client = record { rows = l .clients; linked = l .links };
+      stored = record { keyed = l .keys; valued = l .values };
+      entered = l .log;
+      written = l .writes;
+      begun = l .reads;
+    }

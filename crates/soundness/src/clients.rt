@@ -7,7 +7,7 @@ ghost use Rattle.ranges.specs.Sum.{sumBelow};
 ghost use Rattle.tables.specs.Rows.{HasRow};
 ghost use Rattle.tables.specs.Layout.{clientWidth};
 ghost use Rattle.tables.specs.Tables.{Tables, withCounts, withClients, withLinks, methodOf, serversOf, clientsOf, stateOf, countOf};
-ghost use Rattle.soundness.specs.Sound.{stateAllowed, keptTagSound, clientSound};
+ghost use Rattle.soundness.specs.Sound.{stateAllowed, keptSound, clientSound};
 ghost use Rattle.soundness.specs.Parts.{countSound, maskSound, tagSound, rowSound};
 ghost use Rattle.soundness.specs.Asked.{Counted, ClientThere, ClientsThere};
 use super::links;
@@ -64,26 +64,29 @@ fn tag_sound(counts: &[u32], clients: &[u32], client: usize) -> bool
     tag < counts::count_at(counts, counts::ENTRIES)
 }
 
-fn kept_tag_sound(counts: &[u32], clients: &[u32], client: usize, server: usize) -> bool
+fn kept_sound(counts: &[u32], clients: &[u32], client: usize, server: usize) -> bool
     requires { ⌜ Counted (now counts) ⌝ }
     requires { ⌜ (server < 16) × HasRow clientWidth (now clients) client ⌝ }
-    ensures { λ r. ⌜ ((t : Tables) → r ≡ keptTagSound (withClients (now (clients .entry)) (withCounts (now (counts .entry)) t)) client server) ⌝ }
+    ensures { λ r. ⌜ ((t : Tables) → r ≡ keptSound (withClients (now (clients .entry)) (withCounts (now (counts .entry)) t)) client server) ⌝ }
 {
     let tag = clients::client_word(clients, client, clients::TAGS + server);
-    tag < counts::count_at(counts, counts::ENTRIES)
+    if counts::count_at(counts, counts::ENTRIES) <= tag {
+        return false;
+    }
+    scalars::badge_fits(clients::client_word(clients, client, clients::BADGES + server))
 }
 
-// The tags that a client keeps, one for each server.
-fn kept_tags_sound(counts: &[u32], clients: &[u32], client: usize) -> bool
+// The tags and badges that a client keeps, one of each for each server.
+fn all_kept_sound(counts: &[u32], clients: &[u32], client: usize) -> bool
     requires { ⌜ Counted (now counts) ⌝ }
     requires { ⌜ HasRow clientWidth (now clients) client ⌝ }
     ensures { λ r. ⌜ ((t : Tables) → let u = withClients (now (clients .entry)) (withCounts (now (counts .entry)) t) in
-        r ≡ allBelow (keptTagSound u client) (serversOf u)) ⌝ }
+        r ≡ allBelow (keptSound u client) (serversOf u)) ⌝ }
 {
     let servers = counts::count_at(counts, counts::SERVERS) as usize;
     let mut server = 0;
     while server < servers {
-        if !kept_tag_sound(counts, clients, client, server) {
+        if !kept_sound(counts, clients, client, server) {
             return false;
         }
         server += 1;
@@ -108,7 +111,7 @@ fn row_sound(counts: &[u32], clients: &[u32], client: usize) -> bool
     if !tag_sound(counts, clients, client) {
         return false;
     }
-    kept_tags_sound(counts, clients, client)
+    all_kept_sound(counts, clients, client)
 }
 
 fn client_sound(counts: &[u32], clients: &[u32], links: &[u32], client: usize) -> bool

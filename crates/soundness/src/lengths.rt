@@ -37,7 +37,7 @@ pub fn long_enough(
     if keys.len() < versions::PLACES * servers as usize {
         return false;
     }
-    if values.len() < versions::PLACES * servers as usize {
+    if values.len() < versions::WIDTH * (versions::PLACES * servers as usize) {
         return false;
     }
     if log.len() < log::WIDTH * log::PLACES {

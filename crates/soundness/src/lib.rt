@@ -2,11 +2,9 @@
 // Each is lent only the tables that it reads and promises its answer for every contents of the others: that is the `(t : Tables) →` of a contract.
 // `sound` and `long_enough` take tables as they come; the inner functions ask for the lengths and ranges that were tested before them.
 ghost use mathlib.Core.Path.{_≡_};
-ghost use Prim.Native.Nat.{ℕ};
-ghost use mathlib.Core.List.{List};
-ghost use Rattle.tables.specs.Tables.{Tables, tablesOf, withCounts, withLog, serversOf, clientsOf};
+ghost use Rattle.tables.specs.Tables.{Tables, tablesOf, withCounts, withVersions, withLog, serversOf, clientsOf};
 ghost use Rattle.soundness.specs.Sound.{longEnough, sound};
-ghost use Rattle.soundness.specs.Parts.{withKeys, storesSound, restSound};
+ghost use Rattle.soundness.specs.Parts.{storesSound, restSound};
 ghost use Rattle.soundness.specs.Asked.{Counted, VersionsThere, LogThere, TablesThere};
 use tables::counts;
 
@@ -54,33 +52,36 @@ fn tables_long(
     )
 }
 
-fn stores_sound(counts: &[u32], keys: &[u32], log: &[u32]) -> bool
+fn stores_sound(counts: &[u32], keys: &[u32], values: &[u32], log: &[u32]) -> bool
     requires { ⌜ Counted (now counts) ⌝ }
-    requires { ⌜ VersionsThere (now counts) (now keys) ⌝ }
+    requires { ⌜ VersionsThere (now counts) (now keys) (now values) ⌝ }
     requires { ⌜ LogThere (now log) ⌝ }
-    ensures { λ r. ⌜ ((t : Tables) → r ≡ storesSound (withLog (now (log .entry)) (withKeys (now (keys .entry)) (withCounts (now (counts .entry)) t)))) ⌝ }
+    ensures { λ r. ⌜ ((t : Tables) → r ≡ storesSound
+        (withLog (now (log .entry)) (withVersions (now (keys .entry)) (now (values .entry)) (withCounts (now (counts .entry)) t)))) ⌝ }
 {
-    if !servers::servers_sound(counts, keys) {
+    if !servers::servers_sound(counts, keys, values) {
         return false;
     }
     entries::log_sound(counts, log)
 }
 
-// The conditions behind the lengths and the scalars; no setpoint of a version can break one.
+// The conditions behind the lengths and the scalars.
 fn rest_sound(
     counts: &[u32],
     clients: &[u32],
     links: &[u32],
     keys: &[u32],
+    values: &[u32],
     log: &[u32],
     writes: &[u32],
     reads: &[u32],
 ) -> bool
-    requires { ⌜ TablesThere (now counts) (now clients) (now links) (now keys) (now log) (now writes) (now reads) ⌝ }
-    ensures { λ r. ⌜ ((values : List ℕ) → r ≡ restSound
-        (tablesOf (now (counts .entry)) (now (clients .entry)) (now (links .entry)) (now (keys .entry)) values (now (log .entry)) (now (writes .entry)) (now (reads .entry)))) ⌝ }
+    requires { ⌜ TablesThere (now counts) (now clients) (now links) (now keys) (now values) (now log) (now writes) (now reads) ⌝ }
+    ensures { λ r. ⌜ r ≡ restSound
+        (tablesOf (now (counts .entry)) (now (clients .entry)) (now (links .entry)) (now (keys .entry))
+        (now (values .entry)) (now (log .entry)) (now (writes .entry)) (now (reads .entry))) ⌝ }
 {
-    if !stores_sound(counts, keys, log) {
+    if !stores_sound(counts, keys, values, log) {
         return false;
     }
     if !clients::clients_sound(counts, clients, links) {
@@ -109,5 +110,5 @@ pub fn sound(
     if !progress::scalars_sound(counts) {
         return false;
     }
-    rest_sound(counts, clients, links, keys, log, writes, reads)
+    rest_sound(counts, clients, links, keys, values, log, writes, reads)
 }

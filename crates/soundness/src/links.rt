@@ -1,12 +1,14 @@
 // The links of a client: each holds only what its state sends or gets back, and what has been received stands beside them.
 ghost use mathlib.Core.Path.{_≡_};
 ghost use Prim.Native.Nat.{_<_};
+ghost use mathlib.Core.Bool.{_&&_};
 ghost use Rattle.ranges.specs.All.{allBelow};
 ghost use Rattle.tables.specs.Rows.{HasRow};
 ghost use Rattle.tables.specs.Links.{linkWidth, linkRow, targets};
 ghost use Rattle.tables.specs.Tables.{Tables, withCounts, withClients, withLinks};
-ghost use Rattle.soundness.specs.Sound.{keyOn, requestSound, replySound, linkSound, receivedSound};
-ghost use Rattle.soundness.specs.Parts.{numberOn, expects};
+ghost use Rattle.rules.specs.Common.{writing, askingSetpoints};
+ghost use Rattle.soundness.specs.Sound.{keyOn, requestSound, replySound, badgeSound, linkSound, receivedSound};
+ghost use Rattle.soundness.specs.Parts.{numberOn, badgeOn, expects};
 ghost use Rattle.soundness.specs.Asked.{Counted, LinkThere, ClientThere};
 use super::messages;
 use super::scalars;
@@ -17,20 +19,30 @@ use tables::links;
 fn request_on(counts: &[u32], links: &[u32], state: u32, client: usize, target: usize) -> bool
     requires { ⌜ Counted (now counts) ⌝ }
     requires { ⌜ HasRow linkWidth (now links) (linkRow client target) ⌝ }
-    ensures { λ r. ⌜ ((t : Tables) → let u = withLinks (now (links .entry)) (withCounts (now (counts .entry)) t) in r ≡ requestSound state client (keyOn u client target) (numberOn u client target) u) ⌝ }
+    ensures { λ r. ⌜ ((t : Tables) → let u = withLinks (now (links .entry)) (withCounts (now (counts .entry)) t) in
+        r ≡ (requestSound state client (keyOn u client target) (numberOn u client target) u && badgeSound writing state (badgeOn u client target))) ⌝ }
 {
     let word = links::link_word(links, client, target, links::KEY);
     let number = links::link_word(links, client, target, links::NUMBER);
-    messages::request_sound(counts, state, client, word, number)
+    if !messages::request_sound(counts, state, client, word, number) {
+        return false;
+    }
+    let badge = links::link_word(links, client, target, links::BADGE);
+    messages::badge_sound(rules::states::WRITING, state, badge)
 }
 
 fn reply_on(counts: &[u32], links: &[u32], state: u32, client: usize, target: usize) -> bool
     requires { ⌜ Counted (now counts) ⌝ }
     requires { ⌜ (target < targets) × HasRow linkWidth (now links) (linkRow client target) ⌝ }
-    ensures { λ r. ⌜ ((t : Tables) → let u = withLinks (now (links .entry)) (withCounts (now (counts .entry)) t) in r ≡ replySound state target (numberOn u client target) u) ⌝ }
+    ensures { λ r. ⌜ ((t : Tables) → let u = withLinks (now (links .entry)) (withCounts (now (counts .entry)) t) in
+        r ≡ (replySound state target (numberOn u client target) u && badgeSound askingSetpoints state (badgeOn u client target))) ⌝ }
 {
     let number = links::link_word(links, client, target, links::NUMBER);
-    messages::reply_sound(counts, state, target, number)
+    if !messages::reply_sound(counts, state, target, number) {
+        return false;
+    }
+    let badge = links::link_word(links, client, target, links::BADGE);
+    messages::badge_sound(rules::states::ASKING_SETPOINTS, state, badge)
 }
 
 fn link_sound(counts: &[u32], clients: &[u32], links: &[u32], client: usize, target: usize) -> bool

@@ -2,7 +2,7 @@
 ghost use mathlib.Core.Path.{_≡_};
 ghost use Prim.Native.Nat.{_<_};
 ghost use Rattle.tables.specs.Tables.{Tables, withCounts};
-ghost use Rattle.soundness.specs.Sound.{holding, ownKey, requestSound, replySound};
+ghost use Rattle.soundness.specs.Sound.{holding, ownKey, requestSound, replySound, badgeSound};
 ghost use Rattle.soundness.specs.Asked.{Counted};
 use super::scalars;
 use rules::states;
@@ -67,4 +67,14 @@ pub fn reply_sound(counts: &[u32], state: u32, target: usize, number: u32) -> bo
         states::ASKING_ALL => scalars::between(1, number, holding(counts, target)),
         _ => true,
     }
+}
+
+// The badge on a link, where the state is the one whose messages carry it.
+pub fn badge_sound(carrier: u32, state: u32, badge: u32) -> bool
+    ensures { λ r. ⌜ r ≡ badgeSound carrier state badge ⌝ }
+{
+    if state != carrier {
+        return true;
+    }
+    scalars::badge_fits(badge)
 }

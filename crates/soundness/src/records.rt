@@ -30,7 +30,12 @@ fn write_sound(counts: &[u32], writes: &[u32], place: usize) -> bool
     if !scalars::between(1, records::record_word(writes, place, records::NUMBER), 255) {
         return false;
     }
-    records::record_word(writes, place, records::TAG) < counts::count_at(counts, counts::ENTRIES)
+    if counts::count_at(counts, counts::ENTRIES)
+        <= records::record_word(writes, place, records::TAG)
+    {
+        return false;
+    }
+    scalars::badge_fits(records::record_word(writes, place, records::BADGE))
 }
 
 pub fn writes_sound(counts: &[u32], writes: &[u32]) -> bool

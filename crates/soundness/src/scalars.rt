@@ -1,6 +1,6 @@
 // Numbers by themselves: whether there is such a press, and such a key.
 ghost use mathlib.Core.Path.{_≡_};
-ghost use Rattle.soundness.specs.Sound.{between, pressFits, keyInRange};
+ghost use Rattle.soundness.specs.Sound.{between, pressFits, keyInRange, badgeFits};
 
 // Whether a number stands between two others, both included.
 pub fn between(low: u32, number: u32, high: u32) -> bool
@@ -39,4 +39,11 @@ pub fn key_in_range(clients: u32, word: u32) -> bool
         return false;
     }
     word % 256 < clients
+}
+
+// Whether a word is a badge: 16 bits.
+pub fn badge_fits(word: u32) -> bool
+    ensures { λ r. ⌜ r ≡ badgeFits word ⌝ }
+{
+    word < 65536
 }

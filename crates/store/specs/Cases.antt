@@ -1,5 +1,6 @@
 -- The cases of the public steps, as the code meets them: refused by a number with all as before, or accepted.
-use Prim.Native.Nat.{ℕ, zero, suc}
+use Prim.Native.Nat.{ℕ, zero, suc, _<_}
+use native.Mathlib.Nat.{mod-eq-of-lt}
 use mathlib.Core.Path.{_≡_, refl, sym, _∙_}
 use mathlib.Core.Bool.{Bool, true, false, not, _&&_}
 use mathlib.Core.List.{List}
@@ -17,7 +18,7 @@ use Rattle.rules.specs.Reply.{said, replyDelivered}
 use Rattle.soundness.specs.Sound.{sound, longEnough, pressFits}
 use Rattle.soundness.specs.Facts.{Sound, facts-sound}
 use Rattle.refusals.specs.Refusals.{openRefusal, writeFault, writeRefusal, readFault, readRefusal, deliveryFault, deliveryRefusal}
-use Rattle.refusals.specs.Steps.{unless, unlessArrived, open′, beginWrite, beginRead, deliverRequest, deliverReply}
+use Rattle.refusals.specs.Steps.{unless, unlessArrived, badgeOf, open′, beginWrite, beginRead, deliverRequest, deliverReply}
 use Rattle.keeping.specs.Accepted.{Openable, openable, Writable, writable, Readable, readable, Deliverable, deliverable}
 
 -- a number that is not 0 refuses
@@ -34,9 +35,9 @@ module _ (t : Tables) {b : Bool} (d : b ≡ sound t) (e : not b ≡ true) where
   unsound : not (sound t) ≡ true
   unsound = rw (← d) e
 
-  pub unsound-write : (q mask : ℕ) (setpoints : List ℕ) → left (Refused 2) t ≡ beginWrite q mask setpoints t
+  pub unsound-write : (q mask badge : ℕ) (setpoints : List ℕ) → left (Refused 2) t ≡ beginWrite q mask badge setpoints t
   unfolding beginWrite writeRefusal
-  unsound-write q mask setpoints = rw unsound
+  unsound-write q mask badge setpoints = rw unsound
 
   pub unsound-read : (q mask : ℕ) → left (Refused 2) t ≡ beginRead q mask t
   unfolding beginRead readRefusal
@@ -57,13 +58,15 @@ module _ (t : Tables) (s : Sound t) {n : ℕ} where
     unfolding writeRefusal
     write-number = rw (facts-sound t s) (sym d)
 
-    pub write-refused : (n ≡ 0 → ⊥) → left (Refused n) t ≡ beginWrite q mask setpoints t
+    pub write-refused : (badge : ℕ) → (n ≡ 0 → ⊥) → left (Refused n) t ≡ beginWrite q mask badge setpoints t
     unfolding beginWrite
-    write-refused z = rw write-number (refuses n (left Ok (begunWrite q mask setpoints t)) t z)
+    write-refused badge z = rw write-number (refuses n (left Ok (begunWrite q mask (badgeOf badge) setpoints t)) t z)
 
-    pub write-accepted : {x : Tables} → n ≡ 0 → x ≡ begunWrite q mask setpoints t → left Ok x ≡ beginWrite q mask setpoints t
+    -- a badge of 16 bits is carried as it is
+    pub write-accepted : (badge : ℕ) → badge < 65536 → {x : Tables} → n ≡ 0 → x ≡ begunWrite q mask badge setpoints t →
+        left Ok x ≡ beginWrite q mask badge setpoints t
     unfolding beginWrite
-    write-accepted z e = rw (write-number, z, e)
+    write-accepted badge l z e = rw (write-number, z, mod-eq-of-lt l, e)
 
     pub write-able : n ≡ 0 → Writable q mask setpoints t
     write-able z = writable q mask setpoints t (write-number ∙ z)

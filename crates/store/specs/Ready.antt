@@ -1,7 +1,7 @@
 -- Sound tables are ready for an opening, the begins and the delivery of a request.
 use Prim.Native.Nat.{ℕ, _<_}
 use mathlib.Core.Path.{_≡_, sym, _∙_}
-use mathlib.Core.Bool.{true}
+use mathlib.Core.Bool.{true, _&&_}
 use mathlib.Core.List.{List}
 use native.Mathlib.Omega.{arith}
 use Rattle.ranges.specs.Tests.{both-left, both-right}
@@ -11,7 +11,8 @@ use Rattle.tables.specs.Links.{targets}
 use Rattle.tables.specs.Tables.{Tables, serversOf, clientsOf, entriesOf, stateOf, countOf, maskOf, contentAt}
 use Rattle.tables.specs.declared.links.Contents.{Contents}
 use Rattle.tables.specs.declared.links.Content.the-variants.{Request, Reply}
-use Rattle.soundness.specs.Sound.{uses, replySound, contentSound}
+use Rattle.rules.specs.Common.{askingSetpoints}
+use Rattle.soundness.specs.Sound.{uses, replySound, badgeSound, contentSound}
 use Rattle.soundness.specs.Facts.{Sound}
 use Rattle.soundness.specs.Room.{few-servers, server-fits, keys-row, values-row, client-fits, client-row, client-links, link-row, write-row, log-entries, next-write, next-read}
 use Rattle.history.specs.Ready.{BeginReady}
@@ -66,11 +67,18 @@ module _ (t : Tables) (s : Sound t) where
     -- what a link holds is what its state uses the target for, and its contents are in range
     pub reply-used : (w : Contents) → contentAt t q i ≡ Reply w → uses (stateOf t q) (maskOf t q) i ≡ true
     unfolding contentSound
-    reply-used w e = both-left (uses (stateOf t q) (maskOf t q) i) (replySound (stateOf t q) i (w .number) t) (rw e at (s .client q (d .client) .link i target .content))
+    reply-used w e =
+        both-left (uses (stateOf t q) (maskOf t q) i)
+        (replySound (stateOf t q) i (w .number) t && badgeSound askingSetpoints (stateOf t q) (w .badge))
+        (rw e at (s .client q (d .client) .link i target .content))
 
     pub reply-sound : (w : Contents) → contentAt t q i ≡ Reply w → replySound (stateOf t q) i (w .number) t ≡ true
     unfolding contentSound
-    reply-sound w e = both-right (uses (stateOf t q) (maskOf t q) i) (replySound (stateOf t q) i (w .number) t) (rw e at (s .client q (d .client) .link i target .content))
+    reply-sound w e =
+        both-left (replySound (stateOf t q) i (w .number) t) (badgeSound askingSetpoints (stateOf t q) (w .badge))
+        (both-right (uses (stateOf t q) (maskOf t q) i)
+        (replySound (stateOf t q) i (w .number) t && badgeSound askingSetpoints (stateOf t q) (w .badge))
+        (rw e at (s .client q (d .client) .link i target .content)))
 
     at-server : i < serversOf t → AtServer (t .counts) (t .keys) (t .values) i
     at-server l =

@@ -13,7 +13,8 @@ use Rattle.ranges.specs.FirstLaws.{first-below}
 use Rattle.keys.specs.Masks.{hasServer}
 use Rattle.tables.specs.Rows.{HasRow, word-same, word-other}
 use Rattle.tables.specs.Layout.{clientWidth, receivedField, serverPlaces}
-use Rattle.tables.specs.Links.{targets, isEmpty, linkAt, putLink, link-other}
+use Rattle.tables.specs.Links.{targets, isEmpty, linkAt, putLink}
+use Rattle.tables.specs.LinkLaws.{link-other}
 use Rattle.tables.specs.Tables.{Tables, serversOf, entriesOf, heldOf, stateOf, maskOf, recordOf, receivedOf, contentAt}
 use Rattle.tables.specs.declared.links.Contents.{Contents}
 use Rattle.tables.specs.declared.links.Content.the-variants.{Nothing, Reply}
@@ -29,23 +30,12 @@ use Rattle.soundness.specs.Room.{few-servers, server-fits, client-fits, client-
 use Rattle.choice.specs.Ready.{ChoiceReady}
 use Rattle.replies.specs.Ready.{KeysReady, Concludable, AllReady, Brings, ReplyReady}
 use Rattle.keeping.specs.Accepted.{Deliverable}
+use Rattle.keeping.specs.Told.{told-held, log-told, opening-qualifies}
 use Rattle.keeping.specs.States.{uses-setpoints, uses-all, by-state, keys-target, masked-server, holding-log, holding-server, arrived, received-none, received-some, keys-told, all-told}
 use Rattle.store.specs.Ready.{target, answerable, reply-used, reply-sound}
 
 module _ (t : Tables) (s : Sound t) where
-  -- the opening's version is the first of each server, and its key is the server's at tag 0
-  opening-key : (i : ℕ) → i < serversOf t → bears (t .keys) i (latestKey (t .log) i 0) 0 ≡ true
-  opening-key i l =
-      let z : latestTag (t .log) i 0 ≡ 0 = omega (arith, latest-within (t .log) i 0) in
-      rw (z, s .log .firstkey, s .server i l .first)
-
   module _ (q i : ℕ) (d : Deliverable q i t) (w : Contents) (e : contentAt t q i ≡ Reply w) where
-    -- no more was received than is held
-    received-most : (j : ℕ) → j < targets → receivedOf t q j ≤ holding t j
-    received-most j l =
-        let r = s .client q (d .client) .received j l in
-        by-test (arrived t q j) (λ b. received-some t q j b r .most) (λ b. omega (arith, received-none t q j b r))
-
     -- state 3: the number is that of entries
     keys-ready : stateOf t q ≡ askingKeys → KeysReady (t .counts) (t .clients) (t .log) q (w .number)
     keys-ready z =
@@ -71,27 +61,6 @@ module _ (t : Tables) (s : Sound t) where
       number-between : Between 1 (w .number) (holding t i)
       number-between = all-told t i (w .number) (rw z at (reply-sound t s q i d w e))
 
-      told-here : receivedIn told q i ≡ w .number
-      told-here = word-same clientWidth (t .clients) q (receivedField + i) (w .number) (client-row t s q (d .client)) (omega (arith, target t s q i d))
-
-      told-other : (j : ℕ) → j < targets → (j ≡ i → ⊥) → receivedIn told q j ≡ receivedOf t q j
-      told-other j l n = word-other clientWidth (t .clients) q (receivedField + i) (w .number) q (receivedField + j) (omega (arith, target t s q i d)) (omega arith) (λ y. n (omega (arith, y .1)))
-
-      told-most : (j : ℕ) → j < targets → receivedIn told q j ≤ holding t j
-      told-most j l = by-equal j i (λ y. rw (y, told-here) (number-between .most)) (λ y. rw (told-other j l y) (received-most j l))
-
-      -- where no link holds anything any more, each target in use has answered
-      told-some : pending (putLink (t .links) q i Nothing) q ≡ false → (j : ℕ) → j < targets → uses (stateOf t q) (maskOf t q) j ≡ true → 0 < receivedIn told q j
-      told-some none j l u =
-          by-equal j i (λ y. rw (y, told-here) (number-between .least))
-          (λ y.
-          let same : linkAt (putLink (t .links) q i Nothing) q j ≡ linkAt (t .links) q j = link-other (t .links) q i Nothing q j (target t s q i d) l (λ x. y (x .1)) in
-          let free : isEmpty (contentAt t q j) ≡ true =
-          by-test (isEmpty (contentAt t q j)) (λ b. b)
-          (λ b. absurd (not-both (any-at (filled (putLink (t .links) q i Nothing) q) targets j l (rw (same, b))) none)) in
-          let in′ = received-some t q j (both (eqb (stateOf t q) askingAll) (uses (stateOf t q) (maskOf t q) j && isEmpty (contentAt t q j)) (eq-eqb _ _ z) (both (uses (stateOf t q) (maskOf t q) j) (isEmpty (contentAt t q j)) u free)) (s .client q (d .client) .received j l) in
-          rw (told-other j l y) (in′ .least))
-
       told-length : length told ≡ length (t .clients)
       told-length = length-set (t .clients) (clientWidth * q + (receivedField + i)) (w .number)
 
@@ -100,9 +69,7 @@ module _ (t : Tables) (s : Sound t) where
 
       server-most : (j : ℕ) → j < serversOf t → receivedIn told q j ≤ serverPlaces
       server-most j l =
-          let f = server-fits t s j l in
-          let m : receivedIn told q j ≤ heldOf t j = rw (holding-server t j (λ y. omega arith)) at (told-most j (omega arith)) in
-          omega (arith, m, s .server j l .held .most)
+          omega (arith, told-held t s q i (w .number) (d .client) (target t s q i d) z number-between j l, s .server j l .held .most)
 
       choice-ready : ChoiceReady told (t .keys) (t .values) q (serversOf t)
       choice-ready =
@@ -112,29 +79,17 @@ module _ (t : Tables) (s : Sound t) where
             valued = s .long .values;
           }
 
-      -- tag 0 qualifies: each masked server has sent its first version at least
-      opening-qualifies : pending (putLink (t .links) q i Nothing) q ≡ false → qualifies (t .keys) (t .log) (maskOf t q) (receivedIn told q) (serversOf t) 0 ≡ true
-      opening-qualifies none =
-          all-of (serves (t .keys) (t .log) (maskOf t q) (receivedIn told q) 0) (serversOf t)
-          (λ j l. by-test (hasServer (maskOf t q) j)
-          (λ b.
-          let u : uses (stateOf t q) (maskOf t q) j ≡ true = rw (z, uses-all (maskOf t q) j, b) in
-          rw b (lt-ltb (firstBearing (t .keys) j (latestKey (t .log) j 0) (receivedIn told q j)) (receivedIn told q j)
-          (first-below (bears (t .keys) j (latestKey (t .log) j 0)) (receivedIn told q j) 0 (told-some none j (omega (arith, server-fits t s j l)) u) (opening-key j l))))
-          (λ b. rw b))
-
       concludable : pending (putLink (t .links) q i Nothing) q ≡ false →
           Concludable told (t .keys) (t .log) (t .reads) q (maskOf t q) (serversOf t) (recordOf t q)
       concludable none =
-          let u : uses (stateOf t q) (maskOf t q) coordinator ≡ true = rw (z, uses-all (maskOf t q) coordinator) (or-true (hasServer (maskOf t q) coordinator)) in
-          let m : receivedIn told q coordinator ≤ entriesOf t = told-most coordinator (omega arith) in
+          let m = log-told t s q i (w .number) (d .client) (target t s q i d) z number-between none in
           record {
             row = told-row;
             recorded = read-row t s q (d .client) (rw z);
-            some = told-some none coordinator (omega arith) u;
-            entries = omega (arith, m, s .scalars .entries .most);
-            logged = log-entries t s (receivedIn told q coordinator) m;
-            opening = opening-qualifies none;
+            some = m .least;
+            entries = omega (arith, m .most, s .scalars .entries .most);
+            logged = log-entries t s (receivedIn told q coordinator) (m .most);
+            opening = opening-qualifies t s q i (w .number) (d .client) (target t s q i d) z number-between none;
           }
 
       all-ready : AllReady (t .counts) (t .clients) (t .links) (t .keys) (t .values) (t .log) (t .reads) q i (w .number)

@@ -91,11 +91,12 @@ pub fn begin_write_sound(
     reads: &[u32],
     client: u32,
     mask: u32,
+    badge: u16,
     setpoints: &[u32],
 ) -> Answer
     requires { ⌜ Sound (tablesOf (now counts) (now clients) (now links) (now keys) (now values) (now log) (now writes) (now reads)) ⌝ }
     ensures { λ r. ⌜ left r (tablesOf (now (counts .exit)) (now (clients .exit)) (now (links .exit)) (now (keys .entry)) (now (values .entry)) (now (log .entry)) (now (writes .exit)) (now (reads .entry)))
-        ≡ beginWrite client mask (now (setpoints .entry)) (tablesOf (now (counts .entry)) (now (clients .entry)) (now (links .entry)) (now (keys .entry)) (now (values .entry)) (now (log .entry)) (now (writes .entry)) (now (reads .entry))) ⌝ }
+        ≡ beginWrite client mask badge (now (setpoints .entry)) (tablesOf (now (counts .entry)) (now (clients .entry)) (now (links .entry)) (now (keys .entry)) (now (values .entry)) (now (log .entry)) (now (writes .entry)) (now (reads .entry))) ⌝ }
 {
     let fault = refusals::write_fault(&*counts, &*clients, client, mask, setpoints.len());
     if fault != 0 {
@@ -108,6 +109,7 @@ pub fn begin_write_sound(
         writes,
         client as usize,
         mask,
+        badge as u32,
         setpoints,
     );
     Answer::Ok
@@ -125,10 +127,11 @@ pub fn begin_write(
     reads: &[u32],
     client: u32,
     mask: u32,
+    badge: u16,
     setpoints: &[u32],
 ) -> Answer
     ensures { λ r. ⌜ left r (tablesOf (now (counts .exit)) (now (clients .exit)) (now (links .exit)) (now (keys .entry)) (now (values .entry)) (now (log .entry)) (now (writes .exit)) (now (reads .entry)))
-        ≡ beginWrite client mask (now (setpoints .entry)) (tablesOf (now (counts .entry)) (now (clients .entry)) (now (links .entry)) (now (keys .entry)) (now (values .entry)) (now (log .entry)) (now (writes .entry)) (now (reads .entry))) ⌝ }
+        ≡ beginWrite client mask badge (now (setpoints .entry)) (tablesOf (now (counts .entry)) (now (clients .entry)) (now (links .entry)) (now (keys .entry)) (now (values .entry)) (now (log .entry)) (now (writes .entry)) (now (reads .entry))) ⌝ }
 {
     if !soundness::sound(
         &*counts,
@@ -153,6 +156,7 @@ pub fn begin_write(
         reads,
         client,
         mask,
+        badge,
         setpoints,
     )
 }
@@ -355,12 +359,15 @@ pub fn deliver_reply_sound(
         }
         let mut setpoints = [0u32; 16];
         let mut tags = [0u32; 16];
+        let mut badges = [0u32; 16];
         words::show_words(&*clients, client, clients::SETPOINTS, mask, &mut setpoints);
         words::show_words(&*clients, client, clients::TAGS, mask, &mut tags);
+        words::show_words(&*clients, client, clients::BADGES, mask, &mut badges);
         return Delivered {
             arrival: Arrival::Read(tag),
             setpoints: setpoints,
             tags: tags,
+            badges: badges,
         };
     }
     replies::all_told(

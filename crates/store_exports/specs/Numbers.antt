@@ -36,7 +36,7 @@ inNumbers l = numbered (answerNumber (l .answer)) (l .tables)
 
 -- a delivered reply's answer as it crosses
 abbrev pub crossingOf : Delivered → Crossing
-crossingOf d = record { number = arrivalNumber (d .arrival); setpoints = d .setpoints; tags = d .tags }
+crossingOf d = record { number = arrivalNumber (d .arrival); setpoints = d .setpoints; tags = d .tags; badges = d .badges }
 
 -- what crosses, and the tables that the delivery leaves
 pub record Crossed : Type 0 where

@@ -33,13 +33,14 @@ fn arrival_number(arrival: Arrival) -> u64
     }
 }
 
-// A delivered reply's answer as it crosses, and beside it what a READ shows: setpoints, and the tags of the WRITEs that put them there; 0 where it
-// shows none.
+// A delivered reply's answer as it crosses, and beside it what a READ shows: setpoints, and the tags and badges of the WRITEs that put
+// them there; 0 where it shows none.
 #[repr(C)]
 pub struct Crossing {
     pub number: u64,
     pub setpoints: [u32; 16],
     pub tags: [u32; 16],
+    pub badges: [u32; 16],
 }
 
 fn to_cross(delivered: Delivered) -> Crossing
@@ -48,10 +49,12 @@ fn to_cross(delivered: Delivered) -> Crossing
     let arrival = delivered.arrival;
     let setpoints = delivered.setpoints;
     let tags = delivered.tags;
+    let badges = delivered.badges;
     Crossing {
         number: arrival_number(arrival),
         setpoints: setpoints,
         tags: tags,
+        badges: badges,
     }
 }
 
@@ -121,10 +124,11 @@ pub extern "C" fn store_begin_write(
     reads: &[u32],
     client: u32,
     mask: u32,
+    badge: u16,
     setpoints: &[u32],
 ) -> u32
     ensures { λ r. ⌜ numbered r (tablesOf (now (counts .exit)) (now (clients .exit)) (now (links .exit)) (now (keys .entry)) (now (values .entry)) (now (log .entry)) (now (writes .exit)) (now (reads .entry)))
-        ≡ inNumbers (beginWrite client mask (now (setpoints .entry)) (tablesOf (now (counts .entry)) (now (clients .entry)) (now (links .entry)) (now (keys .entry)) (now (values .entry)) (now (log .entry)) (now (writes .entry)) (now (reads .entry)))) ⌝ }
+        ≡ inNumbers (beginWrite client mask badge (now (setpoints .entry)) (tablesOf (now (counts .entry)) (now (clients .entry)) (now (links .entry)) (now (keys .entry)) (now (values .entry)) (now (log .entry)) (now (writes .entry)) (now (reads .entry)))) ⌝ }
 {
     let answer = store::begin_write(
         counts,
@@ -137,6 +141,7 @@ pub extern "C" fn store_begin_write(
         reads,
         client,
         mask,
+        badge,
         setpoints,
     );
     answer_number(answer)
@@ -251,11 +256,12 @@ pub extern "C" fn store_begin_write_sound(
     reads: &[u32],
     client: u32,
     mask: u32,
+    badge: u16,
     setpoints: &[u32],
 ) -> u32
     requires { ⌜ Sound (tablesOf (now counts) (now clients) (now links) (now keys) (now values) (now log) (now writes) (now reads)) ⌝ }
     ensures { λ r. ⌜ numbered r (tablesOf (now (counts .exit)) (now (clients .exit)) (now (links .exit)) (now (keys .entry)) (now (values .entry)) (now (log .entry)) (now (writes .exit)) (now (reads .entry)))
-        ≡ inNumbers (beginWrite client mask (now (setpoints .entry)) (tablesOf (now (counts .entry)) (now (clients .entry)) (now (links .entry)) (now (keys .entry)) (now (values .entry)) (now (log .entry)) (now (writes .entry)) (now (reads .entry)))) ⌝ }
+        ≡ inNumbers (beginWrite client mask badge (now (setpoints .entry)) (tablesOf (now (counts .entry)) (now (clients .entry)) (now (links .entry)) (now (keys .entry)) (now (values .entry)) (now (log .entry)) (now (writes .entry)) (now (reads .entry)))) ⌝ }
 {
     let answer = store::begin_write_sound(
         counts,
@@ -268,6 +274,7 @@ pub extern "C" fn store_begin_write_sound(
         reads,
         client,
         mask,
+        badge,
         setpoints,
     );
     answer_number(answer)

@@ -1,6 +1,6 @@
 -- The sizes of the program's tables, which follow from their layouts: they serve 16 servers and 16 clients.
 use Prim.Native.Nat.{ℕ, _*_}
-use Rattle.tables.specs.Layout.{countWords, clientWidth, serverPlaces, entryWidth, logPlaces, recordWidth, recordPlaces}
+use Rattle.tables.specs.Layout.{countWords, clientWidth, serverPlaces, valueWidth, entryWidth, logPlaces, recordWidth, recordPlaces}
 use Rattle.tables.specs.Links.{linkWidth, targets}
 
 -- "16 stations", "16 panels"
@@ -20,7 +20,7 @@ abbrev pub keysSize : ℕ
 keysSize = serverPlaces * mostServers
 
 abbrev pub valuesSize : ℕ
-valuesSize = serverPlaces * mostServers
+valuesSize = valueWidth * (serverPlaces * mostServers)
 
 abbrev pub logSize : ℕ
 logSize = entryWidth * logPlaces

@@ -30,7 +30,7 @@ pub const LINKS: usize = links::WIDTH * (links::TARGETS * MOST_CLIENTS);
 
 pub const KEYS: usize = versions::PLACES * MOST_SERVERS;
 
-pub const VALUES: usize = versions::PLACES * MOST_SERVERS;
+pub const VALUES: usize = versions::WIDTH * (versions::PLACES * MOST_SERVERS);
 
 pub const LOG: usize = log::WIDTH * log::PLACES;
 

@@ -4,7 +4,8 @@ use mathlib.Core.Path.{_≡_}
 use mathlib.Core.List.{List, [], _∷_}
 use native.Mathlib.Omega.{arith}
 use Rattle.keys.specs.declared.Key.{Key}
-use Rattle.keys.specs.Keys.{keyWord, word-back, FitsByte}
+use Rattle.keys.specs.Keys.{keyWord, FitsByte}
+use Rattle.keys.specs.KeyLaws.{word-back}
 use Rattle.tables.specs.Rows.{HasRow, row-same, row-other}
 use Rattle.tables.specs.Layout.{entryWidth, entryKey, entryMask, putEntry}
 

@@ -2,5 +2,7 @@
 pub mod Rows
 pub mod Layout
 pub mod Links
+pub mod LinkLaws
 pub mod Entries
 pub mod Tables
+pub mod Values

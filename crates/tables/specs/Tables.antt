@@ -1,7 +1,9 @@
 -- All tables as one record, a setter for each, and the words that definitions speak of by name.
 use Prim.Native.Nat.{ℕ, _+_}
 use mathlib.Core.List.{List}
-use Rattle.tables.specs.Layout.{countAt, methodField, serversField, clientsField, stepField, entriesField, writesField, readsField, heldField, clientWord, stateField, countField, maskField, tagField, recordField, receivedField, tagsField}
+use Rattle.tables.specs.Layout.{countAt, methodField, serversField, clientsField, stepField, entriesField, writesField, readsField}
+use Rattle.tables.specs.Layout.{heldField, clientWord, stateField, countField, maskField, tagField, recordField, receivedField}
+use Rattle.tables.specs.Layout.{tagsField, badgesField}
 use Rattle.tables.specs.Links.{linkAt}
 use Rattle.tables.specs.declared.links.Content.{Content}
 
@@ -88,6 +90,10 @@ receivedOf t q i = clientWord (t .clients) q (receivedField + i)
 -- the tag that a client keeps for a server
 abbrev pub keptTagOf : Tables → ℕ → ℕ → ℕ
 keptTagOf t q i = clientWord (t .clients) q (tagsField + i)
+
+-- the badge that it stores for a server
+abbrev pub keptBadgeOf : Tables → ℕ → ℕ → ℕ
+keptBadgeOf t q i = clientWord (t .clients) q (badgesField + i)
 
 -- what a link holds
 abbrev pub contentAt : Tables → ℕ → ℕ → Content

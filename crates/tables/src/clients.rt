@@ -1,11 +1,11 @@
 // A client's row: state, last count, mask, tag, the place of the record in progress, 16 setpoints, the n received from each of 17 targets, and the
-// tags that 16 servers' setpoints come from.
+// tags and the badges that 16 servers' setpoints come from.
 ghost use mathlib.Core.Path.{_≡_};
 ghost use Prim.Native.Nat.{_<_};
 ghost use Rattle.tables.specs.Rows.{HasRow};
 ghost use Rattle.tables.specs.Layout.{clientWidth, clientWord, putClientWord};
 
-pub const WIDTH: usize = 54;
+pub const WIDTH: usize = 70;
 
 pub const STATE: usize = 0;
 
@@ -22,6 +22,8 @@ pub const SETPOINTS: usize = 5;
 pub const RECEIVED: usize = 21;
 // The tag of the WRITE that the setpoint of server i comes from stands at TAGS + i.
 pub const TAGS: usize = 38;
+// The badge of that WRITE stands at BADGES + i.
+pub const BADGES: usize = 54;
 
 pub fn client_word(clients: &[u32], client: usize, field: usize) -> u32
     requires { ⌜ HasRow clientWidth (now clients) client ⌝ }

@@ -1,4 +1,4 @@
-// The links: what the wire holds between a client and a target. A row of three words: kind, key, number.
+// The links: what the wire holds between a client and a target. A row of four words: kind, key, number, badge.
 ghost use mathlib.Core.Path.{_≡_};
 ghost use Prim.Native.Nat.{_+_, _<_};
 ghost use mathlib.Core.List.{[], _∷_};
@@ -8,10 +8,12 @@ ghost use Rattle.tables.specs.Rows.{HasRow};
 ghost use Rattle.tables.specs.Links.{linkWidth, linkRow, linkWord, linkAt, putLink, isEmpty};
 use keys::Key;
 
-// What a request or a reply carries. The number is the setpoint, mask, tag or n; what a message does not carry is 0.
+// What a request or a reply carries. The number is the setpoint, mask, tag or n; the badge goes with a setpoint; what a message does not carry
+// is 0.
 pub struct Contents {
     pub key: Key,
     pub number: u32,
+    pub badge: u32,
 }
 
 pub enum Content {
@@ -24,13 +26,15 @@ pub struct Link {
     pub content: Content,
 }
 
-pub const WIDTH: usize = 3;
+pub const WIDTH: usize = 4;
 
 pub const KIND: usize = 0;
 
 pub const KEY: usize = 1;
 
 pub const NUMBER: usize = 2;
+
+pub const BADGE: usize = 3;
 // The targets of a client: servers 0 to 15, and the coordinator.
 pub const TARGETS: usize = 17;
 
@@ -45,6 +49,7 @@ pub fn link_at(links: &[u32], client: usize, target: usize) -> Link
     let contents = Contents {
         key: Key::at_word(links[at + KEY]),
         number: links[at + NUMBER],
+        badge: links[at + BADGE],
     };
     if kind == 1 {
         return Link {
@@ -70,14 +75,15 @@ pub fn link_word(links: &[u32], client: usize, target: usize, field: usize) -> u
     links[WIDTH * (TARGETS * client + target) + field]
 }
 
-// Three words from a place on.
-fn put_words(links: &mut [u32], at: usize, kind: u32, key: u32, number: u32)
-    requires { ⌜ at + 2 < length (now links) ⌝ }
-    ensures { λ _. ⌜ now (links .exit) ≡ sets (now (links .entry)) at (kind ∷ key ∷ number ∷ []) ⌝ }
+// Four words from a place on.
+fn put_words(links: &mut [u32], at: usize, kind: u32, key: u32, number: u32, badge: u32)
+    requires { ⌜ at + 3 < length (now links) ⌝ }
+    ensures { λ _. ⌜ now (links .exit) ≡ sets (now (links .entry)) at (kind ∷ key ∷ number ∷ badge ∷ []) ⌝ }
 {
     links[at + KIND] = kind;
     links[at + KEY] = key;
     links[at + NUMBER] = number;
+    links[at + BADGE] = badge;
 }
 
 pub fn put_link(links: &mut [u32], client: usize, target: usize, link: Link)
@@ -88,13 +94,27 @@ pub fn put_link(links: &mut [u32], client: usize, target: usize, link: Link)
     let content = link.content;
     match content {
         Content::Nothing => {
-            put_words(links, at, 0, 0, 0);
+            put_words(links, at, 0, 0, 0, 0);
         }
         Content::Request(contents) => {
-            put_words(links, at, 1, contents.key.word(), contents.number);
+            put_words(
+                links,
+                at,
+                1,
+                contents.key.word(),
+                contents.number,
+                contents.badge,
+            );
         }
         Content::Reply(contents) => {
-            put_words(links, at, 2, contents.key.word(), contents.number);
+            put_words(
+                links,
+                at,
+                2,
+                contents.key.word(),
+                contents.number,
+                contents.badge,
+            );
         }
     }
 }

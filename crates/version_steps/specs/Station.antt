@@ -14,16 +14,17 @@ use Rattle.tables.specs.declared.links.Contents.{Contents}
 use Rattle.server.specs.Held as held
 use Rattle.server.specs.Held.{Room, Appended, appended}
 use Rattle.rules.specs.Answers.{Left}
-use Rattle.rules.specs.Request.{answered, refused, storedBy, onSet, onGet}
+use Rattle.rules.specs.Common.{gotReply}
+use Rattle.rules.specs.Request.{answeredBy, answered, refused, storedBy, onSet, onGet}
 use Rattle.versions.specs.declared.Version.{Version}
 use Rattle.versions.specs.declared.Reading.{Reading}
 use Rattle.versions.specs.Table.{appendNumber, appendTable, readingOf}
 use Rattle.versions.specs.Core.{SameTable, versionOf, coreReading}
 use Rattle.versions.specs.CoreLaws.{reading-same, number-same, append-same}
 
--- what a delivered get request makes of what was read of its key: the reply with the setpoint, or the refusal by its number
+-- what a delivered get request makes of what was read of its key: the reply with badge and setpoint, or the refusal by its number
 abbrev pub gotBy : Reading → ℕ → ℕ → Tables → Left
-gotBy r q i t = cond (eqb (r .number) 0) (answered q i (r .setpoint) t) (refused (r .number) t)
+gotBy r q i t = cond (eqb (r .number) 0) (answeredBy (gotReply (r .badge) (r .setpoint)) q i t) (refused (r .number) t)
 
 -- what a delivered set request makes of the number that an append answers
 abbrev pub setBy : ℕ → Appended → ℕ → ℕ → Tables → Left
@@ -41,17 +42,18 @@ module _ (w : Contents) (q i : ℕ) (t : Tables) where
     get-reads few =
         get-core ∙ ap (λ (r : Reading). gotBy r q i t) (sym (reading-same versions (t .keys) (t .values) i same (heldOf t i) few (w .key) f))
 
-    -- "A request delivered there appends (key, setpoint)."
+    -- "A request delivered there appends (key, setpoint)", with its badge between them
     module _ (room : Room (t .counts) (t .keys) (t .values) i) where
       abbrev after : Appended
-      after = appended (t .counts) (t .keys) (t .values) i (w .key) (w .number)
+      after = appended (t .counts) (t .keys) (t .values) i (w .key) (w .badge) (w .number)
 
       pub set-appends : onSet w q i t ≡ setBy (appendNumber (heldOf t i) (length versions)) after q i t
       unfolding onSet
       set-appends =
-          rw (number-same (t .counts) (t .keys) (t .values) i room versions same (w .key) (w .number) f)
+          rw (number-same (t .counts) (t .keys) (t .values) i room versions same (w .key) (w .badge) (w .number) f)
           (by-test (after .done) (λ e. rw e) (λ e. rw e))
 
       -- and the table of structs still says the same as the slices that are left
-      pub set-same : SameTable (appendTable versions (heldOf t i) (versionOf (w .key) (w .number))) (after .keys) (after .values) i
-      set-same = append-same (t .counts) (t .keys) (t .values) i room versions same (w .key) (w .number) f
+      pub set-same :
+          SameTable (appendTable versions (heldOf t i) (versionOf (w .key) (w .badge) (w .number))) (after .keys) (after .values) i
+      set-same = append-same (t .counts) (t .keys) (t .values) i room versions same (w .key) (w .badge) (w .number) f

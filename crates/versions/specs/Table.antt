@@ -1,4 +1,5 @@
--- "A station's versions are lent as a table of records (key, setpoint) in order of arrival, at most 256". How many are held is a number beside the table.
+-- "A station's versions are lent as a table of records (key, setpoint) in order of arrival, at most 256"; document 02: "Version records
+-- hold it after the key", the badge. How many are held is a number beside the table.
 use Prim.Native.Nat.{ℕ, _+_}
 use mathlib.Core.Bool.{Bool, cond, _&&_}
 use mathlib.Core.List.{List}
@@ -14,7 +15,7 @@ use Rattle.versions.specs.declared.Trial.{Trial}
 
 -- what `getD` gives past the end of a table: only places that can be read are looked at
 abbrev pub noVersion : Version
-noVersion = record { key = opening; setpoint = 0 }
+noVersion = record { key = opening; badge = 0; setpoint = 0 }
 
 abbrev pub versionAt : List Version → ℕ → Version
 versionAt versions place = getD versions place noVersion
@@ -53,12 +54,12 @@ bearsAt versions key place = bears (versionAt versions place) key
 abbrev pub firstBearing : List Version → ℕ → Key → ℕ
 firstBearing versions held key = firstBelow (bearsAt versions key) (readable held (length versions))
 
--- what is read: the setpoint with number 0, or number 8: "a get request a key not held"
+-- what is read: badge and setpoint with number 0, or number 8: "a get request a key not held"
 abbrev pub foundAt : Version → Reading
-foundAt version = record { number = 0; setpoint = version .setpoint }
+foundAt version = record { number = 0; badge = version .badge; setpoint = version .setpoint }
 
 abbrev pub notHeld : Reading
-notHeld = record { number = 8; setpoint = 0 }
+notHeld = record { number = 8; badge = 0; setpoint = 0 }
 
 unfoldable pub readingOf : List Version → ℕ → Key → Reading
 readingOf versions held key =

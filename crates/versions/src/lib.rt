@@ -8,15 +8,17 @@ ghost use Rattle.versions.specs.Table.{lesser, readable, appendNumber, a
 use keys::Key;
 use tables::versions::PLACES;
 
-// A version: the key of the WRITE that it came with, and its setpoint.
+// A version: the key of the WRITE that it came with, its badge, and its setpoint.
 pub struct Version {
     pub key: Key,
+    pub badge: u16,
     pub setpoint: u32,
 }
 
-// The setpoint of a key, with number 0. Number 8 where no version held bears the key.
+// The setpoint of a key and the badge that came with it, with number 0. Number 8 where no version held bears the key.
 pub struct Reading {
     pub number: u8,
+    pub badge: u16,
     pub setpoint: u32,
 }
 
@@ -66,7 +68,7 @@ pub fn find(versions: &[Version], held: usize, key: Key) -> usize
     readable
 }
 
-// The setpoint of a key: that of the first version held that bears it.
+// The setpoint of a key, with its badge: those of the first version held that bears it.
 pub fn setpoint_of(versions: &[Version], held: usize, key: Key) -> Reading
     ensures { λ r. ⌜ r ≡ readingOf (now (versions .entry)) held key ⌝ }
 {
@@ -122,6 +124,7 @@ fn reading_found(version: Version) -> Reading
 {
     Reading {
         number: 0,
+        badge: version.badge,
         setpoint: version.setpoint,
     }
 }
@@ -131,6 +134,7 @@ fn reading_missing() -> Reading
 {
     Reading {
         number: 8,
+        badge: 0,
         setpoint: 0,
     }
 }

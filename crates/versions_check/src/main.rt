@@ -1,5 +1,5 @@
 // Puts a version into a table of 4096 places, looks a key up in it, and prints what was found, a line for each trial:
-// what the append answered, how many can be read then, where the key stands, what the look-up answered, and the setpoint.
+// what the append answered, how many can be read then, where the key stands, what the look-up answered, the badge and the setpoint.
 // `stdout` holds what the rules say of each line, worked out by hand.
 ghost use mathlib.Core.Path.{_≡_};
 ghost use Rattle.keys.specs.Keys.{keyOf};
@@ -10,11 +10,12 @@ use libc::STDOUT_FILENO;
 use versions::Trial;
 use versions::Version;
 
-fn version_of(count: u8, client: u8, setpoint: u32) -> Version
-    ensures { λ r. ⌜ r ≡ versionOf (keyOf count client) setpoint ⌝ }
+fn version_of(count: u8, client: u8, badge: u16, setpoint: u32) -> Version
+    ensures { λ r. ⌜ r ≡ versionOf (keyOf count client) badge setpoint ⌝ }
 {
     Version {
         key: Key::new(count, client),
+        badge: badge,
         setpoint: setpoint,
     }
 }
@@ -29,16 +30,19 @@ fn print(trial: Trial) {
     io::write_all(STDOUT_FILENO, b" ");
     io::print_decimal(STDOUT_FILENO, reading.number as u64);
     io::write_all(STDOUT_FILENO, b" ");
+    io::print_decimal(STDOUT_FILENO, reading.badge as u64);
+    io::write_all(STDOUT_FILENO, b" ");
     io::print_decimal(STDOUT_FILENO, reading.setpoint as u64);
     io::write_all(STDOUT_FILENO, b"\n");
 }
 
-// A table that is full of key (1, 0) at 30 takes a version of a key at 45, behind those held; then a key is looked up.
+// A table that is full of key (1, 0) with badge 7 at 30 takes a version of a key with badge 65,535 at 45, behind those held; then a key is
+// looked up.
 fn tried(held: usize, count: u8, client: u8, sought: Key) -> Trial
-    ensures { λ r. ⌜ r ≡ trialOf (versionOf (keyOf 1 0) 30) held (versionOf (keyOf count client) 45) sought ⌝ }
+    ensures { λ r. ⌜ r ≡ trialOf (versionOf (keyOf 1 0) 7 30) held (versionOf (keyOf count client) 65535 45) sought ⌝ }
 {
-    let blank = version_of(1, 0, 30);
-    let version = version_of(count, client, 45);
+    let blank = version_of(1, 0, 7, 30);
+    let version = version_of(count, client, 65535, 45);
     versions::append_and_read(blank, held, version, sought)
 }
 

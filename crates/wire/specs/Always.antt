@@ -10,11 +10,11 @@ use lib.ListN.{getD}
 use lib.Pow.{pow-mono}
 use borrow.Author.Tests.{ltb-true, eq-eqb, ne-eqb}
 use Rattle.ranges.specs.Tests.{by-equal, both-left, both-right}
-use Rattle.keys.specs.Keys.{keyAtWord, key-back}
+use Rattle.keys.specs.Keys.{keyAtWord}
+use Rattle.keys.specs.KeyLaws.{key-back}
 use Rattle.keys.specs.Masks.{Within}
 use Rattle.tables.specs.Rows.{wordAt}
-use Rattle.tables.specs.Layout.{entryWidth, entryMask, versionWord}
-use Rattle.tables.specs.Links.{contentsOf}
+use Rattle.tables.specs.Layout.{entryWidth, entryMask, versionWord, versionBadge, versionSetpoint}
 use Rattle.tables.specs.Tables.{Tables, serversOf, clientsOf, entriesOf, heldOf, stateOf, maskOf, contentAt}
 use Rattle.tables.specs.declared.links.Contents.{Contents}
 use Rattle.tables.specs.declared.links.Content.{Content}
@@ -24,13 +24,14 @@ use Rattle.coordinator.specs.LatestLaws.{latest-within}
 use Rattle.rules.specs.Common.{coordinator}
 use Rattle.soundness.specs.Sound.{between, keyInRange, keyOn}
 use Rattle.soundness.specs.Facts.{Between, between-facts, EntryFacts, Sound}
-use Rattle.keeping.specs.Links.{kindOn, numberOn, request-kind, request-words, reply-kind, reply-words}
+use Rattle.keeping.specs.Links.{kindOn, numberOn, badgeOn, contentsOn, request-kind, request-words, reply-kind, reply-words}
 use Rattle.keeping.specs.States.{by-state, range-below}
 use Rattle.ranges.specs.Laid.{built}
 use Rattle.ranges.specs.LaidLaws.{built-length, built-at}
 use Rattle.frames.specs.Frames.{writable}
 use Rattle.wire.specs.OnLink.{OnLink, empty, carries, alone, requestIn, keysReply, allReply, logReply, replyIn, onLinkBy, onLink}
-use Rattle.wire.specs.Known.{Present, few-servers, client-fits, is-server, asks, used, writing-server, setpoints-server, set-key, enter-key, enter-mask, get-key, entered-tag, keys-held, log-held, all-held}
+use Rattle.wire.specs.Known.{Present, few-servers, client-fits, is-server, asks, used, writing-server, setpoints-server, set-key}
+use Rattle.wire.specs.Known.{set-badge, enter-key, enter-mask, get-key, entered-tag, keys-held, got-badge, log-held, all-held}
 use Rattle.wire.specs.Writable.{KeyFits, WordFits, set-writable, set-done-writable, enter-writable, entered-writable, which-keys-writable, keys-writable, get-writable, got-writable, get-all-writable, all-writable, get-log-writable, log-writable}
 
 -- tables of 32-bit words: "A setpoint is an unsigned 32-bit number." Lent slices of such words are always so.
@@ -40,7 +41,7 @@ pub record Words (links values : List ℕ) : Type 0 where
 
 abbrev pub CanBeWritten : OnLink → Type 0
 CanBeWritten empty = Unit {0}
-CanBeWritten (carries m keys numbers) = writable m keys numbers ≡ true
+CanBeWritten (carries m keys badges numbers) = writable m keys badges numbers ≡ true
 
 -- ---- keys by their words
 
@@ -107,14 +108,18 @@ module _ (t : Tables) (s : Sound t) where
         (λ j h. rw (built-at g n j h) (e j h .mask .some))
         (λ j h. rw (built-at g n j h) (mask-fits (g j) (e j h .mask)))
 
-    all-can : ((j : ℕ) → getD (t .values) j 0 < 4294967296) → (i : ℕ) → i < serversOf t → (n : ℕ) → Between 1 n (heldOf t i) → CanBeWritten (allReply n q i (t .keys) (t .values))
+    all-can : ((j : ℕ) → getD (t .values) j 0 < 4294967296) → (i : ℕ) → i < serversOf t → (n : ℕ) → Between 1 n (heldOf t i)
+        → CanBeWritten (allReply n q i (t .keys) (t .values))
     all-can words i l n b =
         let f : ℕ → ℕ = versionWord (t .keys) i in
-        let g : ℕ → ℕ = versionWord (t .values) i in
+        let m : ℕ → ℕ = versionBadge (t .values) i in
+        let g : ℕ → ℕ = versionSetpoint (t .values) i in
         all-writable q below n (b .least) (built f n) (omega (arith, built-length f n))
         (λ j h. rw (built-at f n j h) (in-range (f j) (s .server i l .key j (omega (arith, b .most)))))
         (built g n) (omega (arith, built-length g n)) (omega (arith, b .most, s .server i l .held .most))
+        (built m n) (omega (arith, built-length m n))
         i (omega (arith, s .scalars .press .servers .most))
+        (λ j h. rw (built-at m n j h) (s .server i l .badge j (omega (arith, b .most))))
         (λ j h. rw (built-at g n j h) (words _))
 
 -- ---- what stands on a link
@@ -126,6 +131,9 @@ module _ (t : Tables) (s : Sound t) (words : Words (t .links) (t .values)) (q i 
   abbrev number : ℕ
   number = numberOn t q i
 
+  abbrev badge : ℕ
+  badge = badgeOn t q i
+
   q-fits : q < 16
   q-fits = client-fits t s q i a
 
@@ -133,11 +141,15 @@ module _ (t : Tables) (s : Sound t) (words : Words (t .links) (t .values)) (q i 
     full : kindOn t q i ≡ 0 → ⊥
     full e = omega arith
 
-    request-can : writable (requestIn (stateOf t q) (contentsOf word number) q i) [] [] ≡ true
+    request-can : writable (requestIn (stateOf t q) (contentsOn t q i) q i) [] [] [] ≡ true
     unfolding requestIn
     request-can =
         by-state (maskOf t q) i (stateOf t q) (used t s q i a full)
-        (λ e. let k = set-key t s q i a asked e in rw e (set-writable q q-fits i (writing-server t s q i a full e) (keyAtWord word) number (k .some) (k .few) (k .client) (words .link _)))
+        (λ e.
+        let k = set-key t s q i a asked e in
+        rw e
+        (set-writable q q-fits i (writing-server t s q i a full e) (keyAtWord word) badge number (k .some) (k .few) (k .client)
+        (set-badge t s q i a asked e) (words .link _)))
         (λ e.
         let k = enter-key t s q i a asked e in
         let m = enter-mask t s q i a asked e in
@@ -156,14 +168,16 @@ module _ (t : Tables) (s : Sound t) (words : Words (t .links) (t .values)) (q i 
     not-empty : kindOn t q i ≡ 0 → ⊥
     not-empty e = omega arith
 
-    reply-can : CanBeWritten (replyIn (stateOf t q) number q i t)
+    reply-can : CanBeWritten (replyIn (stateOf t q) (contentsOn t q i) q i t)
     unfolding replyIn
     reply-can =
         by-state (maskOf t q) i (stateOf t q) (used t s q i a not-empty)
         (λ e. rw e (set-done-writable q q-fits i (writing-server t s q i a not-empty e)))
         (λ e. let g = entered-tag t s q i a came e in rw e (entered-writable q q-fits number (g .0) (omega (arith, g .1, s .scalars .entries .most))))
         (λ e. rw e (keys-can t s q (a .client) number (keys-held t s q i a came e)))
-        (λ e. rw e (got-writable q q-fits i (setpoints-server t s q i a not-empty e) number (words .link _)))
+        (λ e.
+        rw e
+        (got-writable q q-fits i (setpoints-server t s q i a not-empty e) badge number (got-badge t s q i a came e) (words .link _)))
         (λ e.
         rw e
         (by-equal i coordinator
@@ -177,7 +191,8 @@ module _ (t : Tables) (s : Sound t) (words : Words (t .links) (t .values)) (q i 
       subst (λ (w : Contents). CanBeWritten (alone (requestIn (stateOf t q) w q i))) (request-words (t .links) q i w k e) (request-can (request-kind (t .links) q i w k e))
   by-content (Reply w) e =
       let k = asks t s q i a .kind in
-      subst (λ (w : Contents). CanBeWritten (replyIn (stateOf t q) (w .number) q i t)) (reply-words (t .links) q i w k e) (reply-can (reply-kind (t .links) q i w k e))
+      subst (λ (w : Contents). CanBeWritten (replyIn (stateOf t q) w q i t)) (reply-words (t .links) q i w k e)
+      (reply-can (reply-kind (t .links) q i w k e))
 
   -- what a link of sound tables holds can be written
   pub always-writable : CanBeWritten (onLink q i t)

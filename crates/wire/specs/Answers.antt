@@ -14,21 +14,22 @@ use Rattle.soundness.specs.Sound.{sound}
 use Rattle.soundness.specs.Facts.{Between, Sound, facts-sound}
 use Rattle.refusals.specs.Refusals.{isTarget}
 use Rattle.keeping.specs.Accepted.{neither}
-use Rattle.keeping.specs.Links.{numberOn, kindOn, reply-kind, reply-words}
+use Rattle.keeping.specs.Links.{numberOn, contentsOn, kindOn, request-kind, request-words, reply-kind, reply-words}
 use Rattle.keeping.specs.States.{by-state}
 use Rattle.frames.specs.Frames.{fits, writtenOf, bytesWritten}
 use Rattle.wire.specs.OnLink.{OnLink, empty, carries, onLink}
 use Rattle.wire.specs.Sending.{Sent, refused, sentFrom, isAbsent, linkFrame}
-use Rattle.wire.specs.Known.{Present, few-servers, client-fits, target-below, is-server, asks, used, entered-tag, keys-held, log-held, all-held}
+use Rattle.wire.specs.Known.{Present, few-servers, client-fits, target-below, is-server, asks, used}
+use Rattle.wire.specs.Known.{set-badge, entered-tag, keys-held, got-badge, log-held, all-held}
 use Rattle.wire.specs.Always.{Words, CanBeWritten, always-writable}
-use Rattle.wire.specs.Ready.{LogReady, EverythingReady, ReplyReady, LinkReady}
+use Rattle.wire.specs.Ready.{LogReady, EverythingReady, RequestReady, ReplyReady, LinkReady}
 use Rattle.wire.specs.Cases.{wroteFrom}
 
 -- what can be written is never refused by 11
 can-write : (o : OnLink) (bytes : List ℕ) → CanBeWritten o → wroteFrom o bytes ≡ sentFrom o bytes
 unfolding wroteFrom sentFrom writtenOf bytesWritten
 can-write empty bytes w = refl
-can-write (carries m keys numbers) bytes w = rw w (by-test (fits m keys numbers bytes) (λ f. rw f) (λ f. rw f))
+can-write (carries m keys badges numbers) bytes w = rw w (by-test (fits m keys badges numbers bytes) (λ f. rw f) (λ f. rw f))
 
 -- tables that are not sound
 pub frame-unsound : (q i : ℕ) (t : Tables) (bytes : List ℕ) {b : Bool} → b ≡ sound t → not b ≡ true → refused 2 bytes ≡ linkFrame q i t bytes
@@ -75,13 +76,14 @@ module _ (q i : ℕ) (t : Tables) (s : Sound t) (a : Present q i t) where
               };
         }
 
-    came-ready : ReplyReady (t .counts) (t .keys) (t .values) (t .log) (stateOf t q) number i
+    came-ready : ReplyReady (t .counts) (t .keys) (t .values) (t .log) (stateOf t q) (contentsOn t q i) i
     came-ready =
         record {
           counted = s .long .counts;
           servers = few-servers t s q i a;
           entered = λ e. omega (arith, entered-tag t s q i a came e .1, s .scalars .entries .most);
           keyed = λ e. log-ready (keys-held t s q i a came e);
+          got = got-badge t s q i a came;
           everything = λ l.
               by-state (maskOf t q) i (stateOf t q) (used t s q i a (λ z. omega arith))
               (λ e. absurd (l .not-writing e))
@@ -99,7 +101,12 @@ module _ (q i : ℕ) (t : Tables) (s : Sound t) (a : Present q i t) where
         target = target-below t s q i a;
         row = omega (arith, s .long .clients);
         linked = omega (arith, target-below t s q i a, s .long .links);
+        request = λ w e.
+            let k = asks t s q i a .kind in
+            subst (RequestReady (stateOf t q)) (request-words (t .links) q i w k e)
+            (record { set = set-badge t s q i a (request-kind (t .links) q i w k e) });
         reply = λ w e.
             let k = asks t s q i a .kind in
-            subst (λ (w : Contents). ReplyReady (t .counts) (t .keys) (t .values) (t .log) (stateOf t q) (w .number) i) (reply-words (t .links) q i w k e) (came-ready (reply-kind (t .links) q i w k e));
+            subst (λ (w : Contents). ReplyReady (t .counts) (t .keys) (t .values) (t .log) (stateOf t q) w i)
+            (reply-words (t .links) q i w k e) (came-ready (reply-kind (t .links) q i w k e));
       }

@@ -29,17 +29,22 @@ use Rattle.wire.specs.Sending.{Sent, sent, refused, isAbsent}
 -- what `frames` leaves of a message and its entries: it may refuse by 11 besides
 unfoldable pub wroteFrom : OnLink → List ℕ → Sent
 wroteFrom empty bytes = refused 9 bytes
-wroteFrom (carries m keys numbers) bytes = sent (writtenOf m keys numbers bytes) (bytesWritten m keys numbers bytes)
+wroteFrom (carries m keys badges numbers) bytes = sent (writtenOf m keys badges numbers bytes) (bytesWritten m keys badges numbers bytes)
 
 -- the writer of `frames` was lent these entries
-pub wrote : (m : Message) {keys numbers keys′ numbers′ : List ℕ} (bytes : List ℕ) {r : Written} {after : List ℕ} → keys′ ≡ keys → numbers′ ≡ numbers → (r ≡ writtenOf m keys′ numbers′ bytes) × (after ≡ bytesWritten m keys′ numbers′ bytes) → sent r after ≡ wroteFrom (carries m keys numbers) bytes
+pub wrote :
+    (m : Message) {keys badges numbers keys′ badges′ numbers′ : List ℕ} (bytes : List ℕ) {r : Written} {after : List ℕ}
+    → keys′ ≡ keys → badges′ ≡ badges → numbers′ ≡ numbers
+    → (r ≡ writtenOf m keys′ badges′ numbers′ bytes) × (after ≡ bytesWritten m keys′ badges′ numbers′ bytes)
+    → sent r after ≡ wroteFrom (carries m keys badges numbers) bytes
 unfolding wroteFrom
-wrote m bytes d f e = (λ i. sent (e .0 i) (e .1 i)) ∙ (λ i. sent (writtenOf m (d i) (f i) bytes) (bytesWritten m (d i) (f i) bytes))
+wrote m bytes d b f e =
+    (λ i. sent (e .0 i) (e .1 i)) ∙ (λ i. sent (writtenOf m (d i) (b i) (f i) bytes) (bytesWritten m (d i) (b i) (f i) bytes))
 
 -- ---- the message of a request
 
 module _ (state : ℕ) (w : Contents) (q i : ℕ) where
-  pub request-set : state ≡ writing → Set q i (w .key) (w .number) ≡ requestIn state w q i
+  pub request-set : state ≡ writing → Set q i (w .key) (w .badge) (w .number) ≡ requestIn state w q i
   unfolding requestIn
   request-set e = rw (eq-eqb state writing e)
 
@@ -69,7 +74,7 @@ module _ (state : ℕ) (w : Contents) (q i : ℕ) where
 
 -- ---- the entries that the code lends
 
--- a part of a server's versions
+-- the keys of a server's first versions
 pub versions-part : (words : List ℕ) (i n : ℕ) {at many : ℕ} → serverPlaces * i + n ≤ length words → at ≡ serverPlaces * i → many ≡ n → take many (drop at words) ≡ built (versionWord words i) n
 versions-part words i n h d e =
     let first = serverPlaces * i in
@@ -81,7 +86,7 @@ versions-part words i n h d e =
 
 -- the keys and their tags at a tag of the log
 abbrev keysAt : ℕ → ℕ → List ℕ → ℕ → OnLink
-keysAt q k log tag = carries (Keys q tag k) (built (latestWord log tag) k) (built (latestTagAt log tag) k)
+keysAt q k log tag = carries (Keys q tag k) (built (latestWord log tag) k) [] (built (latestTagAt log tag) k)
 
 -- the tag is the last of n entries
 pub last-keys : (n q k : ℕ) (log bytes : List ℕ) {tag : ℕ} {x : Sent} →
@@ -95,29 +100,39 @@ module _ (n q i : ℕ) (keys values log bytes : List ℕ) {x : Sent} where
   pub from-server : (i ≡ coordinator → ⊥) → x ≡ wroteFrom (allReply n q i keys values) bytes → x ≡ wroteFrom (everythingReply n q i keys values log) bytes
   from-server e d = rw (ne-eqb i coordinator e) d
 
-module _ (state n q i : ℕ) (t : Tables) (bytes : List ℕ) {x : Sent} where
-  pub reply-done : state ≡ writing → x ≡ wroteFrom (alone (SetDone q i)) bytes → x ≡ wroteFrom (replyIn state n q i t) bytes
+module _ (state : ℕ) (w : Contents) (q i : ℕ) (t : Tables) (bytes : List ℕ) {x : Sent} where
+  pub reply-done : state ≡ writing → x ≡ wroteFrom (alone (SetDone q i)) bytes → x ≡ wroteFrom (replyIn state w q i t) bytes
   unfolding replyIn
   reply-done e o = rw (eq-eqb state writing e) o
 
   module _ (d : state ≡ writing → ⊥) where
-    pub reply-entered : state ≡ entering → x ≡ wroteFrom (alone (Entered q n)) bytes → x ≡ wroteFrom (replyIn state n q i t) bytes
+    pub reply-entered :
+        state ≡ entering → x ≡ wroteFrom (alone (Entered q (w .number))) bytes → x ≡ wroteFrom (replyIn state w q i t) bytes
     unfolding replyIn
     reply-entered e o = rw (ne-eqb state writing d, eq-eqb state entering e) o
 
     module _ (f : state ≡ entering → ⊥) where
-      pub reply-keys : {k : ℕ} → k ≡ serversOf t → state ≡ askingKeys → x ≡ wroteFrom (keysReply n q k (t .log)) bytes → x ≡ wroteFrom (replyIn state n q i t) bytes
+      pub reply-keys :
+          {k : ℕ} → k ≡ serversOf t → state ≡ askingKeys → x ≡ wroteFrom (keysReply (w .number) q k (t .log)) bytes
+          → x ≡ wroteFrom (replyIn state w q i t) bytes
       unfolding replyIn
-      reply-keys s e o = rw (ne-eqb state writing d, ne-eqb state entering f, eq-eqb state askingKeys e) (o ∙ ap (λ (k : ℕ). wroteFrom (keysReply n q k (t .log)) bytes) s)
+      reply-keys s e o =
+          rw (ne-eqb state writing d, ne-eqb state entering f, eq-eqb state askingKeys e)
+          (o ∙ ap (λ (k : ℕ). wroteFrom (keysReply (w .number) q k (t .log)) bytes) s)
 
       module _ (g : state ≡ askingKeys → ⊥) where
-        pub reply-got : state ≡ askingSetpoints → x ≡ wroteFrom (alone (Got q i n)) bytes → x ≡ wroteFrom (replyIn state n q i t) bytes
+        pub reply-got :
+            state ≡ askingSetpoints → x ≡ wroteFrom (alone (Got q i (w .badge) (w .number))) bytes
+            → x ≡ wroteFrom (replyIn state w q i t) bytes
         unfolding replyIn
         reply-got e o = rw (ne-eqb state writing d, ne-eqb state entering f, ne-eqb state askingKeys g, eq-eqb state askingSetpoints e) o
 
-        pub reply-everything : (state ≡ askingSetpoints → ⊥) → x ≡ wroteFrom (everythingReply n q i (t .keys) (t .values) (t .log)) bytes → x ≡ wroteFrom (replyIn state n q i t) bytes
+        pub reply-everything :
+            (state ≡ askingSetpoints → ⊥) → x ≡ wroteFrom (everythingReply (w .number) q i (t .keys) (t .values) (t .log)) bytes
+            → x ≡ wroteFrom (replyIn state w q i t) bytes
         unfolding replyIn
-        reply-everything e o = rw (ne-eqb state writing d, ne-eqb state entering f, ne-eqb state askingKeys g, ne-eqb state askingSetpoints e) o
+        reply-everything e o =
+            rw (ne-eqb state writing d, ne-eqb state entering f, ne-eqb state askingKeys g, ne-eqb state askingSetpoints e) o
 
 -- ---- the link
 
@@ -133,9 +148,13 @@ module _ (q i : ℕ) (t : Tables) (bytes : List ℕ) {link : Link} (l : link ≡
   unfolding onLink
   link-request w e s d o = o ∙ ap (λ (m : Message). wroteFrom (alone m) bytes) (d ∙ ap (λ (state : ℕ). requestIn state w q i) s) ∙ ap (λ (c : Content). wroteFrom (onLinkBy c q i t) bytes) (sym (held e))
 
-  pub link-reply : (w : Contents) {state : ℕ} {x : Sent} → link .content ≡ Reply w → state ≡ stateOf t q → x ≡ wroteFrom (replyIn state (w .number) q i t) bytes → x ≡ wroteFrom (onLink q i t) bytes
+  pub link-reply :
+      (w : Contents) {state : ℕ} {x : Sent}
+      → link .content ≡ Reply w → state ≡ stateOf t q → x ≡ wroteFrom (replyIn state w q i t) bytes → x ≡ wroteFrom (onLink q i t) bytes
   unfolding onLink
-  link-reply w e s o = o ∙ ap (λ (state : ℕ). wroteFrom (replyIn state (w .number) q i t) bytes) s ∙ ap (λ (c : Content). wroteFrom (onLinkBy c q i t) bytes) (sym (held e))
+  link-reply w e s o =
+      o ∙ ap (λ (state : ℕ). wroteFrom (replyIn state w q i t) bytes) s
+      ∙ ap (λ (c : Content). wroteFrom (onLinkBy c q i t) bytes) (sym (held e))
 
 -- ---- who is there
 

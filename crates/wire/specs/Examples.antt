@@ -10,9 +10,9 @@ use Rattle.ranges.specs.Turns.{turns}
 use Rattle.keys.specs.Keys.{keyOf}
 use Rattle.fields.specs.Bits.{bitOf, withBit, setBit, putField}
 use Rattle.formats.specs.Grammar.{size, lay, frame}
-use Rattle.formats.specs.Table.{sortAt, bitsOf, entriesIn, hasNumbers}
+use Rattle.formats.specs.Table.{sortAt, bitsOf, entriesIn, hasBadges}
 use Rattle.formats.specs.Format.{leftAfter, placeAfter, nextOf, entries, fixed, format}
-use Rattle.tables.specs.Layout.{countWords, clientWidth, serverPlaces, logPlaces, entryWidth, recordPlaces, recordWidth}
+use Rattle.tables.specs.Layout.{countWords, clientWidth, serverPlaces, valueWidth, logPlaces, entryWidth, recordPlaces, recordWidth}
 use Rattle.tables.specs.Links.{targets, linkWidth, linkAt, putLink}
 use Rattle.tables.specs.Tables.{Tables, tablesOf}
 use Rattle.server.specs.Held.{appended}
@@ -35,7 +35,7 @@ use Rattle.wire.specs.Sending.{sent, sentFrom}
 unfoldable pub blank : Tables
 blank =
     tablesOf (replicate countWords 0) (replicate (clientWidth * 2) 0) (replicate (linkWidth * (targets * 2)) 0)
-    (replicate (serverPlaces * 2) 0) (replicate (serverPlaces * 2) 0) (replicate (entryWidth * logPlaces) 0)
+    (replicate (serverPlaces * 2) 0) (replicate (valueWidth * (serverPlaces * 2)) 0) (replicate (entryWidth * logPlaces) 0)
     (replicate (recordWidth * recordPlaces) 0) (replicate (recordWidth * recordPlaces) 0)
 
 unfoldable pub opened : ℕ → Tables
@@ -47,9 +47,9 @@ asked q i t = requestDelivered q i t .tables
 abbrev pub replied : ℕ → ℕ → Tables → Tables
 replied q i t = replyDelivered q i t .tables
 
--- document 01's sample, by B: `W 0 3 1800 45`, `> 0 0`, `R 1 3`, `> 1 16`
+-- document 01's sample, by B: `W 0 3 0 1800 45`, `> 0 0`, `R 1 3`, `> 1 16`
 unfoldable pub writeBegun : Tables
-writeBegun = begunWrite 0 3 (1800 ∷ 45 ∷ []) (opened 2)
+writeBegun = begunWrite 0 3 0 (1800 ∷ 45 ∷ []) (opened 2)
 
 unfoldable pub keysAnswered : Tables
 keysAnswered = asked 1 16 (begunRead 1 3 (asked 0 0 writeBegun))
@@ -65,12 +65,12 @@ writeEntered = asked 0 16 bothStored
 unfoldable pub keysArrived : Tables
 keysArrived = replied 1 16 writeEntered
 
--- C: client 1 reads, server 0 answers, client 0 writes to both
+-- C: client 1 reads, server 0 answers, client 0 writes to both, with badge 9
 unfoldable pub readBegun : Tables
 readBegun = begunRead 1 3 (opened 3)
 
 unfoldable pub writtenBehind : Tables
-writtenBehind = asked 0 1 (asked 0 0 (begunWrite 0 3 (1800 ∷ 45 ∷ []) (asked 1 0 readBegun)))
+writtenBehind = asked 0 1 (asked 0 0 (begunWrite 0 3 9 (1800 ∷ 45 ∷ []) (asked 1 0 readBegun)))
 
 -- then the WRITE is entered, and server 1 and the coordinator answer
 unfoldable pub allAnswered : Tables
@@ -78,31 +78,37 @@ allAnswered = asked 1 16 (asked 1 1 (asked 0 16 (replied 0 1 (replied 0 0 writte
 
 pub record Examples : Type 0 where
   pub idle-link : onLink 0 0 (opened 2) ≡ empty
-  pub set-sent : onLink 0 1 writeBegun ≡ alone (Set 0 1 (keyOf 1 0) 45)
+  pub set-sent : onLink 0 1 writeBegun ≡ alone (Set 0 1 (keyOf 1 0) 0 45)
   pub head-later : onLink 0 16 writeBegun ≡ empty
   pub set-done : onLink 0 0 keysAnswered ≡ alone (SetDone 0 0)
   pub keys-asked : onLink 1 16 (begunRead 1 3 (opened 2)) ≡ alone (WhichKeys 1)
-  pub keys-told : onLink 1 16 keysAnswered ≡ carries (Keys 1 0 2) (0 ∷ 0 ∷ []) (0 ∷ 0 ∷ [])
+  pub keys-told : onLink 1 16 keysAnswered ≡ carries (Keys 1 0 2) (0 ∷ 0 ∷ []) [] (0 ∷ 0 ∷ [])
   pub enter-sent : onLink 0 16 bothStored ≡ alone (Enter 0 (keyOf 1 0) 3)
   pub tag-told : onLink 0 16 writeEntered ≡ alone (Entered 0 1)
   -- the log has grown since: the reply is that of the moment of answering
-  pub keys-as-told : onLink 1 16 writeEntered ≡ carries (Keys 1 0 2) (0 ∷ 0 ∷ []) (0 ∷ 0 ∷ [])
+  pub keys-as-told : onLink 1 16 writeEntered ≡ carries (Keys 1 0 2) (0 ∷ 0 ∷ []) [] (0 ∷ 0 ∷ [])
   pub get-sent : onLink 1 0 keysArrived ≡ alone (Get 1 0 (keyOf 0 0))
-  pub got-back : onLink 1 0 (asked 1 0 keysArrived) ≡ alone (Got 1 0 1200)
+  pub got-back : onLink 1 0 (asked 1 0 keysArrived) ≡ alone (Got 1 0 0 1200)
   -- by C
   pub all-asked : onLink 1 0 readBegun ≡ alone (GetAll 1 0)
   pub log-asked : onLink 1 16 readBegun ≡ alone (GetLog 1)
   -- server 0 holds two versions now, and answered with the first
-  pub first-version : onLink 1 0 allAnswered ≡ carries (All 1 0 1) (0 ∷ []) (1200 ∷ [])
-  pub both-versions : onLink 1 1 allAnswered ≡ carries (All 1 1 2) (0 ∷ 256 ∷ []) (30 ∷ 45 ∷ [])
-  pub log-told : onLink 1 16 allAnswered ≡ carries (Log 1 2) (0 ∷ 256 ∷ []) (3 ∷ 3 ∷ [])
+  pub first-version : onLink 1 0 allAnswered ≡ carries (All 1 0 1) (0 ∷ []) (0 ∷ []) (1200 ∷ [])
+  pub both-versions : onLink 1 1 allAnswered ≡ carries (All 1 1 2) (0 ∷ 256 ∷ []) (0 ∷ 9 ∷ []) (30 ∷ 45 ∷ [])
+  pub log-told : onLink 1 16 allAnswered ≡ carries (Log 1 2) (0 ∷ 256 ∷ []) [] (3 ∷ 3 ∷ [])
   -- the frame, the bytes behind it, and too few bytes
-  pub frame-sent : sentFrom (onLink 0 0 writeBegun) (replicate 10 7) ≡ sent (Length 8) (0x10 ∷ 0x00 ∷ 0x08 ∷ 0x00 ∷ 0x00 ∷ 0x03 ∷ 0x84 ∷ 0x00 ∷ 7 ∷ 7 ∷ [])
-  pub frame-too-long : sentFrom (onLink 0 0 writeBegun) (replicate 7 7) ≡ sent (Refused 12) (replicate 7 7)
+  pub frame-sent :
+      sentFrom (onLink 0 0 writeBegun) (replicate 12 7)
+      ≡ sent (Length 10) (0x10 ∷ 0x00 ∷ 0x08 ∷ 0x00 ∷ 0x00 ∷ 0x00 ∷ 0x00 ∷ 0x03 ∷ 0x84 ∷ 0x00 ∷ 7 ∷ 7 ∷ [])
+  pub frame-too-long : sentFrom (onLink 0 0 writeBegun) (replicate 9 7) ≡ sent (Refused 12) (replicate 9 7)
   pub nothing-sent : sentFrom (onLink 0 16 writeBegun) (replicate 7 7) ≡ sent (Refused 9) (replicate 7 7)
 
 pub examples : Examples
-unfolding blank opened writeBegun keysAnswered bothStored writeEntered keysArrived readBegun writtenBehind allAnswered onLink requestIn replyIn sentFrom turns anyBelow firstFrom lastBelow linkAt putLink appended entered begunWrite begunRead onSet onEnter onWhichKeys onGet onGetAll onRequestIn requestDelivered onSetDone onEntered onKeys onGot onAll onReplyIn replyDelivered built bitOf withBit setBit putField size lay frame sortAt bitsOf entriesIn hasNumbers leftAfter placeAfter nextOf entries fixed format entryValue valuesOf frameOf fits
+unfolding blank opened writeBegun keysAnswered bothStored writeEntered keysArrived readBegun writtenBehind allAnswered onLink requestIn
+    replyIn sentFrom turns anyBelow firstFrom lastBelow linkAt putLink appended entered begunWrite begunRead onSet onEnter onWhichKeys
+    onGet onGetAll onRequestIn requestDelivered onSetDone onEntered onKeys onGot onAll onReplyIn replyDelivered built bitOf withBit
+    setBit putField size lay frame sortAt bitsOf entriesIn hasBadges leftAfter placeAfter nextOf entries fixed format entryValue
+    valuesOf frameOf fits
 examples =
     record {
       idle-link = refl;

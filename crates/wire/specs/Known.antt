@@ -4,7 +4,8 @@ use mathlib.Core.Path.{_≡_, sym, _∙_}
 use mathlib.Core.Bool.{true, _&&_}
 use native.Mathlib.Omega.{arith}
 use Rattle.ranges.specs.Tests.{both-left, both-right}
-use Rattle.keys.specs.Masks.{hasServer, maskWithin, Within, within-true}
+use Rattle.keys.specs.Masks.{hasServer, maskWithin, Within}
+use Rattle.keys.specs.MaskLaws.{within-true}
 use Rattle.tables.specs.Links.{targets}
 use Rattle.tables.specs.Tables.{Tables, serversOf, clientsOf, entriesOf, heldOf, stateOf, maskOf}
 use Rattle.rules.specs.Common.{writing, entering, askingKeys, askingSetpoints, askingAll, coordinator}
@@ -15,8 +16,9 @@ use Rattle.soundness.specs.Room as room
 use Rattle.refusals.specs.Refusals.{isTarget}
 use Rattle.keeping.specs.Accepted.{by-target}
 use Rattle.keeping.specs.Accepted as accepted
-use Rattle.keeping.specs.Links.{kindOn, numberOn, LinkAsks, link-asks}
-use Rattle.keeping.specs.States.{uses-writing, uses-setpoints, keys-target, masked-server, holding-log, holding-server, own-key, request-writing, request-entering, request-setpoints, keys-told, all-told}
+use Rattle.keeping.specs.Links.{kindOn, numberOn, badgeOn, LinkAsks, link-asks}
+use Rattle.keeping.specs.States.{uses-writing, uses-setpoints, keys-target, masked-server, holding-log, holding-server, own-key}
+use Rattle.keeping.specs.States.{request-writing, request-entering, request-setpoints, keys-told, all-told, badge-carried}
 use Rattle.keeping.specs.States as states
 
 -- the client and the target are there
@@ -78,6 +80,9 @@ module _ (t : Tables) (s : Sound t) (q i : ℕ) (a : Present q i t) where
     pub set-key : stateOf t q ≡ writing → OwnKey q (keyOn t q i)
     set-key e = own (sym (request-writing t q (keyOn t q i) (numberOn t q i)) ∙ asked-in writing e)
 
+    pub set-badge : stateOf t q ≡ writing → badgeOn t q i < 65536
+    set-badge e = badge-carried writing (stateOf t q) (badgeOn t q i) e (asks .set-badge asked)
+
     enter-both : stateOf t q ≡ entering → (ownKey q (keyOn t q i) && maskWithin (numberOn t q i) (serversOf t)) ≡ true
     enter-both e = sym (request-entering t q (keyOn t q i) (numberOn t q i)) ∙ asked-in entering e
 
@@ -100,6 +105,9 @@ module _ (t : Tables) (s : Sound t) (q i : ℕ) (a : Present q i t) where
 
     pub keys-held : stateOf t q ≡ askingKeys → Between 1 (numberOn t q i) (entriesOf t)
     keys-held e = rw (holding-log t i (keys-asked (λ z. omega arith) e)) at (keys-told t i (numberOn t q i) (came-in askingKeys e))
+
+    pub got-badge : stateOf t q ≡ askingSetpoints → badgeOn t q i < 65536
+    got-badge e = badge-carried askingSetpoints (stateOf t q) (badgeOn t q i) e (asks .got-badge came)
 
     module _ (e : stateOf t q ≡ askingAll) where
       pub log-held : i ≡ coordinator → Between 1 (numberOn t q i) (entriesOf t)

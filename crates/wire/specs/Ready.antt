@@ -4,11 +4,11 @@ use mathlib.Core.Path.{_≡_, sym, ap, subst, _∙_}
 use mathlib.Core.List.{List}
 use lib.ListN.{length}
 use Rattle.tables.specs.Rows.{HasRow}
-use Rattle.tables.specs.Layout.{countAt, countWords, serversField, clientWidth, entryWidth, serverPlaces}
+use Rattle.tables.specs.Layout.{countAt, countWords, serversField, clientWidth, entryWidth, serverPlaces, valueWidth, valueRow}
 use Rattle.tables.specs.Links.{linkWidth, linkRow, linkAt}
 use Rattle.tables.specs.Tables.{Tables, stateOf, contentAt}
 use Rattle.tables.specs.declared.links.Contents.{Contents}
-use Rattle.tables.specs.declared.links.Content.the-variants.{Reply}
+use Rattle.tables.specs.declared.links.Content.the-variants.{Request, Reply}
 use Rattle.tables.specs.declared.links.Link.{Link}
 use Rattle.rules.specs.Common.{writing, entering, askingKeys, askingSetpoints, coordinator}
 
@@ -23,7 +23,7 @@ pub record AllReady (keys values : List ℕ) (i n : ℕ) : Type 0 where
   pub server : i < 16
   pub few : n ≤ 256
   pub keyed : serverPlaces * i + n ≤ length keys
-  pub valued : serverPlaces * i + n ≤ length values
+  pub valued : valueWidth * valueRow i n ≤ length values
 
 pub record EverythingReady (keys values log : List ℕ) (n i : ℕ) : Type 0 where
   pub head : i ≡ coordinator → LogReady log n
@@ -36,13 +36,18 @@ pub record Later (state : ℕ) : Type 0 where
   pub not-keys : state ≡ askingKeys → ⊥
   pub not-setpoints : state ≡ askingSetpoints → ⊥
 
--- a reply with number n, by the state that gets it back
-pub record ReplyReady (counts keys values log : List ℕ) (state n i : ℕ) : Type 0 where
+-- a request, by the state that sent it: a set request's badge has 16 bits
+pub record RequestReady (state : ℕ) (w : Contents) : Type 0 where
+  pub set : state ≡ writing → w .badge < 65536
+
+-- a reply, by the state that gets it back: a got reply's badge has 16 bits
+pub record ReplyReady (counts keys values log : List ℕ) (state : ℕ) (w : Contents) (i : ℕ) : Type 0 where
   pub counted : countWords ≤ length counts
   pub servers : countAt counts serversField ≤ 16
-  pub entered : state ≡ entering → n < 256
-  pub keyed : state ≡ askingKeys → LogReady log n
-  pub everything : Later state → EverythingReady keys values log n i
+  pub entered : state ≡ entering → w .number < 256
+  pub keyed : state ≡ askingKeys → LogReady log (w .number)
+  pub got : state ≡ askingSetpoints → w .badge < 65536
+  pub everything : Later state → EverythingReady keys values log (w .number) i
 
 -- a link
 pub record LinkReady (q i : ℕ) (t : Tables) : Type 0 where
@@ -50,9 +55,16 @@ pub record LinkReady (q i : ℕ) (t : Tables) : Type 0 where
   pub target : i < 17
   pub row : HasRow clientWidth (t .clients) q
   pub linked : HasRow linkWidth (t .links) (linkRow q i)
-  pub reply : (w : Contents) → contentAt t q i ≡ Reply w → ReplyReady (t .counts) (t .keys) (t .values) (t .log) (stateOf t q) (w .number) i
+  pub request : (w : Contents) → contentAt t q i ≡ Request w → RequestReady (stateOf t q) w
+  pub reply : (w : Contents) → contentAt t q i ≡ Reply w → ReplyReady (t .counts) (t .keys) (t .values) (t .log) (stateOf t q) w i
 
--- what the reply asks, by what was read of the client's row and the link
-pub reply-ready : (q i : ℕ) (t : Tables) → LinkReady q i t → {state : ℕ} {link : Link} (w : Contents) → state ≡ stateOf t q → link ≡ linkAt (t .links) q i → link .content ≡ Reply w → ReplyReady (t .counts) (t .keys) (t .values) (t .log) state (w .number) i
-reply-ready q i t r w s l e =
-    subst (λ (state : ℕ). ReplyReady (t .counts) (t .keys) (t .values) (t .log) state (w .number) i) (sym s) (r .reply w (ap (λ (k : Link). k .content) (sym l) ∙ e))
+-- what the request or the reply asks, by what was read of the client's row and the link
+module _ (q i : ℕ) (t : Tables) (r : LinkReady q i t) {state : ℕ} {link : Link} (w : Contents) (s : state ≡ stateOf t q)
+    (l : link ≡ linkAt (t .links) q i) where
+  pub request-ready : link .content ≡ Request w → RequestReady state w
+  request-ready e = subst (λ (n : ℕ). RequestReady n w) (sym s) (r .request w (ap (λ (k : Link). k .content) (sym l) ∙ e))
+
+  pub reply-ready : link .content ≡ Reply w → ReplyReady (t .counts) (t .keys) (t .values) (t .log) state w i
+  reply-ready e =
+      subst (λ (n : ℕ). ReplyReady (t .counts) (t .keys) (t .values) (t .log) n w i) (sym s)
+      (r .reply w (ap (λ (k : Link). k .content) (sym l) ∙ e))

@@ -28,9 +28,10 @@ refused n bytes = sent (Refused n) bytes
 -- 9 "link has no such request or reply", 12 "lent space too small for the frame"; else the frame, with the bytes behind it as before
 unfoldable pub sentFrom : OnLink → List ℕ → Sent
 sentFrom empty bytes = refused 9 bytes
-sentFrom (carries m keys numbers) bytes =
-    cond (fits m keys numbers bytes)
-    (sent (Length (length (frameOf m keys numbers))) (frameOf m keys numbers ++ drop (length (frameOf m keys numbers)) bytes))
+sentFrom (carries m keys badges numbers) bytes =
+    cond (fits m keys badges numbers bytes)
+    (sent (Length (length (frameOf m keys badges numbers)))
+    (frameOf m keys badges numbers ++ drop (length (frameOf m keys badges numbers)) bytes))
     (refused 12 bytes)
 
 -- 3 "no such panel or target"

@@ -5,13 +5,13 @@ ghost use mathlib.Core.List.{List};
 ghost use Prim.Native.Nat.{ℕ, _-_, _*_, _≤_};
 ghost use lib.ListN.{length};
 ghost use Rattle.tables.specs.Rows.{wordAt};
-ghost use Rattle.tables.specs.Layout.{countWords, entryWidth, entryMask};
+ghost use Rattle.tables.specs.Layout.{countWords, entryWidth, entryMask, valueWidth, valueRow, versionBadge, versionSetpoint};
 ghost use Rattle.tables.specs.Tables.{tablesOf};
 ghost use Rattle.soundness.specs.Facts.{Sound};
 ghost use Rattle.ranges.specs.Laid.{laid};
 ghost use Rattle.wire.specs.OnLink.{alone, requestIn, keysReply, allReply, logReply, everythingReply, replyIn, onLink};
 ghost use Rattle.wire.specs.Sending.{sent, isAbsent, linkFrame};
-ghost use Rattle.wire.specs.Ready.{LogReady, AllReady, EverythingReady, ReplyReady, LinkReady};
+ghost use Rattle.wire.specs.Ready.{LogReady, AllReady, EverythingReady, RequestReady, ReplyReady, LinkReady};
 ghost use Rattle.wire.specs.Cases.{wroteFrom};
 use frames::Message;
 use frames::Written;
@@ -29,11 +29,12 @@ fn write_alone(message: Message, bytes: &mut [u8]) -> Written
     ensures { λ r. ⌜ sent r (now (bytes .exit)) ≡ wroteFrom (alone message) (now (bytes .entry)) ⌝ }
 {
     let none = [0u32; 0];
-    frames::write_frame(message, &none, &none, bytes)
+    frames::write_frame(message, &none, &none, &none, bytes)
 }
 
 // The message of a request, by the state that sent it.
 fn request_message(state: u32, contents: Contents, client: u8, target: u8) -> Message
+    requires { ⌜ RequestReady state contents ⌝ }
     ensures { λ r. ⌜ r ≡ requestIn state contents client target ⌝ }
 {
     let key = contents.key;
@@ -43,6 +44,7 @@ fn request_message(state: u32, contents: Contents, client: u8, target: u8) -> Me
             client: client,
             server: target,
             key: key,
+            badge: contents.badge as u16,
             setpoint: number,
         };
     }
@@ -85,6 +87,27 @@ fn log_entries(log: &[u32], entries: usize, words: &mut [u32], masks: &mut [u32]
     }
 }
 
+// The first versions of a server: their badges, and their setpoints.
+fn version_entries(
+    values: &[u32],
+    server: usize,
+    entries: usize,
+    badges: &mut [u32],
+    setpoints: &mut [u32],
+)
+    requires { ⌜ (valueWidth * valueRow server entries ≤ length (now values)) × (entries ≤ length (now badges))
+        × (entries ≤ length (now setpoints)) ⌝ }
+    ensures { λ _. ⌜ (now (badges .exit) ≡ laid (versionBadge (now (values .entry)) server) entries (now (badges .entry)))
+        × (now (setpoints .exit) ≡ laid (versionSetpoint (now (values .entry)) server) entries (now (setpoints .entry))) ⌝ }
+{
+    let mut place: usize = 0;
+    while place < entries {
+        badges[place] = versions::version_badge(values, server, place);
+        setpoints[place] = versions::version_setpoint(values, server, place);
+        place += 1;
+    }
+}
+
 // The last tag of a log with so many entries.
 fn last_tag(entries: u32) -> u8
     requires { ⌜ (1 ≤ entries) × (entries ≤ 256) ⌝ }
@@ -99,6 +122,7 @@ fn write_keys(log: &[u32], servers: u32, number: u32, client: u8, bytes: &mut [u
     requires { ⌜ LogReady (now log) number × (servers ≤ 16) ⌝ }
     ensures { λ r. ⌜ sent r (now (bytes .exit)) ≡ wroteFrom (keysReply number client servers (now (log .entry))) (now (bytes .entry)) ⌝ }
 {
+    let none = [0u32; 0];
     let mut keys = [0u32; 16];
     let mut tags = [0u32; 16];
     let tag = last_tag(number);
@@ -109,7 +133,7 @@ fn write_keys(log: &[u32], servers: u32, number: u32, client: u8, bytes: &mut [u
         tag: tag,
         entries: servers,
     };
-    frames::write_frame(message, &keys[..count], &tags[..count], bytes)
+    frames::write_frame(message, &keys[..count], &none, &tags[..count], bytes)
 }
 
 // The head's reply under C: the first entries of the log.
@@ -117,6 +141,7 @@ fn write_log(log: &[u32], number: u32, client: u8, bytes: &mut [u8]) -> Written
     requires { ⌜ LogReady (now log) number ⌝ }
     ensures { λ r. ⌜ sent r (now (bytes .exit)) ≡ wroteFrom (logReply number client (now (log .entry))) (now (bytes .entry)) ⌝ }
 {
+    let none = [0u32; 0];
     let mut words = [0u32; 256];
     let mut masks = [0u32; 256];
     let count = number as usize;
@@ -125,7 +150,7 @@ fn write_log(log: &[u32], number: u32, client: u8, bytes: &mut [u8]) -> Written
         client: client,
         entries: number,
     };
-    frames::write_frame(message, &words[..count], &masks[..count], bytes)
+    frames::write_frame(message, &words[..count], &none, &masks[..count], bytes)
 }
 
 // A server's reply under C: its first versions.
@@ -140,14 +165,25 @@ fn write_all(
     requires { ⌜ AllReady (now keys) (now values) target number ⌝ }
     ensures { λ r. ⌜ sent r (now (bytes .exit)) ≡ wroteFrom (allReply number client target (now (keys .entry)) (now (values .entry))) (now (bytes .entry)) ⌝ }
 {
-    let first = versions::first_place(target as usize);
-    let end = first + number as usize;
+    let mut badges = [0u32; 256];
+    let mut setpoints = [0u32; 256];
+    let server = target as usize;
+    let count = number as usize;
+    version_entries(values, server, count, &mut badges, &mut setpoints);
+    let first = versions::first_place(server);
+    let end = first + count;
     let message = Message::All {
         client: client,
         server: target,
         entries: number,
     };
-    frames::write_frame(message, &keys[first..end], &values[first..end], bytes)
+    frames::write_frame(
+        message,
+        &keys[first..end],
+        &badges[..count],
+        &setpoints[..count],
+        bytes,
+    )
 }
 
 // A reply under C: the head's or a server's.
@@ -176,14 +212,18 @@ fn write_reply(
     values: &[u32],
     log: &[u32],
     state: u32,
-    number: u32,
+    contents: Contents,
     client: u8,
     target: u8,
     bytes: &mut [u8],
 ) -> Written
-    requires { ⌜ ReplyReady (now counts) (now keys) (now values) (now log) state number target ⌝ }
-    ensures { λ r. ⌜ ((clients links writes reads : List ℕ) → sent r (now (bytes .exit)) ≡ wroteFrom (replyIn state number client target (tablesOf (now (counts .entry)) clients links (now (keys .entry)) (now (values .entry)) (now (log .entry)) writes reads)) (now (bytes .entry))) ⌝ }
+    requires { ⌜ ReplyReady (now counts) (now keys) (now values) (now log) state contents target ⌝ }
+    ensures { λ r. ⌜ ((clients links writes reads : List ℕ) → sent r (now (bytes .exit))
+        ≡ wroteFrom (replyIn state contents client target
+        (tablesOf (now (counts .entry)) clients links (now (keys .entry)) (now (values .entry)) (now (log .entry)) writes reads))
+        (now (bytes .entry))) ⌝ }
 {
+    let number = contents.number;
     if state == states::WRITING {
         let done = Message::SetDone {
             client: client,
@@ -206,6 +246,7 @@ fn write_reply(
         let got = Message::Got {
             client: client,
             server: target,
+            badge: contents.badge as u16,
             setpoint: number,
         };
         return write_alone(got, bytes);
@@ -239,10 +280,17 @@ fn write_link(
             request_message(state, contents, from, to),
             bytes,
         ),
-        Content::Reply(contents) => {
-            let number = contents.number;
-            write_reply(counts, keys, values, log, state, number, from, to, bytes)
-        }
+        Content::Reply(contents) => write_reply(
+            counts,
+            keys,
+            values,
+            log,
+            state,
+            contents,
+            from,
+            to,
+            bytes,
+        ),
     }
 }
 

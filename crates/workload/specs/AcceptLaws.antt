@@ -25,7 +25,7 @@ use Rattle.rules.specs.Request.{onSet, onEnter, onWhichKeys, onGet, onGetAll, o
 use Rattle.rules.specs.Reply.{emptied, onSetDone, onEntered, onKeys, onGot, onAll, onReplyIn, onReply, replyDelivered}
 use Rattle.soundness.specs.Facts.{Sound, facts-sound}
 use Rattle.refusals.specs.Refusals.{writeFault, writeRefusal, readFault, readRefusal, deliveryFault, deliveryRefusal}
-use Rattle.refusals.specs.Steps.{unless, unlessArrived, beginWrite, beginRead, deliverRequest, deliverReply}
+use Rattle.refusals.specs.Steps.{unless, unlessArrived, badgeOf, beginWrite, beginRead, deliverRequest, deliverReply}
 use Rattle.schedule.specs.declared.Step.the-variants as step
 use Rattle.playing.specs.Played.{answerWord, arrivalWord, played}
 use Rattle.workload.specs.Load.{writeOfAll, readOfAll, loadStep, numbered, isAccepted, acceptable}
@@ -105,12 +105,12 @@ module _ (q i : ℕ) (t : Tables) (b : Bool) where
 
 -- a public step is accepted where nothing refuses it
 module _ (t : Tables) (s : Sound t) where
-  pub write-judged : (q mask : ℕ) (setpoints : List ℕ) →
-      eqb (writeFault q mask (length setpoints) t) 0 ≡ isFine (beginWrite q mask setpoints t)
+  pub write-judged : (q mask badge : ℕ) (setpoints : List ℕ) →
+      eqb (writeFault q mask (length setpoints) t) 0 ≡ isFine (beginWrite q mask badge setpoints t)
   unfolding beginWrite writeRefusal
-  write-judged q mask setpoints =
+  write-judged q mask badge setpoints =
       let m = writeFault q mask (length setpoints) t in
-      rw (facts-sound t s) (sym (and-true (eqb m 0)) ∙ judged m (left Ok (begunWrite q mask setpoints t)) t)
+      rw (facts-sound t s) (sym (and-true (eqb m 0)) ∙ judged m (left Ok (begunWrite q mask (badgeOf badge) setpoints t)) t)
 
   pub read-judged : (q mask : ℕ) → eqb (readFault q mask t) 0 ≡ isFine (beginRead q mask t)
   unfolding beginRead readRefusal
@@ -127,11 +127,11 @@ module _ (t : Tables) (s : Sound t) where
   reply-judged q i = rw (facts-sound t s) (judged-arrival (deliveryFault q i t) (replyDelivered q i t) t)
 
   -- and so is a step of the load
-  pub write-told : (q v : ℕ) → acceptsWrite t q ≡ acceptable t (loadStep (step.BeginWrite q (allServers (serversOf t))) v)
+  pub write-told : (q v : ℕ) → acceptsWrite t q ≡ acceptable t (loadStep (step.BeginWrite q (allServers (serversOf t)) 0) v)
   unfolding played
   write-told q v =
       let k = serversOf t in
-      ap (λ (n : ℕ). eqb (writeFault q (allServers k) n t) 0) (sym (length-replicate k v)) ∙ write-judged q (allServers k) (replicate k v)
+      ap (λ (n : ℕ). eqb (writeFault q (allServers k) n t) 0) (sym (length-replicate k v)) ∙ write-judged q (allServers k) 0 (replicate k v)
 
   pub read-told : (q v : ℕ) → acceptsRead t q ≡ acceptable t (loadStep (step.BeginRead q (allServers (serversOf t))) v)
   unfolding played

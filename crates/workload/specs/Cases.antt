@@ -105,7 +105,7 @@ module _ (t : Tables) (n : ℕ) {p : ℕ} (d : p ≡ clientsOf t) where
   at-write h e = e ∙ rw (lt-ltb n (clientsOf t) (rw d at h))
 
   pub step-write : {count servers all : ℕ} → n < p → count ≡ countOf t n → servers ≡ serversOf t → all ≡ allServers servers →
-      loadStep (step.BeginWrite n all) (count + 1) ≡ numbered t n
+      loadStep (step.BeginWrite n all 0) (count + 1) ≡ numbered t n
   unfolding numbered
   step-write h c s a = rw (← d, lt-ltb n p h, a, s, c)
 

@@ -14,7 +14,7 @@ use Rattle.workload.specs.AcceptLaws.{isFine, isFineArrival}
 
 -- nothing is accepted: no begin of any mask, and no delivery whatever
 pub record Nothing (t : Tables) : Type 0 where
-  pub writes : (q mask : ℕ) (setpoints : List ℕ) → isFine (beginWrite q mask setpoints t) ≡ false
+  pub writes : (q mask badge : ℕ) (setpoints : List ℕ) → isFine (beginWrite q mask badge setpoints t) ≡ false
   pub reads : (q mask : ℕ) → isFine (beginRead q mask t) ≡ false
   pub requests : (q i : ℕ) → isFine (deliverRequest q i t) ≡ false
   pub replies : (q i : ℕ) → isFineArrival (deliverReply q i t) ≡ false

@@ -8,7 +8,8 @@ use lib.Dec.{eqb, leb, ltb}
 use lib.ListN.{length, getD, replicate}
 use borrow.Author.Tests.{lt-ltb, le-ltb, le-leb, ltb-true, ltb-false, eqb-true, eqb-false, eq-eqb, ne-eqb}
 use Rattle.ranges.specs.Tests.{by-test, by-equal, both, not-both}
-use Rattle.keys.specs.Masks.{maskWithin, within-test}
+use Rattle.keys.specs.Masks.{maskWithin}
+use Rattle.keys.specs.MaskLaws.{within-test}
 use Rattle.tables.specs.Layout.{recordPlaces}
 use Rattle.tables.specs.Links.{targets}
 use Rattle.tables.specs.Tables.{Tables, methodOf, serversOf, clientsOf, writesOf, readsOf, stateOf, countOf}
@@ -127,10 +128,10 @@ module _ (t : Tables) (s : Sound t) (none : (n : ℕ) → n < numberedCount (cli
       let p = clientsOf t in
       by-test (ltb q p) (λ e. there (ltb-true q p e)) (λ e. absent (le-leb p q (ltb-false q p e)))
 
-  no-write : (q mask : ℕ) (setpoints : List ℕ) → isFine (beginWrite q mask setpoints t) ≡ false
-  no-write q mask setpoints =
+  no-write : (q mask badge : ℕ) (setpoints : List ℕ) → isFine (beginWrite q mask badge setpoints t) ≡ false
+  no-write q mask badge setpoints =
       let k = serversOf t in
-      sym (write-judged t s q mask setpoints) ∙
+      sym (write-judged t s q mask badge setpoints) ∙
       by-client q
       (λ h.
       let e : acceptable t (writeOfAll t q) ≡ false = rw (number-write t q h) at (none q (omega arith)) in

@@ -3,7 +3,7 @@ use Prim.Native.Nat.{ℕ, zero, suc, _*_}
 use mathlib.Core.Path.{_≡_, refl}
 use mathlib.Core.List.{List, [], _∷_}
 use lib.ListN.{replicate}
-use Rattle.tables.specs.Layout.{countWords, clientWidth, serverPlaces, logPlaces, entryWidth, recordPlaces, recordWidth}
+use Rattle.tables.specs.Layout.{countWords, clientWidth, serverPlaces, valueWidth, logPlaces, entryWidth, recordPlaces, recordWidth}
 use Rattle.tables.specs.Links.{linkWidth, targets}
 use Rattle.tables.specs.Tables.{Tables, tablesOf}
 use Rattle.ranges.specs.All.{allBelow, anyBelow}
@@ -34,7 +34,7 @@ use Rattle.workload.specs.declared.Next.the-variants as next
 unfoldable pub blank : Tables
 blank =
     tablesOf (replicate countWords 0) (replicate (clientWidth * 2) 0) (replicate (linkWidth * (targets * 2)) 0)
-    (replicate (serverPlaces * 2) 0) (replicate (serverPlaces * 2) 0) (replicate (entryWidth * logPlaces) 0)
+    (replicate (serverPlaces * 2) 0) (replicate (valueWidth * (serverPlaces * 2)) 0) (replicate (entryWidth * logPlaces) 0)
     (replicate (recordWidth * recordPlaces) 0) (replicate (recordWidth * recordPlaces) 0)
 
 unfoldable pub opened : Tables
@@ -58,9 +58,9 @@ pub record Examples : Type 0 where
   -- the highest number picks the last of 272, the lowest the first
   pub last : indexBy 4294967295 272 ≡ 271
   pub least : indexBy 65535 272 ≡ 0
-  -- `W 0 3 1 1`, `R 1 3`, `> 1 16`, `< 1 16`, `> 0 1`, `> 1 1`, `> 1 0`, `< 1 0`, `< 0 1`, `< 1 1`, `> 0 0`, `< 0 0`
+  -- `W 0 3 0 1 1`, `R 1 3`, `> 1 16`, `< 1 16`, `> 0 1`, `> 1 1`, `> 1 0`, `< 1 0`, `< 0 1`, `< 1 1`, `> 0 0`, `< 0 0`
   pub steps : stepsFrom 12 0 opened ≡
-      loadStep (BeginWrite 0 3) 1 ∷ loadStep (BeginRead 1 3) 0 ∷ loadStep (Request 1 16) 0 ∷ loadStep (Reply 1 16) 0 ∷
+      loadStep (BeginWrite 0 3 0) 1 ∷ loadStep (BeginRead 1 3) 0 ∷ loadStep (Request 1 16) 0 ∷ loadStep (Reply 1 16) 0 ∷
       loadStep (Request 0 1) 0 ∷ loadStep (Request 1 1) 0 ∷ loadStep (Request 1 0) 0 ∷ loadStep (Reply 1 0) 0 ∷
       loadStep (Reply 0 1) 0 ∷ loadStep (Reply 1 1) 0 ∷ loadStep (Request 0 0) 0 ∷ loadStep (Reply 0 0) 0 ∷ []
 

@@ -30,9 +30,9 @@ indexBy number count = number / 65536 * count / 65536
 abbrev pub loadStep : Step → ℕ → LoadStep
 loadStep step setpoint = record { step = step; setpoint = setpoint }
 
--- "A WRITE's setpoints are all its count": the next count of its client
+-- "A WRITE's setpoints are all its count": the next count of its client; E4: "the load gives 0", its badge
 abbrev pub writeOfAll : Tables → ℕ → LoadStep
-writeOfAll t q = loadStep (BeginWrite q (allServers (serversOf t))) (countOf t q + 1)
+writeOfAll t q = loadStep (BeginWrite q (allServers (serversOf t)) 0) (countOf t q + 1)
 
 abbrev pub readOfAll : Tables → ℕ → LoadStep
 readOfAll t q = loadStep (BeginRead q (allServers (serversOf t))) 0

@@ -235,7 +235,7 @@ fn numbered(counts: &[u32], clients: &[u32], number: u32) -> LoadStep
     if number < panels {
         let count = clients::client_word(clients, number as usize, clients::COUNT);
         return LoadStep {
-            step: Step::BeginWrite(number, all),
+            step: Step::BeginWrite(number, all, 0),
             setpoint: count + 1,
         };
     }

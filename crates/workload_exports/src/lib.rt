@@ -69,7 +69,7 @@ fn given_pick(seed: u32, given: LoadStep) -> LoadPick
     match step {
         Step::Unreadable => pick(seed, 0, 0, 0, 0),
         Step::Open(_, _, _) => pick(seed, 0, 0, 0, 0),
-        Step::BeginWrite(client, mask) => pick(seed, 0, client, mask, given.setpoint),
+        Step::BeginWrite(client, mask, _) => pick(seed, 0, client, mask, given.setpoint),
         Step::BeginRead(client, mask) => pick(seed, 1, client, mask, 0),
         Step::Request(client, target) => pick(seed, 2, client, target, 0),
         Step::Reply(client, target) => pick(seed, 3, client, target, 0),

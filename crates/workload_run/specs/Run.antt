@@ -18,14 +18,14 @@ use Rattle.workload_run.specs.declared.Progress.{Progress}
 use Rattle.workload_run.specs.declared.Load.{Load}
 use Rattle.workload_run.specs.declared.Load.the-variants.{Played, Refused}
 
--- a step as a row of the list: its kind, its client, its mask or target, its setpoint
+-- a step as a row of the list: its kind, its client, its mask or target, its setpoint; a WRITE's badge is 0 and stands in no word
 abbrev pub stepWidth : ℕ
 stepWidth = 4
 
 abbrev pub stepWords : Step → ℕ → List ℕ
 stepWords Unreadable setpoint = 0 ∷ 0 ∷ 0 ∷ 0 ∷ []
 stepWords (Open method servers clients) setpoint = 0 ∷ 0 ∷ 0 ∷ 0 ∷ []
-stepWords (BeginWrite client mask) setpoint = 0 ∷ client ∷ mask ∷ setpoint ∷ []
+stepWords (BeginWrite client mask badge) setpoint = 0 ∷ client ∷ mask ∷ setpoint ∷ []
 stepWords (BeginRead client mask) setpoint = 1 ∷ client ∷ mask ∷ 0 ∷ []
 stepWords (Request client target) setpoint = 2 ∷ client ∷ target ∷ 0 ∷ []
 stepWords (Reply client target) setpoint = 3 ∷ client ∷ target ∷ 0 ∷ []

@@ -53,7 +53,7 @@ fn put_step(list: &mut [u32], at: usize, picked: LoadStep)
     match step {
         Step::Unreadable => put_words(list, at, 0, 0, 0, 0),
         Step::Open(_, _, _) => put_words(list, at, 0, 0, 0, 0),
-        Step::BeginWrite(client, mask) => put_words(list, at, 0, client, mask, picked.setpoint),
+        Step::BeginWrite(client, mask, _) => put_words(list, at, 0, client, mask, picked.setpoint),
         Step::BeginRead(client, mask) => put_words(list, at, 1, client, mask, 0),
         Step::Request(client, target) => put_words(list, at, 2, client, target, 0),
         Step::Reply(client, target) => put_words(list, at, 3, client, target, 0),

@@ -16,7 +16,10 @@ returns c =
     let at-client-word = at-count-at .before .before in
     let start = at-client-word .before .before .before .before .before .before .before in
     let a = start .args in
-    λ keys values log reads. write-begun (a .client) (a .mask) (a .setpoints .now) (tablesOf (a .counts .now) (a .clients .now) (a .links .now) keys values log (a .writes .now) reads) (start .pre .given) (at-client-word .client-word .ensures) (at-count-at .count-at .ensures) (at-start-write .start-write .ensures) (at-new .new .ensures) (at-send-sets .send-sets .ensures) (at-begin .begin .ensures .0) (at-begin .begin .ensures .1)
+    λ keys values log reads. write-begun (a .client) (a .mask) (a .badge) (a .setpoints .now)
+    (tablesOf (a .counts .now) (a .clients .now) (a .links .now) keys values log (a .writes .now) reads)
+    (start .pre .given) (at-client-word .client-word .ensures) (at-count-at .count-at .ensures) (at-start-write .start-write .ensures)
+    (at-new .new .ensures) (at-send-sets .send-sets .ensures) (at-begin .begin .ensures .0) (at-begin .begin .ensures .1)
 
 pub begin-write-spec : {M : Type 1} → statement M
 begin-write-spec =

@@ -5,7 +5,11 @@ use Rattle.begins.proofs.send_masked.Statement.{statement}
 use Rattle.begins.proofs.send_masked.Tie as tie
 
 returns : tie.Need-returns
-returns c = rw (sym (c .before .before .before .before .before .has-server .ensures) ∙ c .before .before .before .before .if1 .taken) (c .before .before .send .ensures)
+returns c =
+    let at-send-badged = c .before .before in
+    let at-if1 = at-send-badged .before .before in
+    let at-has-server = at-if1 .before in
+    rw (sym (at-has-server .has-server .ensures) ∙ at-if1 .if1 .taken) (at-send-badged .send-badged .ensures)
 
 returns-2 : tie.Need-returns-2
 returns-2 c = rw (sym (c .before .has-server .ensures) ∙ c .if1 .left)

@@ -12,19 +12,33 @@ use Rattle.begins.proofs.send_sets.Statement.{statement}
 use Rattle.begins.proofs.send_sets.Tie as tie
 
 abbrev Inv-loop : tie.InvT-loop
-Inv-loop links₀ client mask key setpoints server₀ links server = (server ≤ length setpoints) × ((length links ≡ length links₀) × (links ≡ sentSets client mask key setpoints server links₀))
+Inv-loop links₀ client mask key badge setpoints server₀ links server =
+    (server ≤ length setpoints) × ((length links ≡ length links₀) × (links ≡ sentSets client mask key badge setpoints server links₀))
 
 abbrev μ-loop : tie.MeasureT-loop
-μ-loop links₀ client mask key setpoints server₀ links server = length setpoints - server
+μ-loop links₀ client mask key badge setpoints server₀ links server = length setpoints - server
 
 loop-holds : tie.Need-loop-holds Inv-loop μ-loop
-loop-holds c = let a = c .before .before .args in (search needs, (search needs, turns-none (picked (hasServer (a .mask)) (sendSet (a .client) (a .key) (a .setpoints .now))) _))
+loop-holds c =
+    let a = c .before .before .args in
+    let set = picked (hasServer (a .mask)) (sendSet (a .client) (a .key) (a .badge) (a .setpoints .now)) in
+    (search needs, (search needs, turns-none set _))
 
 loop-again : tie.Need-loop-again Inv-loop μ-loop
-loop-again c = let a = c .before .before .before .before .before .before .before .before .before .args in let v = c .before .before .before .before .before .before .loop .inv in (search needs, (search needs, turns-more (picked (hasServer (a .mask)) (sendSet (a .client) (a .key) (a .setpoints .now))) (c .before .before .before .before .before .before .loop .server) _ (v .1 .1) (c .before .before .send-masked .ensures)))
+loop-again c =
+    let at-send-masked = c .before .before in
+    let at-loop = at-send-masked .before .before .before .before in
+    let start = at-loop .before .before .before in
+    let a = start .args in
+    let v = at-loop .loop .inv in
+    let set = picked (hasServer (a .mask)) (sendSet (a .client) (a .key) (a .badge) (a .setpoints .now)) in
+    (search needs, (search needs, turns-more set (at-loop .loop .server) _ (v .1 .1) (at-send-masked .send-masked .ensures)))
 
 returns : tie.Need-returns Inv-loop μ-loop
-returns c = let e : c .before .loop .server ≡ length (c .before .before .before .before .args .setpoints .now) = omega arith in rw (← e) (c .before .loop .inv .1 .1)
+returns c =
+    let at-loop = c .before in
+    let start = at-loop .before .before .before in
+    let e : at-loop .loop .server ≡ length (start .args .setpoints .now) = omega arith in rw (← e) (at-loop .loop .inv .1 .1)
 
 pub send-sets-spec : {M : Type 1} → statement M
 send-sets-spec =

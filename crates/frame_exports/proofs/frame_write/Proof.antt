@@ -20,13 +20,15 @@ returns-2 c =
     let at-fixed-from = at-message-at .before in
     let at-if1 = at-fixed-from .before in
     let at-is-kind = at-if1 .before in
-    let start = at-is-kind .before .before .before .before in
+    let start = at-is-kind .before .before .before .before .before in
     let a = start .args in
     let w = at-write-frame .write-frame .ensures in
     let e = at-message-at .message-at .ensures ∙ ap (λ (f : Fixed). messageAt (a .kind) f) (at-fixed-from .fixed-from .ensures) in
     rw (holds (at-is-kind .is-kind .ensures) (at-if1 .if1 .left)) (
-      c .written-number .ensures ∙ ap writtenNumber (w .0 ∙ ap (λ (m : Message). writtenOf m (a .keys .now) (a .numbers .now) (a .bytes .now)) e),
-      w .1 ∙ ap (λ (m : Message). bytesWritten m (a .keys .now) (a .numbers .now) (a .bytes .now)) e,
+      c .written-number .ensures
+          ∙ ap writtenNumber
+          (w .0 ∙ ap (λ (m : Message). writtenOf m (a .keys .now) (a .badges .now) (a .numbers .now) (a .bytes .now)) e),
+      w .1 ∙ ap (λ (m : Message). bytesWritten m (a .keys .now) (a .badges .now) (a .numbers .now) (a .bytes .now)) e,
     )
 
 pub frame-write-spec : {M : Type 1} → statement M

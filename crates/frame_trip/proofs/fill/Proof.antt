@@ -5,10 +5,10 @@ use Rattle.frame_trip.proofs.fill.Statement.{statement}
 use Rattle.frame_trip.proofs.fill.Tie as tie
 
 abbrev Inv-loop : tie.InvT-loop
-Inv-loop keys₀ numbers₀ i₀ keys numbers i = i ≤ 256
+Inv-loop keys₀ badges₀ numbers₀ i₀ keys badges numbers i = i ≤ 256
 
 abbrev μ-loop : tie.MeasureT-loop
-μ-loop keys₀ numbers₀ i₀ keys numbers i = 256 - i
+μ-loop keys₀ badges₀ numbers₀ i₀ keys badges numbers i = 256 - i
 
 pub fill-spec : {M : Type 1} → statement M
 fill-spec =
@@ -16,6 +16,10 @@ fill-spec =
     (tie.spec
     Inv-loop
     μ-loop
+    (λ c. search needs)
+    (λ c. search needs)
+    (λ c. search needs)
+    (λ c. search needs)
     (λ c. search needs)
     (λ c. search needs)
     (λ c. search needs)

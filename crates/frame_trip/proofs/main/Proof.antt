@@ -5,10 +5,10 @@ use Rattle.frame_trip.proofs.main.Statement.{statement}
 use Rattle.frame_trip.proofs.main.Tie as tie
 
 abbrev Inv-loop : tie.InvT-loop
-Inv-loop keys numbers kind₀ kind = kind ≤ 13
+Inv-loop keys badges numbers kind₀ kind = kind ≤ 13
 
 abbrev μ-loop : tie.MeasureT-loop
-μ-loop keys numbers kind₀ kind = 13 - kind
+μ-loop keys badges numbers kind₀ kind = 13 - kind
 
 pub main-spec : {M : Type 1} → statement M
 main-spec =

@@ -9,7 +9,7 @@ use Rattle.frame_trip.proofs.trip.Tie as tie
 slice-aggregate-report : tie.Need-slice-aggregate-report
 slice-aggregate-report c =
     let w = c .before .before .before .before .write-frame in
-    sym (length-take-le (c .before .before .length-of .result) (w .last .1 .1 .1 .0) (omega (arith, c .before .if1 .left, w .kept)))
+    sym (length-take-le (c .before .before .length-of .result) (w .last .1 .1 .1 .1 .0) (omega (arith, c .before .if1 .left, w .kept)))
 
 pub trip-spec : {M : Type 1} → statement M
 trip-spec =

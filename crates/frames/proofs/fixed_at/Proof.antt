@@ -1,4 +1,4 @@
--- The values are narrow enough for their types, and those behind the fixed ones are the entries', three each.
+-- The values are narrow enough for their types, and those behind the fixed ones are the entries', four each.
 use borrow.Author.Needs.{needs}
 use Prim.Native.Nat.{_-_, _/_}
 use lib.ListN.{getD}
@@ -8,7 +8,7 @@ use Rattle.frames.proofs.fixed_at.Tie as tie
 
 returns : tie.Need-returns
 returns c =
-    let at-new = c .before in
+    let at-new = c .before .before in
     let a = at-new .before .before .before .before .before .before .args in
     let vs = a .fixed .now in
     λ i. record {
@@ -16,7 +16,8 @@ returns c =
       server = getD vs 2 0;
       tag = getD vs 3 0;
       key = at-new .new .ensures i;
-      number = getD vs 6 0;
+      badge = getD vs 6 0;
+      number = getD vs 7 0;
       entries = (a .fields - fixedFields) / entryFields;
     }
 
@@ -35,6 +36,8 @@ fixed-at-spec =
     (λ c. search needs)
     (λ c. search needs)
     (λ c κs. search needs)
+    (λ c. search needs)
+    (λ c. search needs)
     (λ c. search needs)
     (λ c. search needs)
     (λ c. search needs)

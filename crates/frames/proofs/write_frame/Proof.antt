@@ -12,11 +12,12 @@ send-requires c κs =
     let at-if1 = c .before .before in
     let at-fixed = at-if1 .before in
     let at-entries = at-fixed .before in
-    let a = at-entries .before .before .before .before .args in
+    let a = at-entries .before .before .before .before .before .args in
     let f = at-fixed .fixed-of .ensures in
     let n = at-entries .entries-of .ensures in
     let z = at-if1 .if1 .taken in
-    is-packable (a .message) (a .keys .now) (a .numbers .now) f n (bare-enough (a .message) (a .keys .now) (a .numbers .now) f n z)
+    is-packable (a .message) (a .keys .now) (a .badges .now) (a .numbers .now) f n
+    (bare-enough (a .message) (a .keys .now) (a .badges .now) (a .numbers .now) f n z)
     (omega arith)
 
 returns : tie.Need-returns
@@ -25,12 +26,12 @@ returns c =
     let at-if1 = at-send .before .before .before in
     let at-fixed = at-if1 .before in
     let at-entries = at-fixed .before in
-    let a = at-entries .before .before .before .before .args in
+    let a = at-entries .before .before .before .before .before .args in
     let f = at-fixed .fixed-of .ensures in
     let n = at-entries .entries-of .ensures in
     let d = at-send .send .ensures in
-    let w = written-sent (a .message) (a .keys .now) (a .numbers .now) f n (a .bytes .now)
-    (bare-enough (a .message) (a .keys .now) (a .numbers .now) f n (at-if1 .if1 .taken)) in
+    let w = written-sent (a .message) (a .keys .now) (a .badges .now) (a .numbers .now) f n (a .bytes .now)
+    (bare-enough (a .message) (a .keys .now) (a .badges .now) (a .numbers .now) f n (at-if1 .if1 .taken)) in
     (d .0 ∙ w .0, d .1 ∙ w .1)
 
 returns-2 : tie.Need-returns-2
@@ -38,16 +39,18 @@ returns-2 c =
     let at-enough = c .before in
     let at-fixed = at-enough .before .before in
     let at-entries = at-fixed .before in
-    let a = at-entries .before .before .before .before .args in
-    written-missing (a .message) (a .keys .now) (a .numbers .now) (a .bytes .now)
-    (sym (enough-is (a .message) (a .keys .now) (a .numbers .now) (at-fixed .fixed-of .ensures) (at-entries .entries-of .ensures))
+    let a = at-entries .before .before .before .before .before .args in
+    written-missing (a .message) (a .keys .now) (a .badges .now) (a .numbers .now) (a .bytes .now)
+    (sym
+    (enough-is (a .message) (a .keys .now) (a .badges .now) (a .numbers .now) (at-fixed .fixed-of .ensures)
+    (at-entries .entries-of .ensures))
     ∙ fails (at-enough .enough-places .ensures) (c .if2 .taken))
 
 returns-3 : tie.Need-returns-3
 returns-3 c =
     let at-entries = c .before .before .before .before .before in
-    let a = at-entries .before .before .before .before .args in
-    written-many (a .message) (a .keys .now) (a .numbers .now) (a .bytes .now)
+    let a = at-entries .before .before .before .before .before .args in
+    written-many (a .message) (a .keys .now) (a .badges .now) (a .numbers .now) (a .bytes .now)
     (omega (arith, at-entries .entries-of .ensures, c .if3 .taken))
 
 send-requires-2 : tie.Need-send-requires-2
@@ -57,8 +60,9 @@ send-requires-2 c κs =
     let at-enough = at-if2 .before in
     let at-fixed = at-enough .before .before in
     let at-entries = at-fixed .before in
-    let a = at-entries .before .before .before .before .args in
-    is-packable (a .message) (a .keys .now) (a .numbers .now) (at-fixed .fixed-of .ensures) (at-entries .entries-of .ensures)
+    let a = at-entries .before .before .before .before .before .args in
+    is-packable (a .message) (a .keys .now) (a .badges .now) (a .numbers .now) (at-fixed .fixed-of .ensures)
+    (at-entries .entries-of .ensures)
     (holds (at-enough .enough-places .ensures) (at-if2 .if2 .left)) (at-if3 .if3 .left)
 
 returns-4 : tie.Need-returns-4
@@ -68,10 +72,11 @@ returns-4 c =
     let at-enough = at-if2 .before in
     let at-fixed = at-enough .before .before in
     let at-entries = at-fixed .before in
-    let a = at-entries .before .before .before .before .args in
+    let a = at-entries .before .before .before .before .before .args in
     let d = at-send .send2 .ensures in
     let w =
-    written-sent (a .message) (a .keys .now) (a .numbers .now) (at-fixed .fixed-of .ensures) (at-entries .entries-of .ensures)
+    written-sent (a .message) (a .keys .now) (a .badges .now) (a .numbers .now) (at-fixed .fixed-of .ensures)
+    (at-entries .entries-of .ensures)
     (a .bytes .now)
     (holds (at-enough .enough-places .ensures) (at-if2 .if2 .left)) in
     (d .0 ∙ w .0, d .1 ∙ w .1)

@@ -1,5 +1,5 @@
 -- `keys::mask_within` meets its contract: a mask is below 2^k where nothing is left of it after k shifts.
-use Rattle.keys.specs.Masks.{zero-mask, shifted-mask}
+use Rattle.keys.specs.MaskLaws.{zero-mask, shifted-mask}
 use borrow.Author.Needs.{needs}
 use Rattle.keys.proofs.mask_within.Statement.{statement}
 use Rattle.keys.proofs.mask_within.Tie as tie

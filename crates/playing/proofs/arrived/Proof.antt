@@ -5,7 +5,9 @@ use Rattle.playing.proofs.arrived.Statement.{statement}
 use Rattle.playing.proofs.arrived.Tie as tie
 
 returns : tie.Need-returns
-returns c = let a = c .before .before .before .args in word-arrived (c .arrival-word .result) (a .delivered) (a .mask) (c .arrival-word .ensures)
+returns c =
+    let a = c .before .before .before .before .args in
+    word-arrived (c .arrival-word .result) (a .delivered) (a .mask) (c .arrival-word .ensures)
 
 pub arrived-spec : {M : Type 1} → statement M
 arrived-spec = tie.close (tie.spec (λ c κs. search needs) returns)

@@ -15,7 +15,9 @@ unfolding played
 returns-2 c = rw (c .before .before .before .before .before .before .before .before .before .before .before .before .before .before .before .before .before .before .before .before .before .before .before .step .given .1) (left-played (c .answered .ensures _) (c .before .before .before .before .before .before .before .before .before .before .before .before .before .«open» .ensures))
 
 returns-3 : tie.Need-returns-3
-returns-3 c = rw (c .before .enum-told2 .given .1, c .plain2 .ensures) (begin-write-early _ (c .before .before .before .before .before .before .before .before .before .before .before .before .pre) _ _ _)
+returns-3 c =
+    rw (c .before .enum-told2 .given .1, c .plain2 .ensures)
+    (begin-write-early _ (c .before .before .before .before .before .before .before .before .before .before .before .before .pre) _ _ _ _)
 
 returns-4 : tie.Need-returns-4
 returns-4 c = rw (c .before .enum-told3 .given .1, c .plain3 .ensures) (begin-read-early _ (c .before .before .before .before .before .before .before .before .before .before .before .before .pre) _ _ _)

@@ -9,8 +9,9 @@ use Rattle.printing.proofs.print_read.Tie as tie
 
 returns : tie.Need-returns
 returns c =
-    let a = c .before .before .before .before .before .before .before .before .before .before .before .before .args in (
-      printed-then (a .out .now) ((32 ∷ 114 ∷ 101 ∷ 97 ∷ 100 ∷ []) ++ spaced (a .tag)) (serversBelow (a .mask) (a .setpoints .now) (a .tags .now) 16) (a .at)
+    let a = c .before .before .before .before .before .before .before .before .before .before .before .before .before .args in (
+      printed-then (a .out .now) ((32 ∷ 114 ∷ 101 ∷ 97 ∷ 100 ∷ []) ++ spaced (a .tag))
+          (serversBelow (a .mask) (a .setpoints .now) (a .tags .now) (a .badges .now) 16) (a .at)
           (omega arith) (c .before .before .before .before .before .before .print-tagged .ensures .0)
           (c .before .before .print-servers .ensures .0),
       omega

@@ -1,4 +1,4 @@
--- Three texts, one behind the other: at most 3, 11 and 11 bytes.
+-- Four texts, one behind the other: at most 3, 11, 11 and 11 bytes.
 use mathlib.Core.List.{_++_}
 use native.Mathlib.Omega.{arith}
 use Rattle.schedule.specs.DecimalLaws.{two-short}
@@ -29,21 +29,50 @@ print-marked-requires-2 c κs =
       at-print-marked .print-marked .kept .1 .1 .0,
     )
 
+print-marked-requires-3 : tie.Need-print-marked-requires-3
+print-marked-requires-3 c κs =
+    let at-tag = c .before .before .before in
+    let at-setpoint = at-tag .before .before .before .before in
+    let at-server = at-setpoint .before .before .before .before in
+    let start = at-server .before .before .before in
+    let two = two-short (start .args .server) (omega arith) in
+    omega (
+      arith,
+      at-server .print-spaced .ensures .0 .end,
+      at-server .print-spaced .kept .1 .0,
+      at-setpoint .print-marked .ensures .1,
+      at-setpoint .print-marked .kept .1 .1 .0,
+      at-tag .print-marked2 .ensures .1,
+      at-tag .print-marked2 .kept .1 .1 .0,
+    )
+
 returns : tie.Need-returns
 returns c =
-    let at-tag = c .before .before in
+    let at-badge = c .before .before in
+    let at-tag = at-badge .before .before .before .before in
     let at-setpoint = at-tag .before .before .before .before in
     let at-server = at-setpoint .before .before .before .before in
     let start = at-server .before .before .before in
     let a = start .args in
     let out = a .out .now in
-    let two = two-short (a .server) (omega arith) in
-    let both = printed-then out (spaced (a .server)) (marked 61 (a .setpoint)) (a .at) (omega arith) (at-server .print-spaced .ensures .0) (at-setpoint .print-marked .ensures .0) in (
-      printed-then out (spaced (a .server) ++ marked 61 (a .setpoint)) (marked 64 (a .tag)) (a .at) (omega arith) both (at-tag .print-marked2 .ensures .0),
-      omega (arith, at-server .print-spaced .ensures .0 .end, at-setpoint .print-marked .ensures .1, at-tag .print-marked2 .ensures .1),
+    let one = spaced (a .server) in
+    let two = marked 61 (a .setpoint) in
+    let three = marked 64 (a .tag) in
+    let short = two-short (a .server) (omega arith) in
+    let first = at-server .print-spaced .ensures .0 in
+    let both = printed-then out one two (a .at) (omega arith) first (at-setpoint .print-marked .ensures .0) in
+    let all = printed-then out (one ++ two) three (a .at) (omega arith) both (at-tag .print-marked2 .ensures .0) in (
+      printed-then out ((one ++ two) ++ three) (marked 35 (a .badge)) (a .at) (omega arith) all (at-badge .print-marked3 .ensures .0),
+      omega (
+        arith,
+        first .end,
+        at-setpoint .print-marked .ensures .1,
+        at-tag .print-marked2 .ensures .1,
+        at-badge .print-marked3 .ensures .1,
+      ),
     )
 
 pub print-server-spec : {M : Type 1} → statement M
 print-server-spec =
     tie.close
-    (tie.spec (λ c κs. search needs) print-marked-requires print-marked-requires-2 (λ c. search needs) returns)
+    (tie.spec (λ c κs. search needs) print-marked-requires print-marked-requires-2 print-marked-requires-3 (λ c. search needs) returns)

@@ -12,14 +12,17 @@ use Rattle.printing.proofs.print_servers.Statement.{statement}
 use Rattle.printing.proofs.print_servers.Tie as tie
 
 abbrev Inv-loop : tie.InvT-loop
-Inv-loop mask setpoints tags out₀ at next₀ server₀ out next server =
-    Printed out₀ at (serversBelow mask setpoints tags server) next out × ((next ≤ at + serverMost * server) × ((server ≤ 16) × (length out ≡ length out₀)))
+Inv-loop mask setpoints tags badges out₀ at next₀ server₀ out next server =
+    Printed out₀ at (serversBelow mask setpoints tags badges server) next out
+    × ((next ≤ at + serverMost * server) × ((server ≤ 16) × (length out ≡ length out₀)))
 
 abbrev μ-loop : tie.MeasureT-loop
-μ-loop mask setpoints tags out₀ at next₀ server₀ out next server = 16 - server
+μ-loop mask setpoints tags badges out₀ at next₀ server₀ out next server = 16 - server
 
 loop-holds : tie.Need-loop-holds Inv-loop μ-loop
-loop-holds c = let a = c .before .before .before .args in (printed-no-server (a .out .now) (a .at) (omega arith) (a .mask) (a .setpoints .now) (a .tags .now), search needs)
+loop-holds c =
+    let a = c .before .before .before .before .args in
+    (printed-no-server (a .out .now) (a .at) (omega arith) (a .mask) (a .setpoints .now) (a .tags .now) (a .badges .now), search needs)
 
 print-masked-requires : tie.Need-print-masked-requires Inv-loop μ-loop
 print-masked-requires c κs = omega (arith, c .before .before .loop .inv .1)
@@ -27,12 +30,13 @@ print-masked-requires c κs = omega (arith, c .before .before .loop .inv .1)
 loop-again : tie.Need-loop-again Inv-loop μ-loop
 loop-again c =
     let p = c .before .before .before .before .before .loop in
-    let a = c .before .before .before .before .before .before .before .before .before .args in (
-      printed-server (a .out .now) (a .at) (omega arith) (a .mask) (a .setpoints .now) (a .tags .now) (p .server) (p .inv .0)
+    let a = c .before .before .before .before .before .before .before .before .before .before .args in (
+      printed-server (a .out .now) (a .at) (omega arith) (a .mask) (a .setpoints .now) (a .tags .now) (a .badges .now) (p .server)
+          (p .inv .0)
           (c .before .before .print-masked .ensures .0),
       (
         omega (arith, c .before .before .print-masked .ensures .1, p .inv .1 .0),
-        (search needs, c .before .before .print-masked .kept .1 .1 .1 .1 .0 ∙ p .inv .1 .1 .1),
+        (search needs, c .before .before .print-masked .kept .1 .1 .1 .1 .1 .0 ∙ p .inv .1 .1 .1),
       ),
     )
 

@@ -19,7 +19,7 @@ cast-tag c =
 
 conclude-requires : tie.Need-conclude-requires
 conclude-requires c κs =
-    let at-chosen-tag = c .before in
+    let at-chosen-tag = c .before .before in
     let at-client-word = at-chosen-tag .before .before in
     let start = at-client-word .before .before .before .before .before .before .before in
     let a = start .args in
@@ -31,12 +31,21 @@ conclude-requires c κs =
     let q = tag-qualifies (a .clients .now) (a .keys .now) (a .log .now) (a .client) (a .mask) (a .servers) (p .some) (p .opening) in
     (start .pre .0, ((p .row, record { place = omega (arith, p .entries); there = omega (arith, p .logged) }), rw e q))
 
+finish-requires : tie.Need-finish-requires
+finish-requires c κs =
+    let at-conclude = c .before .before .before .before .before .before .before .before .before .before in
+    let start = at-conclude .before .before .before .before .before .before .before .before .before .before .before .before in
+    let h = start .pre .1 .row in
+    let r = start .pre .1 .recorded in
+    search needs
+
 returns : tie.Need-returns
 returns c =
     let at-finish = c .before .before .before .before in
-    let at-show-words = at-finish .before .before .before in
+    let at-show-words2 = at-finish .before .before .before in
+    let at-show-words = at-show-words2 .before .before .before in
     let at-conclude = at-show-words .before .before .before .before .before in
-    let at-chosen-tag = at-conclude .before .before in
+    let at-chosen-tag = at-conclude .before .before .before in
     let at-client-word = at-chosen-tag .before .before in
     let start = at-client-word .before .before .before .before .before .before .before in
     let a = start .args in
@@ -46,10 +55,14 @@ returns c =
     (at-client-word .client-word .ensures) (at-chosen-tag .chosen-tag .ensures) in
     let f = at-finish .finish .ensures in
     let k = at-conclude .conclude .ensures in
-    record { shown = rw (at-show-words .show-words .ensures, k .0, k .1, e); idled = f .0 ∙ rw (k .0, e); recorded = f .1 ∙ rw e }
+    record {
+      shown = rw (at-show-words .show-words .ensures, at-show-words2 .show-words2 .ensures, k .0, k .1, e);
+      idled = f .0 ∙ rw (k .0, e);
+      recorded = f .1 ∙ rw e;
+    }
 
 pub finish-by-c-spec : {M : Type 1} → statement M
 finish-by-c-spec =
     tie.close
     (tie.spec (λ c. search needs) (λ c κs. search needs) (λ c. search needs) (λ c κs. search needs) cast-tag conclude-requires
-    (λ c κs. search needs) (λ c κs. search needs) (λ c. search needs) (λ c. search needs) returns)
+    (λ c κs. search needs) (λ c κs. search needs) finish-requires (λ c. search needs) (λ c. search needs) returns)

@@ -1,4 +1,5 @@
 -- `replies::got` meets its contract: waiting or ended, each a case law of `onGot`.
+use mathlib.Core.Path.{_∙_}
 use Rattle.tables.specs.Tables.{tablesOf}
 use Rattle.replies.specs.Cases.{got-waits, got-ends}
 use borrow.Author.Needs.{needs}
@@ -8,21 +9,32 @@ use Rattle.replies.proofs.got.Tie as tie
 returns : tie.Need-returns
 returns c =
     let at-is-pending = c .before in
-    let at-put-client-word = at-is-pending .before .before .before .before in
+    let at-put-client-word2 = at-is-pending .before .before .before .before in
+    let at-put-client-word = at-put-client-word2 .before .before .before .before in
     let at-settle = at-put-client-word .before .before .before .before .before .before in
     let start = at-settle .before .before .before .before .before .before .before .before .before .before .before in
     let a = start .args in
     λ keys values log writes. got-waits (a .client) (a .target)
     (tablesOf (a .counts .now) (a .clients .now) (a .links .now) keys values log writes (a .reads .now))
     (at-settle .settle .ensures) (at-is-pending .is-pending .ensures) (a .contents)
-    (at-put-client-word .put-client-word .ensures) (c .if1 .taken)
+    (at-put-client-word2 .put-client-word2 .ensures ∙ rw (at-put-client-word .put-client-word .ensures)) (c .if1 .taken)
+
+finish-requires : tie.Need-finish-requires
+finish-requires c κs =
+    let at-put-client-word = c .before .before .before .before .before .before .before .before .before .before .before in
+    let at-client-word = at-put-client-word .before .before .before .before .before .before .before .before .before .before .before in
+    let start = at-client-word .before .before .before .before .before .before in
+    let h = start .pre .1 .1 .row in
+    let e = at-client-word .client-word .ensures in
+    (search needs, rw e (start .pre .1 .1 .recorded))
 
 returns-2 : tie.Need-returns-2
 returns-2 c =
     let at-finish = c .before .before .before .before in
     let at-if1 = at-finish .before .before .before in
     let at-is-pending = at-if1 .before in
-    let at-put-client-word = at-is-pending .before .before .before .before in
+    let at-put-client-word2 = at-is-pending .before .before .before .before in
+    let at-put-client-word = at-put-client-word2 .before .before .before .before in
     let at-settle = at-put-client-word .before .before .before .before .before .before in
     let at-client-word2 = at-settle .before .before .before in
     let at-client-word = at-client-word2 .before .before in
@@ -31,7 +43,7 @@ returns-2 c =
     λ keys values log writes. got-ends (a .client) (a .target)
     (tablesOf (a .counts .now) (a .clients .now) (a .links .now) keys values log writes (a .reads .now))
     (at-settle .settle .ensures) (at-is-pending .is-pending .ensures) (a .contents)
-    (at-put-client-word .put-client-word .ensures) (at-if1 .if1 .left)
+    (at-put-client-word2 .put-client-word2 .ensures ∙ rw (at-put-client-word .put-client-word .ensures)) (at-if1 .if1 .left)
     (at-client-word .client-word .ensures) (at-client-word2 .client-word2 .ensures)
     (at-finish .finish .ensures .0) (at-finish .finish .ensures .1)
 
@@ -39,5 +51,5 @@ pub got-spec : {M : Type 1} → statement M
 got-spec =
     tie.close
     (tie.spec (λ c κs. search needs) (λ c κs. search needs) (λ c κs. search needs) (λ c. search needs) (λ c κs. search needs)
-    (λ c κs. search needs) (λ c. search needs) (λ c. search needs) (λ c. search needs) returns (λ c κs. search needs)
-    (λ c. search needs) (λ c. search needs) (λ c. search needs) (λ c. search needs) returns-2)
+    (λ c. search needs) (λ c κs. search needs) (λ c κs. search needs) (λ c. search needs) (λ c. search needs) (λ c. search needs)
+    returns finish-requires (λ c. search needs) (λ c. search needs) (λ c. search needs) (λ c. search needs) returns-2)

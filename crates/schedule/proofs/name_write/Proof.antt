@@ -1,5 +1,5 @@
--- Fewer than two numbers name no WRITE; else the numbers behind the second are the setpoints.
-use Rattle.schedule.specs.StepLaws.{names-none, write-few, write-names}
+-- Fewer than three numbers name no WRITE, nor does a badge above 16 bits; else the numbers behind the third are the setpoints.
+use Rattle.schedule.specs.StepLaws.{names-none, write-few, write-badge, write-names}
 use borrow.Author.Needs.{needs}
 use Rattle.schedule.proofs.name_write.Statement.{statement}
 use Rattle.schedule.proofs.name_write.Tie as tie
@@ -11,11 +11,22 @@ returns c =
 
 returns-2 : tie.Need-returns-2
 returns-2 c =
-    let a = c .before .before .before .before .before .before .before .before .before .before .args in
-    write-names (a .numbers .now) (a .setpoints .now) (c .before .before .before .before .before .before .before .if1 .left)
-    (c .before .before .before .before .store-setpoints .ensures)
+    let a = c .before .before .before .before .before .before .args in
+    names-none (a .setpoints .now) (write-badge (a .numbers .now) (c .before .if2 .taken)) (c .unreadable2 .ensures)
+
+returns-3 : tie.Need-returns-3
+returns-3 c =
+    let at-store-setpoints = c .before .before .before .before in
+    let at-if2 = at-store-setpoints .before .before .before in
+    let at-if1 = at-if2 .before .before in
+    let a = at-if1 .before .before .before .args in
+    write-names (a .numbers .now) (a .setpoints .now) (at-if1 .if1 .left) (at-if2 .if2 .left) (at-store-setpoints .store-setpoints .ensures)
 
 pub name-write-spec : {M : Type 1} → statement M
 name-write-spec =
     tie.close
-    (tie.spec (λ c κs. search needs) returns (λ c. search needs) (λ c. search needs) (λ c. search needs) (λ c κs. search needs) (λ c. search needs) (λ c. search needs) (λ c. search needs) (λ c. search needs) returns-2)
+    (tie.spec
+    (λ c κs. search needs) returns
+    (λ c. search needs) (λ c κs. search needs) returns-2
+    (λ c. search needs) (λ c. search needs) (λ c. search needs) (λ c κs. search needs)
+    (λ c. search needs) (λ c. search needs) (λ c. search needs) (λ c. search needs) (λ c. search needs) returns-3)

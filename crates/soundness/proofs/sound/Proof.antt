@@ -38,7 +38,7 @@ returns-3 c = let a = c .before .before .before .before .before .before .before 
     rw (
       holds (c .before .before .before .before .tables-long .ensures) (c .before .before .before .if1 .left),
       holds (c .before .before .scalars-sound .ensures u) (c .before .if2 .left),
-    ) (c .rest-sound .ensures (a .values .now))
+    ) (c .rest-sound .ensures)
 
 pub sound-spec : {M : Type 1} → statement M
 sound-spec =

@@ -9,7 +9,11 @@ use Rattle.store.proofs.begin_write.Statement.{statement}
 use Rattle.store.proofs.begin_write.Tie as tie
 
 returns : tie.Need-returns
-returns c = let a = c .before .before .before .before .before .before .before .before .before .before .before .before .before .before .before .args in unsound-write (tablesOf (a .counts .now) (a .clients .now) (a .links .now) (a .keys .now) (a .values .now) (a .log .now) (a .writes .now) (a .reads .now)) (c .before .sound .ensures) (c .if1 .taken) (a .client) (a .mask) (a .setpoints .now)
+returns c =
+    let a = c .before .before .before .before .before .before .before .before .before .before .before .before .before .before
+    .before .args in unsound-write (tablesOf (a .counts .now) (a .clients .now) (a .links .now) (a .keys .now) (a .values .now)
+    (a .log .now) (a .writes .now) (a .reads .now)) (c .before .sound .ensures) (c .if1 .taken) (a .client) (a .mask) (a .badge)
+    (a .setpoints .now)
 
 begin-write-sound-requires : tie.Need-begin-write-sound-requires
 begin-write-sound-requires c κs = let a = c .before .before .before .before .before .before .before .before .before .before .before .before .before .before .before .before .before .before .before .args in sound-facts (tablesOf (a .counts .now) (a .clients .now) (a .links .now) (a .keys .now) (a .values .now) (a .log .now) (a .writes .now) (a .reads .now)) (sym (c .before .before .before .before .before .sound .ensures) ∙ not-false _ (c .before .before .before .before .if1 .left))

@@ -195,9 +195,20 @@ show-words-requires-2 c κs =
     let kept = at-got .got .kept in
     search needs
 
+show-words-requires-3 : tie.Need-show-words-requires-3
+show-words-requires-3 c κs =
+    let at-got =
+    c .before .before .before .before .before .before .before .before .before .before .before .before .before .before .before .before
+    .before in
+    let s = at-got .before .before .before .before .before .before .before .before .before .before .before .before .before in
+    let h = free (none s) .ready in
+    let kept = at-got .got .kept in
+    search needs
+
 returns-8 : tie.Need-returns-8
 returns-8 c =
-    let at-show = c .before .before .before in
+    let at-show2 = c .before .before .before in
+    let at-show = at-show2 .before .before .before in
     let at-got = at-show .before .before .before .before .before .before .before .before .before .before .before .before in
     let at-tag = at-got .before .before .before .before .before in
     let at-mask = at-tag .before .before in
@@ -212,7 +223,13 @@ returns-8 c =
     (at-if3 .before .if2 .left) (at-if3 .if3 .left) (at-if4 .if4 .left) (at-if5 .if5 .taken)
     (by-row _ _ (at-got .got .ensures (a .keys .now) (a .values .now) (a .log .now) (a .writes .now))
     (at-show .before .before .before .if6 .left)
-    (rw (c .show-words2 .ensures, at-show .show-words .ensures, at-tag .client-word3 .ensures, at-mask .client-word2 .ensures))))
+    (rw (
+      c .show-words3 .ensures,
+      at-show2 .show-words2 .ensures,
+      at-show .show-words .ensures,
+      at-tag .client-word3 .ensures,
+      at-mask .client-word2 .ensures,
+    ))))
 
 all-told-requires : tie.Need-all-told-requires
 all-told-requires c κs =
@@ -248,14 +265,13 @@ returns-9 c =
 pub deliver-reply-sound-spec : {M : Type 1} → statement M
 deliver-reply-sound-spec =
     tie.close
-    (tie.spec (λ c κs. search needs) (λ c κs. search needs) (λ c. search needs) returns link-at-requires
-    (λ c. search needs) (λ c κs. search needs) (λ c. search needs) (λ c. search needs) returns-2
-    (λ c. search needs) (λ c κs. search needs) (λ c. search needs) (λ c. search needs) returns-3
-    (λ c. search needs) client-word-requires
-    set-done-requires (λ c κs. search needs) (λ c. search needs) (λ c. search needs) (λ c. search needs) returns-4
-    entered-requires (λ c κs. search needs) (λ c. search needs) (λ c. search needs) (λ c. search needs) (λ c. search needs) returns-5
+    (tie.spec (λ c κs. search needs) (λ c κs. search needs) (λ c. search needs) returns link-at-requires (λ c. search needs)
+    (λ c κs. search needs) (λ c. search needs) (λ c. search needs) returns-2 (λ c. search needs) (λ c κs. search needs)
+    (λ c. search needs) (λ c. search needs) returns-3 (λ c. search needs) client-word-requires set-done-requires
+    (λ c κs. search needs) (λ c. search needs) (λ c. search needs) (λ c. search needs) returns-4 entered-requires
+    (λ c κs. search needs) (λ c. search needs) (λ c. search needs) (λ c. search needs) (λ c. search needs) returns-5
     keys-told-requires (λ c κs. search needs) (λ c. search needs) (λ c. search needs) (λ c. search needs) returns-6
-    client-word-requires-2 client-word-requires-3
-    got-requires (λ c κs. search needs) (λ c. search needs) (λ c. search needs) (λ c. search needs) (λ c. search needs) returns-7
-    show-words-requires show-words-requires-2 (λ c. search needs) (λ c. search needs) (λ c. search needs) (λ c. search needs) returns-8
-    all-told-requires (λ c. search needs) (λ c. search needs) (λ c. search needs) (λ c. search needs) returns-9)
+    client-word-requires-2 client-word-requires-3 got-requires (λ c κs. search needs) (λ c. search needs) (λ c. search needs)
+    (λ c. search needs) (λ c. search needs) returns-7 show-words-requires show-words-requires-2 show-words-requires-3
+    (λ c. search needs) (λ c. search needs) (λ c. search needs) (λ c. search needs) returns-8 all-told-requires (λ c. search needs)
+    (λ c. search needs) (λ c. search needs) (λ c. search needs) returns-9)

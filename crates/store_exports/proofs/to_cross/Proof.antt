@@ -1,4 +1,4 @@
--- `store_exports::to_cross` meets its contract: the number is the answer's, and setpoints and tags go with it.
+-- `store_exports::to_cross` meets its contract: the number is the answer's, and setpoints, tags and badges go with it.
 use borrow.Author.Needs.{needs}
 use Rattle.store_exports.proofs.to_cross.Statement.{statement}
 use Rattle.store_exports.proofs.to_cross.Tie as tie

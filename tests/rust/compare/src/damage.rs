@@ -9,11 +9,12 @@ pub fn damage(tables: &mut Tables, random: &mut Random) {
     if random.chance(1, 6) {
         change_together(tables, random);
     }
-    match random.below(13) {
+    match random.below(14) {
         0 => {}
         1 => cut(tables, random),
         2 => change_kept_tag(tables, random),
-        3..=9 => change_word(tables, random),
+        3 => change_badge(tables, random),
+        4..=10 => change_word(tables, random),
         _ => {
             change_word(tables, random);
             change_word(tables, random);
@@ -62,6 +63,28 @@ fn change_kept_tag(tables: &mut Tables, random: &mut Random) {
     tables.clients[place] = random.pick(&[0, entries - 1, entries, entries + 1]);
 }
 
+/// A word in the place of a badge becomes one just below or above the least that is none: where soundness looks at it (held versions,
+/// clients, set requests, got replies, WRITEs), beside that (behind the last version or record, servers beyond k), and where no badge is
+/// (other links, READs).
+fn change_badge(tables: &mut Tables, random: &mut Random) {
+    let used = |place: usize| tables.count(place);
+    let (servers, clients) = (used(SERVERS), used(CLIENTS));
+    let which = random.pick(&[1, 2, 2, 4, 6, 7]);
+    let place = match which {
+        1 => CLIENT_WORDS * random.below(clients) + BADGES + random.below((servers + 1).min(16)),
+        2 => LINK_WORDS * link(tables, LINKS_OF_CLIENT * clients, random) + LINK_BADGE,
+        4 => {
+            let server = random.below(servers);
+            value_place(server, random.below(used(HELD + server) + 1))
+        }
+        6 => RECORD_WORDS * random.below(used(WRITES) + 1) + RECORD_BADGE,
+        _ => RECORD_WORDS * random.below(used(READS) + 1) + RECORD_BADGE,
+    };
+    if let Some(word) = tables.all_mut()[which].get_mut(place) {
+        *word = random.pick(&[7, BADGES_BELOW - 1, BADGES_BELOW, BADGES_BELOW + 7, u32::MAX]);
+    }
+}
+
 /// A place in a table, which is numbered as in `Tables::all`.
 fn word_place(tables: &Tables, which: usize, random: &mut Random) -> usize {
     let used = |place: usize| tables.counts.get(place).map_or(0, |&count| count as usize % 257);
@@ -72,7 +95,12 @@ fn word_place(tables: &Tables, which: usize, random: &mut Random) -> usize {
         2 => LINK_WORDS * link(tables, LINKS_OF_CLIENT * clients, random) + random.below(LINK_WORDS),
         3 | 4 => {
             let server = random.below(servers);
-            VERSIONS_OF_SERVER * server + random.below(used(HELD + server % 16) + 1)
+            let version = VERSIONS_OF_SERVER * server + random.below(used(HELD + server % 16) + 1);
+            if which == 3 {
+                version
+            } else {
+                VALUE_WORDS * version + random.below(VALUE_WORDS)
+            }
         }
         5 => LOG_WORDS * random.below(used(ENTRIES) + 1) + random.below(LOG_WORDS),
         6 => RECORD_WORDS * random.below(used(WRITES) + 1) + random.below(RECORD_WORDS),
@@ -129,6 +157,7 @@ fn fill_versions(tables: &mut Tables, random: &mut Random) {
     let held = tables.count(HELD + server);
     let filled = near(VERSIONS_OF_SERVER, held, random);
     tables.keys[first + held..first + filled].fill(0);
+    (held..filled).for_each(|place| tables.values[value_place(server, place)] = BADGES_BELOW - 1);
     tables.counts[HELD + server] = filled as u32;
 }
 
@@ -146,7 +175,7 @@ fn fill_writes(tables: &mut Tables, random: &mut Random) {
     let begun = tables.count(WRITES);
     let filled = near(RECORDS, begun, random);
     for place in begun..filled {
-        tables.writes[RECORD_WORDS * place..][..RECORD_WORDS].copy_from_slice(&[client as u32, 1, 0, 1, 1]);
+        tables.writes[RECORD_WORDS * place..][..RECORD_WORDS].copy_from_slice(&[client as u32, 1, 0, 1, 1, place as u32]);
     }
     tables.clients[CLIENT_WORDS * client + COUNT] += (filled - begun) as u32;
     tables.counts[WRITES] = filled as u32;
@@ -155,7 +184,7 @@ fn fill_writes(tables: &mut Tables, random: &mut Random) {
 fn fill_reads(tables: &mut Tables, random: &mut Random) {
     let filled = near(RECORDS, tables.count(READS), random);
     for place in tables.count(READS)..filled {
-        tables.reads[RECORD_WORDS * place..][..RECORD_WORDS].copy_from_slice(&[0, 1, 0, 1, 1]);
+        tables.reads[RECORD_WORDS * place..][..RECORD_WORDS].copy_from_slice(&[0, 1, 0, 1, 1, u32::MAX]);
     }
     tables.counts[READS] = filled as u32;
 }

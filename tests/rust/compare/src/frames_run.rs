@@ -15,6 +15,8 @@ use schedules::Random;
 const SHORT_FOR_A_LONG: usize = 500;
 /// Copies of a long message with one entry broken, which are not writable.
 const BROKEN_COPIES: usize = 20;
+/// Places in the slices for keys, badges and numbers that hold the entries of any frame.
+const ENOUGH: [usize; 3] = [256; 3];
 /// Words that the lent slices hold before a call, so that a word written too far shows.
 const UNTOUCHED: u32 = 0xA5A5_5A5A;
 
@@ -82,21 +84,26 @@ impl Comparison {
 
     /// The whole frame, with just the places that it needs, with more, with one too few; and with a byte behind it.
     fn whole(&mut self, frame: &[u8], entries: usize) -> Result<(), String> {
-        self.read(frame, entries, entries)?;
-        self.read(frame, entries + 2, entries + 3)?;
+        self.read(frame, [entries; 3])?;
+        self.read(frame, [entries + 2, entries + 1, entries + 3])?;
+        // Only versions have badges; the others need no place for them.
+        self.read(frame, [entries, 0, entries])?;
         if entries > 0 {
-            self.read(frame, entries - 1, entries)?;
-            self.read(frame, entries, entries - 1)?;
+            for slice in 0..3 {
+                let mut places = [entries; 3];
+                places[slice] -= 1;
+                self.read(frame, places)?;
+            }
         }
         let behind = self.random.pick(&[0, 0, 1, 128, 255]);
-        self.read(&[frame, &[behind]].concat(), 256, 256)
+        self.read(&[frame, &[behind]].concat(), ENOUGH)
     }
 
     /// Every prefix.
     fn prefixes(&mut self, frame: &[u8]) -> Result<(), String> {
         for length in 0..frame.len() {
             self.tried.count("prefixes");
-            self.read(&frame[..length], 256, 256)?;
+            self.read(&frame[..length], ENOUGH)?;
         }
         Ok(())
     }
@@ -107,9 +114,9 @@ impl Comparison {
             self.tried.count("single bits turned");
             let mut damaged = frame.to_vec();
             damaged[bit / 8] ^= 1 << (bit % 8);
-            self.read(&damaged, 256, 256)?;
+            self.read(&damaged, ENOUGH)?;
             let length = self.random.below(damaged.len().min(8) + 1);
-            self.read(&damaged[..length], 256, 256)?;
+            self.read(&damaged[..length], ENOUGH)?;
         }
         Ok(())
     }
@@ -126,19 +133,19 @@ impl Comparison {
             let target = if to_server(kind) { self.random.below(16) as u8 } else { 16 };
             bytes[1] = 8 * target + bytes[1] % 8;
         }
-        self.read(&bytes, 256, 256)
+        self.read(&bytes, ENOUGH)
     }
 
     /// Both readers on the same bytes: answers and slices are equal.
-    fn read(&mut self, bytes: &[u8], key_places: usize, number_places: usize) -> Result<(), String> {
-        let (mut keys, mut numbers) = (vec![UNTOUCHED; key_places], vec![UNTOUCHED; number_places]);
-        let (mut proved_keys, mut proved_numbers) = (keys.clone(), numbers.clone());
-        let expected = read_lent(bytes, &mut keys, &mut numbers);
-        let found = self.library.read(bytes, &mut proved_keys, &mut proved_numbers);
-        if (found, &proved_keys, &proved_numbers) != (expected, &keys, &numbers) {
-            return Err(format!(
-                "reading {bytes:02x?} with {key_places} and {number_places} places: {found:?}, the model {expected:?}"
-            ));
+    fn read(&mut self, bytes: &[u8], places: [usize; 3]) -> Result<(), String> {
+        let mut lent = places.map(|number| vec![UNTOUCHED; number]);
+        let mut proved = lent.clone();
+        let [keys, badges, numbers] = &mut lent;
+        let expected = read_lent(bytes, keys, badges, numbers);
+        let [keys, badges, numbers] = &mut proved;
+        let found = self.library.read(bytes, keys, badges, numbers);
+        if (found, &proved) != (expected, &lent) {
+            return Err(format!("reading {bytes:02x?} with {places:?} places: {found:?}, the model {expected:?}"));
         }
         self.count("read", expected.map(|fixed: Fixed| fixed.kind));
         Ok(())
@@ -146,7 +153,7 @@ impl Comparison {
 
     /// Both writers on the same message, with room for it or too little: its frame, where it has one.
     fn write(&mut self, message: &Lent) -> Result<Option<Vec<u8>>, String> {
-        let mut longest = vec![0x5A; 1500];
+        let mut longest = vec![0x5A; 2000];
         let Some(length) = self.write_with(message, &mut longest)? else {
             return Ok(None);
         };
@@ -159,10 +166,10 @@ impl Comparison {
 
     /// Both writers on the same bytes: answers and bytes are equal.
     fn write_with(&mut self, message: &Lent, bytes: &mut [u8]) -> Result<Option<usize>, String> {
-        let Lent { fixed, keys, numbers } = message;
+        let Lent { fixed, keys, badges, numbers } = message;
         let mut proved = bytes.to_vec();
-        let expected = write_lent(fixed, keys, numbers, bytes);
-        let found = self.library.write(fixed, keys, numbers, &mut proved);
+        let expected = write_lent(fixed, keys, badges, numbers, bytes);
+        let found = self.library.write(fixed, keys, badges, numbers, &mut proved);
         if found != expected || proved != bytes {
             return Err(format!("writing {message:?} to {} bytes: {found:?}, the model {expected:?}", bytes.len()));
         }

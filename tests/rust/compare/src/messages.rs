@@ -2,16 +2,17 @@
 
 use frames::lent::Fixed;
 use frames::message::{to_server, KINDS, MOST_ENTRIES, MOST_KEYS};
-use schedules::Random;
+use schedules::{badge, Random};
 
 /// Most entries of a message that is not a long one.
 const SHORT: usize = 24;
 
-/// The fixed part of a message and its entries: key words, and tags, setpoints or masks.
+/// The fixed part of a message and its entries: key words, badges of versions, and tags, setpoints or masks.
 #[derive(Clone, Debug)]
 pub struct Lent {
     pub fixed: Fixed,
     pub keys: Vec<u32>,
+    pub badges: Vec<u32>,
     pub numbers: Vec<u32>,
 }
 
@@ -45,12 +46,15 @@ pub fn long_message(random: &mut Random, place: usize) -> Lent {
     good_message(random, kind, entries)
 }
 
-/// A message of kind 10 or 12 that is not writable for one of its entries, at any place: a key that is none or, in a log, a mask.
+/// A message of kind 10 or 12 that is not writable for one of its entries, at any place: a key that is none or, in a log, a mask, of
+/// versions a badge.
 pub fn with_broken_entry(message: &Lent, random: &mut Random) -> Lent {
     let mut broken = message.clone();
     let place = random.below(broken.keys.len());
     if message.fixed.kind == 12 && random.chance(1, 2) {
         broken.numbers[place] = random.pick(&[0, 65536, u32::MAX]);
+    } else if message.fixed.kind == 10 && random.chance(1, 2) {
+        broken.badges[place] = random.pick(&[65536, 65537, 65543, 1 << 31, u32::MAX]);
     } else {
         broken.keys[place] = broken_key(random);
     }
@@ -65,12 +69,12 @@ fn good_message(random: &mut Random, kind: u32, entries: usize) -> Lent {
     }
     let count = if random.chance(1, 2) { 1 << random.below(8) } else { random.within(1, 255) as u8 };
     match kind {
-        1 => (fixed.key, fixed.number) = ((count, fixed.client), random.word()),
+        1 => (fixed.key, fixed.badge, fixed.number) = ((count, fixed.client), badge(random), random.word()),
         3 => (fixed.key, fixed.number) = ((count, fixed.client), random_mask(random)),
         4 => fixed.tag = random.within(1, 255) as u8,
         6 => fixed.tag = random.below(256) as u8,
         7 => fixed.key = random.pick(&[(0, 0), (count, 3), (255, 15)]),
-        8 => fixed.number = random.word(),
+        8 => (fixed.badge, fixed.number) = (badge(random), random.word()),
         _ => {}
     }
     let number = match kind {
@@ -79,8 +83,13 @@ fn good_message(random: &mut Random, kind: u32, entries: usize) -> Lent {
         _ => random_mask,
     };
     let keys = (0..entries).map(|_| random_key(random)).collect();
+    // Kinds without badges are lent none, or any words, which they do not look at.
+    let badges = match kind {
+        10 => (0..entries).map(|_| u32::from(badge(random))).collect(),
+        _ => (0..random.below(3)).map(|_| random.word()).collect(),
+    };
     let numbers = (0..entries).map(|_| number(random)).collect();
-    Lent { fixed, keys, numbers }
+    Lent { fixed, keys, badges, numbers }
 }
 
 /// A tag of eight bits, often at an end.
@@ -113,8 +122,8 @@ fn broken_key(random: &mut Random) -> u32 {
 
 /// Makes one value odd; the kind may not have it, and then nothing is spoilt.
 fn spoil(random: &mut Random, message: &mut Lent) {
-    let Lent { fixed, keys, numbers } = message;
-    match random.below(10) {
+    let Lent { fixed, keys, badges, numbers } = message;
+    match random.below(13) {
         0 => fixed.client = random.pick(&[15, 16, 17, 255]),
         1 => fixed.server = random.pick(&[15, 16, 17, 31, 32, 255]),
         2 if matches!(fixed.kind, 1 | 3 | 7) => fixed.key = random.pick(&[(0, 0), (0, 1), (1, 16), (255, 255), (1, 0)]),
@@ -125,6 +134,7 @@ fn spoil(random: &mut Random, message: &mut Lent) {
             if random.chance(1, 2) {
                 // Places enough, so that the number of entries alone decides.
                 keys.resize(300, 256);
+                badges.resize(300, 7);
                 numbers.resize(300, 1);
             }
         }
@@ -134,7 +144,16 @@ fn spoil(random: &mut Random, message: &mut Lent) {
         7 => {
             numbers.pop();
         }
-        8 => fixed.kind = random.pick(&[0, 13, 14, 16, 255, 256 + 1, u32::MAX]),
+        8 => {
+            badges.pop();
+        }
+        9 if fixed.kind == 10 => {
+            let place = random.below(badges.len());
+            badges[place] = random.pick(&[65535, 65536, 65543, 131_072, u32::MAX]);
+        }
+        // Kinds that have no badge look at none.
+        10 => fixed.badge = badge(random),
+        11 => fixed.kind = random.pick(&[0, 13, 14, 16, 255, 256 + 1, u32::MAX]),
         _ if !keys.is_empty() => {
             let place = random.below(keys.len());
             match numbers.get_mut(place) {

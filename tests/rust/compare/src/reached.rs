@@ -22,8 +22,9 @@ const ANSWERS: [&str; 28] = [
     "no 13",
 ];
 
-/// Which WRITEs' setpoints READs show.
+/// Which WRITEs' setpoints READs show, and which badges with setpoints that a WRITE set.
 const SHOWN: [&str; 3] = ["of the opening", "of the READ's tag", "of an older WRITE"];
+const BADGES: [&str; 3] = ["badge 0", "badge 65535", "another badge above 255"];
 
 /// What was reached so far.
 #[derive(Default)]
@@ -31,6 +32,7 @@ pub struct Reached {
     total: Summary,
     answers: Tally,
     shown: Tally,
+    badges: Tally,
     /// Transactions that began while others were in progress, and the most in progress at once.
     overlapping: usize,
     at_once: usize,
@@ -51,7 +53,7 @@ impl Reached {
         }
     }
 
-    /// The tags that a READ shows.
+    /// The tags and badges that a READ shows.
     fn add_shown(&mut self, outcome: &Outcome) {
         let Ok(Answer::Read { tag: own, shown }) = outcome else {
             return;
@@ -64,6 +66,14 @@ impl Reached {
                 _ => older,
             };
             self.shown.count(origin);
+            let [none, greatest, other] = BADGES;
+            match one.badge {
+                _ if one.tag == 0 => {}
+                0 => self.badges.count(none),
+                65535 => self.badges.count(greatest),
+                256.. => self.badges.count(other),
+                _ => {}
+            }
         }
     }
 
@@ -88,6 +98,7 @@ impl Reached {
     pub fn require_all(&self) -> Result<(), String> {
         self.answers.require(&ANSWERS)?;
         self.shown.require(&SHOWN)?;
+        self.badges.require(&BADGES)?;
         let Summary { lines, refused, .. } = self.total;
         if 100 * refused < LEAST_REFUSED * lines || 100 * refused > MOST_REFUSED * lines {
             return Err(format!("{refused} of {lines} lines are refused, and {LEAST_REFUSED} to {MOST_REFUSED} of 100 are due"));
@@ -114,6 +125,6 @@ impl fmt::Display for Reached {
         write!(out, "{lines} lines, {accepted} accepted, {refused} refused ({share:.1} %), {openings} openings, ")?;
         write!(out, "{tagged_writes} tagged WRITEs, {finished_reads} finished READs, ")?;
         write!(out, "{} begun beside others, at most {} at once; ", self.overlapping, self.at_once)?;
-        write!(out, "setpoints shown: {}; answers: {}", self.shown, self.answers)
+        write!(out, "setpoints shown: {}, with {}; answers: {}", self.shown, self.badges, self.answers)
     }
 }

@@ -3,7 +3,7 @@
 use crate::damage::damage;
 use model::Step;
 use schedules::{Generator, Random};
-use words::layout::CLIENT_WORDS;
+use words::layout::{CLIENT_WORDS, LINKS_OF_CLIENT, LINK_WORDS, RECORD_WORDS};
 use words::Tables;
 
 /// Opens a store in tables that hold anything and lets it go on by its own steps. All of these tables, and damaged copies,
@@ -58,16 +58,16 @@ pub fn shown(tables: &Tables) -> String {
         tables.lengths(),
         first(&tables.counts, 23),
         first(&tables.clients, 4 * CLIENT_WORDS),
-        first(&tables.links, 204),
+        first(&tables.links, 4 * LINKS_OF_CLIENT * LINK_WORDS),
         first(&tables.log, 40),
-        first(&tables.writes, 50),
-        first(&tables.reads, 50)
+        first(&tables.writes, 10 * RECORD_WORDS),
+        first(&tables.reads, 10 * RECORD_WORDS)
     )
 }
 
 /// The first word that differs.
 pub fn differing(proved: &Tables, tables: &Tables) -> String {
-    const NAMES: [&str; 8] = ["counts", "clients", "links", "keys", "setpoints", "log", "writes", "reads"];
+    const NAMES: [&str; 8] = ["counts", "clients", "links", "keys", "values", "log", "writes", "reads"];
     for (which, (one, other)) in proved.all().into_iter().zip(tables.all()).enumerate() {
         if let Some(place) = (0..one.len()).find(|&place| one[place] != other[place]) {
             return format!("{}[{place}] is {}, the model's {}", NAMES[which], one[place], other[place]);

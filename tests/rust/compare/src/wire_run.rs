@@ -18,17 +18,24 @@ const DUE_FRAMES: [&str; 16] = [
     "kind 1", "kind 2", "kind 3", "kind 4", "kind 5", "kind 6", "kind 7", "kind 8", "kind 9", "kind 10", "kind 11", "kind 12",
     "no 2", "no 3", "no 9", "no 12",
 ];
-const DUE_LISTS: [&str; 5] =
-    ["listed", "no 2", "no 12", "with READs of one tag that end in another order", "with READs that tie"];
+const DUE_LISTS: [&str; 6] = [
+    "listed",
+    "no 2",
+    "no 12",
+    "with READs of one tag that end in another order",
+    "with READs that tie",
+    "with badges above 255",
+];
 
 /// A READ's kind, and words of a row of the register.
 const READ: u32 = 1;
 const TAG: usize = 1;
 const BEGIN: usize = 4;
 const END: usize = 5;
+const BADGE: usize = 7;
 
 /// Room for the longest frame, of 256 versions, and for the longest register.
-const LONGEST_FRAME: usize = 1411;
+const LONGEST_FRAME: usize = 1923;
 const MOST_LINES: usize = 510;
 
 /// What was compared so far.
@@ -157,7 +164,8 @@ fn compare_list(library: WireLibrary, tables: &Tables, random: &mut Random, coun
     Ok(())
 }
 
-/// Whether READs of one tag, listed by begin, ended in another order, and whether different ones began at one step.
+/// Whether READs of one tag, listed by begin, ended in another order, whether different ones began at one step, and whether a badge is
+/// listed that a byte has no room for.
 fn count_orders(list: &[u32], lists: &mut Tally) {
     let rows: Vec<&[u32]> = list.chunks_exact(LINE_WORDS).collect();
     let of_one_tag = |pair: &&[&[u32]]| pair[0][0] == READ && pair[1][0] == READ && pair[0][TAG] == pair[1][TAG];
@@ -167,5 +175,8 @@ fn count_orders(list: &[u32], lists: &mut Tally) {
     }
     if pairs.iter().any(|pair| pair[0][BEGIN] == pair[1][BEGIN] && pair[0] != pair[1]) {
         lists.count("with READs that tie");
+    }
+    if rows.iter().any(|row| row[BADGE] > 255) {
+        lists.count("with badges above 255");
     }
 }

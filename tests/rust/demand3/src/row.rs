@@ -37,15 +37,16 @@ fn masked(mask: u32, server: usize) -> bool {
 }
 
 /// "The row is walked with k values, at first the opening's." "A shown tag must be that of the last WRITE to the station ahead
-/// of the READ in the row, or 0 where there is none": a WRITE sets its tag with its setpoint.
+/// of the READ in the row, or 0 where there is none", and a badge is that of "the same WRITE as the setpoint beside it": a WRITE sets
+/// its tag and its badge with its setpoint.
 pub fn walk(run: &Run, row: &[usize]) -> Result<(), Violation> {
-    let mut values: Vec<Value> = run.opening.iter().map(|&setpoint| Value { setpoint, tag: 0 }).collect();
+    let mut values: Vec<Value> = run.opening.iter().map(|&setpoint| Value { setpoint, tag: 0, badge: 0 }).collect();
     for &place in row {
         let transaction = &run.transactions[place];
         let stations: Vec<usize> = (0..values.len()).filter(|&server| masked(transaction.mask, server)).collect();
         match &transaction.kind {
-            Kind::Write { setpoints, .. } => {
-                let value = |server: usize| Value { setpoint: setpoints[server], tag: tag(run, place) };
+            Kind::Write { badge, setpoints, .. } => {
+                let value = |server: usize| Value { setpoint: setpoints[server], tag: tag(run, place), badge: *badge };
                 stations.iter().for_each(|&server| values[server] = value(server));
             }
             Kind::Read { shown } => {
@@ -92,7 +93,7 @@ fn line_of(run: &Run, place: usize) -> String {
     let end_text = end.map_or("-".to_string(), |end| end.to_string());
     let tag = tag(run, place);
     match &transaction.kind {
-        Kind::Write { count, .. } => format!("W {tag} {client} {count} {begin} {end_text}"),
+        Kind::Write { count, badge, .. } => format!("W {tag} {client} {count} {begin} {end_text} {badge}"),
         Kind::Read { .. } => format!("R {tag} {client} {begin} {end_text} {}", overlap(run, transaction)),
     }
 }

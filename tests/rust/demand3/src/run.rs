@@ -8,8 +8,8 @@ const HEAD: usize = 16;
 /// What a transaction is, with what only its kind has.
 #[derive(Clone, Debug)]
 pub enum Kind {
-    /// `count` is how many WRITEs its client has begun; `setpoints` are those of its begin.
-    Write { count: usize, setpoints: Vec<u32> },
+    /// `count` is how many WRITEs its client has begun; `badge` and `setpoints` are those of its begin.
+    Write { count: usize, badge: u32, setpoints: Vec<u32> },
     /// What it showed, once it has ended.
     Read { shown: Vec<(usize, Value)> },
 }
@@ -72,9 +72,9 @@ impl Run {
         }
         self.step += 1;
         match (asked, said) {
-            (Asked::Write { client, mask, setpoints }, Said::Ok) => {
+            (Asked::Write { client, mask, badge, setpoints }, Said::Ok) => {
                 let count = self.transactions.iter().filter(|one| one.client == client && one.is_write()).count() + 1;
-                self.begin(client, mask, Kind::Write { count, setpoints }, line)
+                self.begin(client, mask, Kind::Write { count, badge, setpoints }, line)
             }
             (Asked::Read { client, mask }, Said::Ok) => self.begin(client, mask, Kind::Read { shown: Vec::new() }, line),
             (Asked::Request { client, target }, Said::Ok) => self.request(client, target, line),

@@ -6,19 +6,23 @@ use crate::{violation, Violation};
 #[derive(Clone, Debug, PartialEq, Eq)]
 pub enum Asked {
     Open { method: u32, servers: usize, clients: usize, setpoints: Vec<u32> },
-    Write { client: usize, mask: u32, setpoints: Vec<u32> },
+    Write { client: usize, mask: u32, badge: u32, setpoints: Vec<u32> },
     Read { client: usize, mask: u32 },
     Request { client: usize, target: usize },
     Reply { client: usize, target: usize },
     Unreadable,
 }
 
-/// What a station has at a place of the row: a setpoint, and the tag of the WRITE that put it there, 0 for the opening.
+/// What a station has at a place of the row: a setpoint, and tag and badge of the WRITE that put it there, both 0 for the opening.
 #[derive(Clone, Copy, Debug, PartialEq, Eq)]
 pub struct Value {
     pub setpoint: u32,
     pub tag: usize,
+    pub badge: u32,
 }
+
+/// A badge has 16 bits.
+const BADGES: u32 = 65_536;
 
 /// An answer.
 #[derive(Clone, Debug, PartialEq, Eq)]
@@ -65,7 +69,10 @@ fn readable(line: &[u8]) -> Option<Asked> {
     let exactly = |length: usize| (numbers.len() == length).then_some(());
     Some(match letter {
         "O" => Asked::Open { method: *numbers.first()?, servers: at(1)?, clients: at(2)?, setpoints: numbers[3..].to_vec() },
-        "W" => Asked::Write { client: at(0)?, mask: *numbers.get(1)?, setpoints: numbers[2..].to_vec() },
+        "W" => {
+            let badge = numbers.get(2).copied().filter(|&badge| badge < BADGES)?;
+            Asked::Write { client: at(0)?, mask: numbers[1], badge, setpoints: numbers[3..].to_vec() }
+        }
         "R" => exactly(2).map(|_| Asked::Read { client: numbers[0] as usize, mask: numbers[1] })?,
         ">" => exactly(2).map(|_| Asked::Request { client: numbers[0] as usize, target: numbers[1] as usize })?,
         "<" => exactly(2).map(|_| Asked::Reply { client: numbers[0] as usize, target: numbers[1] as usize })?,
@@ -96,9 +103,11 @@ fn answer_of(answer: &str) -> Option<Said> {
     })
 }
 
-/// `station=setpoint@tag`
+/// `station=setpoint@tag#badge`
 fn pair_of(word: &str) -> Option<(usize, Value)> {
     let (server, value) = word.split_once('=')?;
-    let (setpoint, tag) = value.split_once('@')?;
-    Some((number(server)? as usize, Value { setpoint: number(setpoint)?, tag: number(tag)? as usize }))
+    let (setpoint, origin) = value.split_once('@')?;
+    let (tag, badge) = origin.split_once('#')?;
+    let value = Value { setpoint: number(setpoint)?, tag: number(tag)? as usize, badge: number(badge)? };
+    Some((number(server)? as usize, value))
 }

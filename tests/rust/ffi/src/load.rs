@@ -61,10 +61,10 @@ mod linked {
         fn load_advance(seed: u32) -> u32;
     }
     exported!(load_next_step: &Tables,
-        [counts ptr, clients ptr, links ptr, keys ptr, setpoints ptr, log ptr, writes ptr, reads ptr]
+        [counts ptr, clients ptr, links ptr, keys ptr, values ptr, log ptr, writes ptr, reads ptr]
         (seed: u32) -> LoadPick);
     exported!(load_play: &mut Tables,
-        [counts mut, clients mut, links mut, keys mut, setpoints mut, log mut, writes mut, reads mut]
+        [counts mut, clients mut, links mut, keys mut, values mut, log mut, writes mut, reads mut]
         (seed: u32, length: u32, list: *mut u32, list_length: usize) -> LoadEnd);
 
     pub fn advance(seed: u32) -> u32 {

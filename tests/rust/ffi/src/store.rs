@@ -85,31 +85,32 @@ mod linked {
 
     // Nothing checks these declarations against crates/store_exports/src/lib.rt.
     exported!(store_sound: &Tables,
-        [counts ptr, clients ptr, links ptr, keys ptr, setpoints ptr, log ptr, writes ptr, reads ptr]
+        [counts ptr, clients ptr, links ptr, keys ptr, values ptr, log ptr, writes ptr, reads ptr]
         () -> bool);
     exported!(store_open: &mut Tables,
-        [counts mut, clients mut, links mut, keys mut, setpoints mut, log mut, writes ptr, reads ptr]
+        [counts mut, clients mut, links mut, keys mut, values mut, log mut, writes ptr, reads ptr]
         (method: u32, servers: u32, panels: u32, given: *const u32, given_length: usize) -> u32);
     // Those that end in `_sound` are for tables known to be sound: on others anything may happen.
     exported!(store_begin_write, store_begin_write_sound: &mut Tables,
-        [counts mut, clients mut, links mut, keys ptr, setpoints ptr, log ptr, writes mut, reads ptr]
-        (client: u32, mask: u32, given: *const u32, given_length: usize) -> u32);
+        [counts mut, clients mut, links mut, keys ptr, values ptr, log ptr, writes mut, reads ptr]
+        (client: u32, mask: u32, badge: u16, given: *const u32, given_length: usize) -> u32);
     exported!(store_begin_read, store_begin_read_sound: &mut Tables,
-        [counts mut, clients mut, links mut, keys ptr, setpoints ptr, log ptr, writes ptr, reads mut]
+        [counts mut, clients mut, links mut, keys ptr, values ptr, log ptr, writes ptr, reads mut]
         (client: u32, mask: u32) -> u32);
     exported!(store_deliver_request, store_deliver_request_sound: &mut Tables,
-        [counts mut, clients ptr, links mut, keys mut, setpoints mut, log mut, writes mut, reads ptr]
+        [counts mut, clients ptr, links mut, keys mut, values mut, log mut, writes mut, reads ptr]
         (client: u32, target: u32) -> u32);
     exported!(store_deliver_reply, store_deliver_reply_sound: &mut Tables,
-        [counts mut, clients mut, links mut, keys ptr, setpoints ptr, log ptr, writes mut, reads mut]
+        [counts mut, clients mut, links mut, keys ptr, values ptr, log ptr, writes mut, reads mut]
         (client: u32, target: u32) -> Crossing);
 
-    /// A delivered reply's answer, and the setpoints that a READ shows with their tags; 0 where it shows none.
+    /// A delivered reply's answer, and the setpoints that a READ shows with their tags and badges; 0 where it shows none.
     #[repr(C)]
     pub struct Crossing {
         pub number: u64,
         pub setpoints: [u32; 16],
         pub tags: [u32; 16],
+        pub badges: [u32; 16],
     }
 
     pub fn sound(t: &Tables) -> bool {
@@ -126,8 +127,8 @@ mod linked {
                     Step::Open { method, servers, clients, setpoints } => {
                         plain(store_open($t, *method, *servers, *clients, setpoints.as_ptr(), setpoints.len()))
                     }
-                    Step::BeginWrite { client, mask, setpoints } => {
-                        plain($begin_write($t, *client, *mask, setpoints.as_ptr(), setpoints.len()))
+                    Step::BeginWrite { client, mask, badge, setpoints } => {
+                        plain($begin_write($t, *client, *mask, *badge, setpoints.as_ptr(), setpoints.len()))
                     }
                     Step::BeginRead { client, mask } => plain($begin_read($t, *client, *mask)),
                     Step::DeliverRequest { client, target } => plain($deliver_request($t, *client, *target)),
@@ -158,7 +159,7 @@ mod linked {
 
     #[inline]
     fn plain(number: u32) -> Crossing {
-        Crossing { number: u64::from(number), setpoints: [0; 16], tags: [0; 16] }
+        Crossing { number: u64::from(number), setpoints: [0; 16], tags: [0; 16], badges: [0; 16] }
     }
 
     pub fn outcome(crossing: Crossing, tables: &Tables, step: &Step) -> Outcome {
@@ -177,14 +178,18 @@ mod linked {
     }
 
     /// 2^32 times 1 to 4 is wait, next, write and read, with the tag added; what is smaller refuses.
-    /// Setpoints or tags beside any other answer than read, or of servers that are not masked, would be wrong.
+    /// Setpoints, tags or badges beside any other answer than read, or of servers that are not masked, would be wrong.
     fn arrival(crossing: Crossing, tables: &Tables, client: usize) -> Outcome {
-        let Crossing { number, setpoints, tags } = crossing;
+        let Crossing { number, setpoints, tags, badges } = crossing;
         let tag = (number % (1 << 32)) as usize;
         let mask = if number >> 32 == 4 { tables.client(client)[MASK] } else { 0 };
-        let stray = (0..16).find(|&server| !has_server(mask, server) && (setpoints[server], tags[server]) != (0, 0));
-        assert_eq!(stray, None, "a setpoint or a tag is shown that was not asked for");
-        let shown = |server| Shown { server, setpoint: setpoints[server], tag: tags[server] as usize };
+        let of = |server: usize| (setpoints[server], tags[server], badges[server]);
+        let stray = (0..16).find(|&server| !has_server(mask, server) && of(server) != (0, 0, 0));
+        assert_eq!(stray, None, "a setpoint, a tag or a badge is shown that was not asked for");
+        let shown = |server| {
+            let (setpoint, tag, badge) = of(server);
+            Shown { server, setpoint, tag: tag as usize, badge }
+        };
         match number >> 32 {
             0 => Err(refused(tag as u32)),
             1 => Ok(Answer::Wait),

@@ -49,10 +49,10 @@ mod linked {
 
     // Nothing checks these declarations against crates/wire_exports/src/lib.rt.
     exported!(wire_write_link_frame: &Tables,
-        [counts ptr, clients ptr, links ptr, keys ptr, setpoints ptr, log ptr, writes ptr, reads ptr]
+        [counts ptr, clients ptr, links ptr, keys ptr, values ptr, log ptr, writes ptr, reads ptr]
         (client: u32, target: u32, bytes: *mut u8, bytes_length: usize) -> u64);
     exported!(wire_list_register: &Tables,
-        [counts ptr, clients ptr, links ptr, keys ptr, setpoints ptr, log ptr, writes ptr, reads ptr]
+        [counts ptr, clients ptr, links ptr, keys ptr, values ptr, log ptr, writes ptr, reads ptr]
         (list: *mut u32, list_length: usize) -> u64);
 
     /// A refusal is 2^64 - 1 less its number; any other number is the answer.

@@ -14,7 +14,7 @@ pub fn message_on(link: &Link, client: u8, target: u8) -> Option<Message> {
 
 fn request_message(request: &Request, client: u8, server: u8) -> Message {
     match *request {
-        Request::Set { key, setpoint } => Message::Set { client, server, key, setpoint },
+        Request::Set { key, badge, setpoint } => Message::Set { client, server, key, badge, setpoint },
         Request::Enter { key, mask } => Message::Enter { client, key, mask },
         Request::WhichKeys => Message::WhichKeys { client },
         Request::Get { key } => Message::Get { client, server, key },
@@ -28,7 +28,7 @@ fn reply_message(reply: &Reply, client: u8, server: u8) -> Message {
         Reply::SetDone => Message::SetDone { client, server },
         Reply::Entered { tag } => Message::Entered { client, tag: *tag as u8 },
         Reply::Keys { tag, keys } => Message::Keys { client, tag: *tag as u8, keys: keys.clone() },
-        Reply::Got { setpoint } => Message::Got { client, server, setpoint: *setpoint },
+        Reply::Got { badge, setpoint } => Message::Got { client, server, badge: *badge, setpoint: *setpoint },
         Reply::All { versions } => Message::All { client, server, versions: versions.clone() },
         Reply::Log { entries } => Message::Log { client, entries: entries.clone() },
     }

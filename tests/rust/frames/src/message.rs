@@ -4,14 +4,14 @@ use model::{Entry, Key, Latest, Version};
 
 #[derive(Clone, Debug, PartialEq, Eq)]
 pub enum Message {
-    Set { client: u8, server: u8, key: Key, setpoint: u32 },
+    Set { client: u8, server: u8, key: Key, badge: u16, setpoint: u32 },
     SetDone { client: u8, server: u8 },
     Enter { client: u8, key: Key, mask: u32 },
     Entered { client: u8, tag: u8 },
     WhichKeys { client: u8 },
     Keys { client: u8, tag: u8, keys: Vec<Latest> },
     Get { client: u8, server: u8, key: Key },
-    Got { client: u8, server: u8, setpoint: u32 },
+    Got { client: u8, server: u8, badge: u16, setpoint: u32 },
     GetAll { client: u8, server: u8 },
     All { client: u8, server: u8, versions: Vec<Version> },
     GetLog { client: u8 },

@@ -20,14 +20,17 @@ pub fn read(bytes: &[u8]) -> Result<Message, Refusal> {
 
 fn body(fields: &mut BitReader, kind: u32, client: u8, server: u8) -> Result<Message, Refusal> {
     Ok(match kind {
-        1 => Message::Set { client, server, key: own_key(fields, client)?, setpoint: fields.field(32)? },
+        1 => {
+            let key = own_key(fields, client)?;
+            Message::Set { client, server, key, badge: badge(fields)?, setpoint: fields.field(32)? }
+        }
         2 => Message::SetDone { client, server },
         3 => Message::Enter { client, key: own_key(fields, client)?, mask: mask(fields)? },
         4 => Message::Entered { client, tag: tag_from_1(fields)? },
         5 => Message::WhichKeys { client },
         6 => keys(fields, client)?,
         7 => Message::Get { client, server, key: key(fields)? },
-        8 => Message::Got { client, server, setpoint: fields.field(32)? },
+        8 => Message::Got { client, server, badge: badge(fields)?, setpoint: fields.field(32)? },
         9 => Message::GetAll { client, server },
         10 => Message::All { client, server, versions: entries(fields, version)? },
         11 => Message::GetLog { client },
@@ -51,6 +54,11 @@ fn own_key(fields: &mut BitReader, header: u8) -> Result<Key, Refusal> {
     let client = fields.field(4)? as u8;
     check(client == header)?;
     Ok(Key { count, client })
+}
+
+/// A "16-bit badge number, 0 allowed": none is wrong.
+fn badge(fields: &mut BitReader) -> Result<u16, Refusal> {
+    Ok(fields.field(16)? as u16)
 }
 
 /// "A zero mask is broken."
@@ -85,8 +93,9 @@ fn entries<T>(fields: &mut BitReader, entry: fn(&mut BitReader) -> Result<T, Ref
     (0..number).map(|_| entry(fields)).collect()
 }
 
+/// "Version records hold [the badge] after the key, as do frame kinds 1 and 10".
 fn version(fields: &mut BitReader) -> Result<Version, Refusal> {
-    Ok(Version { key: key(fields)?, setpoint: fields.field(32)? })
+    Ok(Version { key: key(fields)?, badge: badge(fields)?, setpoint: fields.field(32)? })
 }
 
 fn entry(fields: &mut BitReader) -> Result<Entry, Refusal> {

@@ -18,9 +18,9 @@ pub fn write(message: &Message) -> Result<Vec<u8>, Refusal> {
 
 fn body(fields: &mut BitWriter, message: &Message) -> Result<(), Refusal> {
     match message {
-        Message::Set { client, key, setpoint, .. } => {
+        Message::Set { client, key, badge, setpoint, .. } => {
             own_key(fields, *key, *client)?;
-            fields.field(*setpoint, 32)
+            value(fields, *badge, *setpoint)
         }
         Message::Enter { client, key, mask: stations } => {
             own_key(fields, *key, *client)?;
@@ -40,12 +40,12 @@ fn body(fields: &mut BitWriter, message: &Message) -> Result<(), Refusal> {
             })
         }
         Message::Get { key: asked, .. } => key(fields, *asked),
-        Message::Got { setpoint, .. } => fields.field(*setpoint, 32),
+        Message::Got { badge, setpoint, .. } => value(fields, *badge, *setpoint),
         Message::All { versions, .. } => {
             number_of_entries(fields, versions.len())?;
             versions.iter().try_for_each(|version| {
                 key(fields, version.key)?;
-                fields.field(version.setpoint, 32)
+                value(fields, version.badge, version.setpoint)
             })
         }
         Message::Log { entries, .. } => {
@@ -68,6 +68,12 @@ fn key(fields: &mut BitWriter, key: Key) -> Result<(), Refusal> {
 fn own_key(fields: &mut BitWriter, own: Key, header: u8) -> Result<(), Refusal> {
     check(own.count >= 1 && own.client == header)?;
     key(fields, own)
+}
+
+/// "kind 8 has it before the setpoint", and in kinds 1 and 10, where it stands "after the key", it does so too.
+fn value(fields: &mut BitWriter, badge: u16, setpoint: u32) -> Result<(), Refusal> {
+    fields.field(u32::from(badge), 16)?;
+    fields.field(setpoint, 32)
 }
 
 fn mask(fields: &mut BitWriter, mask: u32) -> Result<(), Refusal> {

@@ -17,7 +17,8 @@ fn an_empty_link_has_no_message() {
 
 #[test]
 fn requests() {
-    assert_eq!(frame(Link::Request(Request::Set { key: OWN, setpoint: 45 }), 1), [0x12, 0x08, 0x09, 0, 0, 0, 0x16, 0x80]);
+    let set = [0x12, 0x08, 0x09, 0, 0x03, 0x80, 0, 0, 0x16, 0x80];
+    assert_eq!(frame(Link::Request(Request::Set { key: OWN, badge: 7, setpoint: 45 }), 1), set);
     assert_eq!(frame(Link::Request(Request::Enter { key: OWN, mask: 2 }), 16), [0x32, 0x80, 0x09, 0, 0x01, 0]);
     assert_eq!(frame(Link::Request(Request::WhichKeys), 16), [0x52, 0x80]);
     assert_eq!(frame(Link::Request(Request::Get { key: OWN }), 1), [0x72, 0x08, 0x09, 0]);
@@ -28,14 +29,15 @@ fn requests() {
 #[test]
 fn replies() {
     let keys = vec![Latest { key: Key::OPENING, tag: 0 }, Latest { key: OWN, tag: 1 }];
-    let versions = vec![Version { key: Key::OPENING, setpoint: 30 }, Version { key: OWN, setpoint: 45 }];
+    let versions = vec![Version { key: Key::OPENING, badge: 0, setpoint: 30 }, Version { key: OWN, badge: 7, setpoint: 45 }];
     let entries = vec![Entry { key: Key::OPENING, mask: 3 }, Entry { key: OWN, mask: 2 }];
     assert_eq!(frame(Link::Reply(Reply::SetDone), 1), [0x22, 0x08]);
     assert_eq!(frame(Link::Reply(Reply::Entered { tag: 1 }), 16), [0x42, 0x80, 0x08]);
     let told = [0x62, 0x80, 0x08, 0x80, 0, 0, 0x04, 0x80, 0x40];
     assert_eq!(frame(Link::Reply(Reply::Keys { tag: 1, keys }), 16), told);
-    assert_eq!(frame(Link::Reply(Reply::Got { setpoint: 45 }), 1), [0x82, 0x08, 0, 0, 0x01, 0x68]);
-    let all = [0xA2, 0x08, 0x08, 0, 0, 0, 0, 0x0F, 0, 0x90, 0, 0, 0x01, 0x68];
+    let got = [0x82, 0x08, 0, 0x38, 0, 0, 0x01, 0x68];
+    assert_eq!(frame(Link::Reply(Reply::Got { badge: 7, setpoint: 45 }), 1), got);
+    let all = [0xA2, 0x08, 0x08, 0, 0, 0, 0, 0, 0, 0x0F, 0, 0x90, 0, 0x38, 0, 0, 0x01, 0x68];
     assert_eq!(frame(Link::Reply(Reply::All { versions }), 1), all);
     assert_eq!(frame(Link::Reply(Reply::Log { entries }), 16), [0xC2, 0x80, 0x08, 0, 0, 0x01, 0x80, 0x90, 0, 0x10]);
 }

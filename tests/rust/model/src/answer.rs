@@ -20,12 +20,14 @@ pub enum Refusal {
     Unreadable = 13,
 }
 
-/// What a READ shows of a station: "with each setpoint the tag of the WRITE that put it there, 0 for the opening".
+/// What a READ shows of a station: "with each setpoint the tag of the WRITE that put it there, 0 for the opening", and "the badge
+/// (`0=1800@1#7`) that belongs to the same WRITE as the setpoint beside it".
 #[derive(Clone, Copy, Debug, PartialEq, Eq)]
 pub struct Shown {
     pub server: usize,
     pub setpoint: u32,
     pub tag: usize,
+    pub badge: u32,
 }
 
 /// "A delivered reply answers wait, next, write with tag, or read with tag and setpoints. Other accepted steps answer ok."
@@ -49,7 +51,8 @@ impl fmt::Display for Answer {
             Answer::Write { tag } => write!(out, "write {tag}"),
             Answer::Read { tag, shown } => {
                 write!(out, "read {tag}")?;
-                shown.iter().try_for_each(|Shown { server, setpoint, tag }| write!(out, " {server}={setpoint}@{tag}"))
+                let mut show = |one: &Shown| write!(out, " {}={}@{}#{}", one.server, one.setpoint, one.tag, one.badge);
+                shown.iter().try_for_each(&mut show)
             }
         }
     }

@@ -27,8 +27,9 @@ impl Store {
         Ok(client)
     }
 
-    /// "Begin a WRITE: next count; a request to each masked station; state 1."
-    pub fn begin_write(&mut self, client: u32, mask: u32, setpoints: &[u32]) -> Outcome {
+    /// "Begin a WRITE: next count; a request to each masked station; state 1." "Every WRITE carries a 16-bit badge number, 0 allowed":
+    /// it stands in the requests and in the record.
+    pub fn begin_write(&mut self, client: u32, mask: u32, badge: u16, setpoints: &[u32]) -> Outcome {
         let client = self.writer(client, mask, setpoints.len())?;
         self.step += 1;
         let count = self.clients[client].count + 1;
@@ -40,10 +41,10 @@ impl Store {
         writer.setpoints[..setpoints.len()].copy_from_slice(setpoints);
         for server in servers_of(mask) {
             let setpoint = setpoints[server];
-            writer.links[server] = Link::Request(Request::Set { key, setpoint });
+            writer.links[server] = Link::Request(Request::Set { key, badge, setpoint });
         }
         writer.record = self.writes.len();
-        self.writes.push(WriteRecord { client, count, tag: 0, begin: self.step, end: None });
+        self.writes.push(WriteRecord { client, count, tag: 0, begin: self.step, end: None, badge });
         Ok(Answer::Ok)
     }
 

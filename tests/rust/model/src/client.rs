@@ -28,6 +28,9 @@ pub struct Client {
     pub setpoints: [u32; 16],
     /// "Under A and B a panel keeps the wanted stations' tags while it asks."
     pub tags: [usize; 16],
+    /// "a panel stores it with each wanted setpoint": the badge, here as wide as a word of the tables, since of stations beyond k any
+    /// is there.
+    pub badges: [u32; 16],
     /// Under C, the versions received from each server in this READ; n is their number.
     pub versions: [Vec<Version>; 16],
     /// Under C, the log received in this READ.
@@ -59,9 +62,16 @@ impl Client {
         self.state = State::AskingSetpoints;
     }
 
-    /// The setpoints of the masked servers, as a READ shows them beside these tags.
+    /// Stores what the asked version of a wanted server has, badge and setpoint together.
+    pub fn keep(&mut self, server: usize, badge: u16, setpoint: u32) {
+        self.setpoints[server] = setpoint;
+        self.badges[server] = u32::from(badge);
+    }
+
+    /// The setpoints and badges of the masked servers, as a READ shows them beside these tags.
     pub fn shown(&self, tags: &[usize; 16]) -> Vec<Shown> {
-        let shown = servers_of(self.mask).map(|server| Shown { server, setpoint: self.setpoints[server], tag: tags[server] });
-        shown.collect()
+        let (setpoints, badges) = (self.setpoints, self.badges);
+        let one = |server| Shown { server, setpoint: setpoints[server], tag: tags[server], badge: badges[server] };
+        servers_of(self.mask).map(one).collect()
     }
 }

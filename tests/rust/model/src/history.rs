@@ -2,7 +2,7 @@
 
 use std::fmt::Write;
 
-/// "each WRITE's panel, count, tag, begin and end step"
+/// "each WRITE's panel, count, tag, begin and end step", and its badge: "The register's W line ends with it."
 #[derive(Clone, Debug, PartialEq, Eq)]
 pub struct WriteRecord {
     pub client: usize,
@@ -10,6 +10,7 @@ pub struct WriteRecord {
     pub tag: usize,
     pub begin: u32,
     pub end: Option<u32>,
+    pub badge: u16,
 }
 
 /// "each READ's panel, mask, tag, begin, end"
@@ -61,9 +62,9 @@ pub fn printed(writes: &[WriteRecord], reads: &[ReadRecord]) -> String {
     let mut text = String::new();
     for line in listing(writes, reads) {
         let written = match line {
-            Listed::Write(WriteRecord { client, count, tag, begin, end }) => {
+            Listed::Write(WriteRecord { client, count, tag, begin, end, badge }) => {
                 let end = end.map_or("-".to_string(), |end| end.to_string());
-                writeln!(text, "W {tag} {client} {count} {begin} {end}")
+                writeln!(text, "W {tag} {client} {count} {begin} {end} {badge}")
             }
             Listed::Read { record, end, overlap } => {
                 let ReadRecord { client, tag, begin, .. } = record;

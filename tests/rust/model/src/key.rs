@@ -17,10 +17,11 @@ impl Key {
     }
 }
 
-/// One record of a station's versions.
+/// One record of a station's versions: "Version records hold [the badge] after the key".
 #[derive(Clone, Copy, Debug, PartialEq, Eq)]
 pub struct Version {
     pub key: Key,
+    pub badge: u16,
     pub setpoint: u32,
 }
 
@@ -57,7 +58,6 @@ pub fn latest(log: &[Entry], server: usize, tag: usize) -> Latest {
 }
 
 /// "A key is looked up as the first version that bears it."
-pub fn setpoint_of(versions: &[Version], key: Key) -> Option<u32> {
-    let first = versions.iter().find(|version| version.key == key);
-    first.map(|version| version.setpoint)
+pub fn version_of(versions: &[Version], key: Key) -> Option<Version> {
+    versions.iter().copied().find(|version| version.key == key)
 }

@@ -21,7 +21,11 @@ pub fn step_of(line: &[u8]) -> Option<Step> {
         (b'O', &[method, servers, clients, ref setpoints @ ..]) => {
             Some(Step::Open { method, servers, clients, setpoints: setpoints.to_vec() })
         }
-        (b'W', &[client, mask, ref setpoints @ ..]) => Some(Step::BeginWrite { client, mask, setpoints: setpoints.to_vec() }),
+        // "In the yard's input W line it stands after the mask, above 65,535 giving 13"
+        (b'W', &[client, mask, badge, ref setpoints @ ..]) => {
+            let badge = u16::try_from(badge).ok()?;
+            Some(Step::BeginWrite { client, mask, badge, setpoints: setpoints.to_vec() })
+        }
         (b'R', &[client, mask]) => Some(Step::BeginRead { client, mask }),
         (b'>', &[client, target]) => Some(Step::DeliverRequest { client, target }),
         (b'<', &[client, target]) => Some(Step::DeliverReply { client, target }),

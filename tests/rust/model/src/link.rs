@@ -5,7 +5,7 @@ use crate::key::{Entry, Key, Latest, Version};
 /// What a client sends.
 #[derive(Clone, Debug, PartialEq, Eq)]
 pub enum Request {
-    Set { key: Key, setpoint: u32 },
+    Set { key: Key, badge: u16, setpoint: u32 },
     Enter { key: Key, mask: u32 },
     WhichKeys,
     Get { key: Key },
@@ -19,7 +19,7 @@ pub enum Reply {
     SetDone,
     Entered { tag: usize },
     Keys { tag: usize, keys: Vec<Latest> },
-    Got { setpoint: u32 },
+    Got { badge: u16, setpoint: u32 },
     All { versions: Vec<Version> },
     Log { entries: Vec<Entry> },
 }

@@ -68,13 +68,13 @@ impl Store {
         numbered(self.clients.len() as u32).filter(|&step| self.accepts(step)).collect()
     }
 
-    /// A step with its arguments. "A WRITE's setpoints are all its count."
+    /// A step with its arguments. "A WRITE's setpoints are all its count"; of badges "the load gives 0".
     pub fn given(&self, step: Numbered) -> Step {
         let mask = self.all_servers();
         match step {
             Numbered::Write { client } => {
                 let count = u32::from(self.clients[client as usize].count) + 1;
-                Step::BeginWrite { client, mask, setpoints: vec![count; self.servers.len()] }
+                Step::BeginWrite { client, mask, badge: 0, setpoints: vec![count; self.servers.len()] }
             }
             Numbered::Read { client } => Step::BeginRead { client, mask },
             Numbered::Request { client, target } => Step::DeliverRequest { client, target },

@@ -3,7 +3,7 @@
 use crate::answer::{Answer, Outcome, Refusal};
 use crate::choice::chosen_tag;
 use crate::client::State;
-use crate::key::{latest, servers_of, setpoint_of, Key, Latest};
+use crate::key::{latest, servers_of, version_of, Key, Latest, Version};
 use crate::link::{Link, Reply, Request};
 use crate::store::Store;
 use crate::COORDINATOR;
@@ -36,8 +36,8 @@ impl Store {
                 self.clients[client].ask_for_keys(|server| keys[server]);
                 Answer::Next
             }
-            Reply::Got { setpoint } => {
-                self.clients[client].setpoints[target] = setpoint;
+            Reply::Got { badge, setpoint } => {
+                self.clients[client].keep(target, badge, setpoint);
                 self.end_if_answered(client)
             }
             Reply::All { versions } => {
@@ -82,7 +82,7 @@ impl Store {
         self.end_read(client, &tags)
     }
 
-    /// C: "when all replies are in", the tag is chosen and the setpoints are stored.
+    /// C: "when all replies are in", the tag is chosen and the setpoints are stored, with their badges.
     fn choose_if_complete(&mut self, client: usize) -> Answer {
         if !self.clients[client].all_answered() {
             return Answer::Wait;
@@ -98,8 +98,9 @@ impl Store {
         reader.tag = chosen_tag(&reader.log, &reader.versions, reader.mask);
         for server in servers_of(reader.mask) {
             let Latest { key, tag } = latest(&reader.log, server, reader.tag);
-            let setpoint = setpoint_of(&reader.versions[server], key);
-            reader.setpoints[server] = setpoint.expect("the chosen tag's key was received");
+            let version = version_of(&reader.versions[server], key);
+            let Version { badge, setpoint, .. } = version.expect("the chosen tag's key was received");
+            reader.keep(server, badge, setpoint);
             tags[server] = tag;
         }
         reader.versions = Default::default();

@@ -1,7 +1,7 @@
 //! The delivery of a request: what a station or the head does with it, and the reply left on the link.
 
 use crate::answer::{Answer, Outcome, Refusal};
-use crate::key::{latest, setpoint_of, Entry, Version};
+use crate::key::{latest, version_of, Entry, Version};
 use crate::link::{Link, Reply, Request};
 use crate::store::Store;
 use crate::MOST_HELD;
@@ -11,7 +11,7 @@ pub(crate) enum Due {
     Append(Version),
     Enter(Entry),
     TellKeys,
-    TellSetpoint(u32),
+    TellVersion(Version),
     TellVersions,
     TellLog,
 }
@@ -30,13 +30,13 @@ impl Store {
     /// "a set or enter request finds 256 versions or log entries, or a get request a key not held": 8
     fn due(&self, target: usize, request: &Request) -> Result<Due, Refusal> {
         match *request {
-            Request::Set { key, setpoint } if self.servers[target].len() < MOST_HELD => {
-                Ok(Due::Append(Version { key, setpoint }))
+            Request::Set { key, badge, setpoint } if self.servers[target].len() < MOST_HELD => {
+                Ok(Due::Append(Version { key, badge, setpoint }))
             }
             Request::Enter { key, mask } if self.log.len() < MOST_HELD => Ok(Due::Enter(Entry { key, mask })),
             Request::Set { .. } | Request::Enter { .. } => Err(Refusal::FullOrNotHeld),
             Request::WhichKeys => Ok(Due::TellKeys),
-            Request::Get { key } => setpoint_of(&self.servers[target], key).map(Due::TellSetpoint).ok_or(Refusal::FullOrNotHeld),
+            Request::Get { key } => version_of(&self.servers[target], key).map(Due::TellVersion).ok_or(Refusal::FullOrNotHeld),
             Request::GetAll => Ok(Due::TellVersions),
             Request::GetLog => Ok(Due::TellLog),
         }
@@ -55,13 +55,13 @@ impl Store {
             Due::Append(version) => self.append_version(target, version),
             Due::Enter(entry) => self.append_entry(client, entry),
             Due::TellKeys => self.newest_keys(),
-            Due::TellSetpoint(setpoint) => Reply::Got { setpoint },
+            Due::TellVersion(Version { badge, setpoint, .. }) => Reply::Got { badge, setpoint },
             Due::TellVersions => Reply::All { versions: self.servers[target].clone() },
             Due::TellLog => Reply::Log { entries: self.log.clone() },
         }
     }
 
-    /// "A request delivered there appends (key, setpoint)."
+    /// "A request delivered there appends (key, setpoint)", with the badge after the key.
     fn append_version(&mut self, server: usize, version: Version) -> Reply {
         self.servers[server].push(version);
         Reply::SetDone

@@ -48,7 +48,8 @@ impl Store {
         if !fits {
             return Err(Refusal::BadOpening);
         }
-        let first = |&setpoint: &u32| vec![Version { key: Key::OPENING, setpoint }];
+        // "the opening has badge 0"
+        let first = |&setpoint: &u32| vec![Version { key: Key::OPENING, badge: 0, setpoint }];
         Ok(Store {
             method,
             step: 1,
@@ -67,7 +68,7 @@ impl Store {
                 *self = Store::open(*method, *servers, *clients, setpoints)?;
                 Ok(Answer::Ok)
             }
-            Step::BeginWrite { client, mask, setpoints } => self.begin_write(*client, *mask, setpoints),
+            Step::BeginWrite { client, mask, badge, setpoints } => self.begin_write(*client, *mask, *badge, setpoints),
             Step::BeginRead { client, mask } => self.begin_read(*client, *mask),
             Step::DeliverRequest { client, target } => self.deliver_request(*client, *target),
             Step::DeliverReply { client, target } => self.deliver_reply(*client, *target),

@@ -1,8 +1,8 @@
-//! The bench cards that are about steps, and the tags that READs show.
+//! The bench cards that are about steps, and the tags and badges that READs show.
 
 use model::history::{listing, Listed};
 use model::key::{latest, servers_of, Entry, Key, Latest};
-use model::{replay, Answer, ReadRecord, Refusal, Shown, Store};
+use model::{replay, Answer, Link, ReadRecord, Refusal, Request, Shown, Store, Version};
 
 fn opened(method: u32, servers: u32, clients: u32) -> Store {
     let setpoints: Vec<u32> = (0..servers).map(|server| 100 + server).collect();
@@ -15,19 +15,30 @@ fn cross(store: &mut Store, client: u32, target: u32) -> Answer {
     store.deliver_reply(client, target).expect("a reply")
 }
 
-/// A WRITE of one value to the servers of a mask, from its begin to its end.
+/// A WRITE of one value to the servers of a mask, from its begin to its end, with badge 0.
 fn write_to(store: &mut Store, client: u32, mask: u32, setpoint: u32) -> Answer {
+    write_by(store, client, mask, 0, setpoint)
+}
+
+/// The same with any badge.
+fn write_by(store: &mut Store, client: u32, mask: u32, badge: u16, setpoint: u32) -> Answer {
     let setpoints = vec![setpoint; store.servers.len()];
-    store.begin_write(client, mask, &setpoints).expect("accepted");
+    store.begin_write(client, mask, badge, &setpoints).expect("accepted");
     for server in servers_of(mask) {
         cross(store, client, server as u32);
     }
     cross(store, client, 16)
 }
 
-/// The answer of a READ, of each server its number, setpoint and tag.
+/// The answer of a READ, of each server its number, setpoint and tag, with badge 0.
 fn read(tag: usize, shown: &[(usize, u32, usize)]) -> Answer {
-    let shown = shown.iter().map(|&(server, setpoint, tag)| Shown { server, setpoint, tag });
+    let shown: Vec<_> = shown.iter().map(|&(server, setpoint, tag)| (server, setpoint, tag, 0)).collect();
+    read_by(tag, &shown)
+}
+
+/// The same with any badges.
+fn read_by(tag: usize, shown: &[(usize, u32, usize, u32)]) -> Answer {
+    let shown = shown.iter().map(|&(server, setpoint, tag, badge)| Shown { server, setpoint, tag, badge });
     Answer::Read { tag, shown: shown.collect() }
 }
 
@@ -40,9 +51,9 @@ fn method_1_wants_two_panels() {
 #[test]
 fn masks_of_two_stations() {
     assert_eq!(opened(2, 2, 1).begin_read(0, 4), Err(Refusal::BadMask));
-    assert_eq!(opened(2, 2, 1).begin_write(0, 4, &[1, 2]), Err(Refusal::BadMask));
+    assert_eq!(opened(2, 2, 1).begin_write(0, 4, 0, &[1, 2]), Err(Refusal::BadMask));
     assert_eq!(opened(2, 2, 1).begin_read(0, 3), Ok(Answer::Ok));
-    assert_eq!(opened(2, 2, 1).begin_write(0, 3, &[1, 2]), Ok(Answer::Ok));
+    assert_eq!(opened(2, 2, 1).begin_write(0, 3, 0, &[1, 2]), Ok(Answer::Ok));
 }
 
 #[test]
@@ -50,7 +61,7 @@ fn a_busy_panel_with_mask_0() {
     let mut store = opened(2, 2, 1);
     store.begin_read(0, 3).unwrap();
     assert_eq!(store.begin_read(0, 0), Err(Refusal::Busy));
-    assert_eq!(store.begin_write(0, 0, &[]), Err(Refusal::Busy));
+    assert_eq!(store.begin_write(0, 0, 0, &[]), Err(Refusal::Busy));
 }
 
 #[test]
@@ -76,8 +87,8 @@ fn c_one_write_seen_by_one_station_only() {
 fn c_does_not_stop_at_the_first_missing_key() {
     // Panel 0's entry is a, panel 1's is b; station 0 gets b first and is asked before a arrives.
     let mut store = opened(3, 2, 3);
-    store.begin_write(0, 1, &[7, 0]).unwrap();
-    store.begin_write(1, 1, &[8, 0]).unwrap();
+    store.begin_write(0, 1, 0, &[7, 0]).unwrap();
+    store.begin_write(1, 1, 0, &[8, 0]).unwrap();
     cross(&mut store, 1, 0);
     store.begin_read(2, 1).unwrap();
     store.deliver_request(2, 0).unwrap();
@@ -95,7 +106,7 @@ fn write_256_is_refused() {
         for number in 1..=255 {
             assert_eq!(write_to(&mut store, 1, 1, 5), Answer::Write { tag: number });
         }
-        assert_eq!(store.begin_write(1, 1, &[5]), Err(Refusal::Exhausted));
+        assert_eq!(store.begin_write(1, 1, 0, &[5]), Err(Refusal::Exhausted));
         assert_eq!(store.log.len(), 256);
         assert_eq!(store.servers[0].len(), 256);
     }
@@ -130,7 +141,7 @@ fn numbers_are_not_cut() {
 #[test]
 fn a_reads_at_the_head_and_writes_elsewhere() {
     let mut store = opened(1, 1, 2);
-    assert_eq!(store.begin_write(0, 1, &[5]), Err(Refusal::WrongPart));
+    assert_eq!(store.begin_write(0, 1, 0, &[5]), Err(Refusal::WrongPart));
     assert_eq!(store.begin_read(1, 1), Err(Refusal::WrongPart));
     assert_eq!(store.deliver_request(0, 16), Err(Refusal::NothingThere));
 }
@@ -149,7 +160,7 @@ fn one_write_to_one_station_then_a_read_of_both() {
         let answers: Vec<Answer> = both(method).iter().map(|&target| cross(&mut store, 0, target)).collect();
         let last = answers.last().expect("an answer");
         assert_eq!(*last, read(1, &[(0, 1800, 1), (1, 101, 0)]));
-        assert_eq!(last.to_string(), "read 1 0=1800@1 1=101@0");
+        assert_eq!(last.to_string(), "read 1 0=1800@1#0 1=101@0#0");
     }
 }
 
@@ -209,6 +220,93 @@ fn c_keeps_no_tags() {
     cross(&mut store, 0, 0);
     assert_eq!(cross(&mut store, 0, 16), read(1, &[(0, 7, 1)]));
     assert_eq!(kept(&store), [0, 1]);
+}
+
+/// Client 0 reads both servers; the last reply's answer.
+fn read_both(store: &mut Store) -> Answer {
+    let method = store.method as u32;
+    store.begin_read(0, 3).unwrap();
+    both(method).iter().map(|&target| cross(store, 0, target)).last().expect("an answer")
+}
+
+/// Document 02's `0=1800@1#7`, and the opening's badge 0 beside it.
+#[test]
+fn a_badge_behind_each_tag() {
+    for method in 1..=3 {
+        let mut store = opened(method, 2, 2);
+        write_by(&mut store, 1, 1, 7, 1800);
+        let answer = read_both(&mut store);
+        assert_eq!(answer, read_by(1, &[(0, 1800, 1, 7), (1, 101, 0, 0)]));
+        assert_eq!(answer.to_string(), "read 1 0=1800@1#7 1=101@0#0");
+    }
+}
+
+/// Each of two servers shows the badge of the WRITE that wrote it last, whichever was the last of all; 65535 is a badge like others.
+#[test]
+fn badges_of_two_writes() {
+    for method in 1..=3 {
+        let mut store = opened(method, 2, 3);
+        write_by(&mut store, 1, 3, 65535, 1800);
+        write_by(&mut store, 2, 2, 9, 1800);
+        assert_eq!(read_both(&mut store), read_by(2, &[(0, 1800, 1, 65535), (1, 1800, 2, 9)]));
+        write_by(&mut store, 1, 1, 0, 1800);
+        assert_eq!(read_both(&mut store), read_by(3, &[(0, 1800, 3, 0), (1, 1800, 2, 9)]));
+    }
+}
+
+/// A READ that looks at an older tag shows that WRITE's badge, though the server has a newer version with another.
+#[test]
+fn the_badge_of_the_asked_key() {
+    for method in 1..=3 {
+        let mut store = opened(method, 1, 2);
+        write_by(&mut store, 1, 1, 7, 5);
+        store.begin_read(0, 1).unwrap();
+        if method == 2 {
+            cross(&mut store, 0, 16);
+        } else if method == 3 {
+            store.deliver_request(0, 16).unwrap();
+        }
+        store.begin_write(1, 1, 8, &[5]).unwrap();
+        cross(&mut store, 1, 0);
+        store.deliver_request(0, 0).unwrap();
+        if method == 3 {
+            assert_eq!(store.deliver_reply(0, 16), Ok(Answer::Wait));
+        }
+        assert_eq!(store.deliver_reply(0, 0), Ok(read_by(1, &[(0, 5, 1, 7)])));
+    }
+}
+
+/// "a panel stores it with each wanted setpoint", under C at the end; of others, and behind the end, it stays.
+#[test]
+fn badges_are_stored_with_the_setpoints() {
+    for method in 1..=3 {
+        let mut store = opened(method, 2, 2);
+        write_by(&mut store, 1, 3, 7, 5);
+        store.clients[0].badges = [11; 16];
+        store.begin_read(0, 1).unwrap();
+        for &target in both(method).iter().filter(|&&target| target != 1) {
+            assert_eq!(store.clients[0].badges, [11; 16]);
+            cross(&mut store, 0, target);
+        }
+        let mut stored = [11; 16];
+        stored[0] = 7;
+        assert_eq!(store.clients[0].badges, stored);
+        // A WRITE stores its setpoints in its panel, and no badge.
+        assert_eq!(store.clients[1].badges, [0; 16]);
+    }
+}
+
+/// A WRITE's badge is in its set requests, in the versions and in its record.
+#[test]
+fn where_a_writes_badge_stands() {
+    let mut store = opened(2, 2, 2);
+    store.begin_write(0, 2, 65535, &[1, 2]).unwrap();
+    let key = Key { count: 1, client: 0 };
+    assert_eq!(store.clients[0].links[1], Link::Request(Request::Set { key, badge: 65535, setpoint: 2 }));
+    store.deliver_request(0, 1).unwrap();
+    assert_eq!(store.servers[1][1], Version { key, badge: 65535, setpoint: 2 });
+    assert_eq!(store.writes[0].badge, 65535);
+    assert!(store.servers.iter().all(|held| held[0].badge == 0));
 }
 
 /// A READ record of a tag, with its panel as its name.

@@ -75,7 +75,7 @@ fn the_numbering() {
 /// Method B, k 2, p 2, seed 0.
 #[test]
 fn the_worked_example() {
-    let lines = "W 0 3 1 1\nR 1 3\n> 1 16\n< 1 16\n> 0 1\n> 1 1\n> 1 0\n< 1 0\n< 0 1\n< 1 1\n> 0 0\n< 0 0\n";
+    let lines = "W 0 3 0 1 1\nR 1 3\n> 1 16\n< 1 16\n> 0 1\n> 1 1\n> 1 0\n< 1 0\n< 0 1\n< 1 1\n> 0 0\n< 0 0\n";
     let expected: Vec<Step> = model::line::lines(lines.as_bytes()).map(|line| model::line::step_of(line).unwrap()).collect();
     let (steps, end) = played(&mut opened(2, 2, 2), 0, 12);
     assert_eq!(steps, expected);
@@ -88,7 +88,7 @@ fn the_first_pick_is_by_the_number_behind_the_seed() {
     let store = opened(2, 1, 2);
     let seed = 0xFFFF_FFFF;
     assert_eq!((store.acceptable().len(), place(seed, 4), place(advance(seed), 4)), (4, 3, 0));
-    let step = Step::BeginWrite { client: 0, mask: 1, setpoints: vec![1] };
+    let step = Step::BeginWrite { client: 0, mask: 1, badge: 0, setpoints: vec![1] };
     assert_eq!(store.next_step(seed), Some(Pick { seed: advance(seed), step }));
 }
 
@@ -104,14 +104,14 @@ fn a_request_comes_ahead_of_a_reply() {
 }
 
 #[test]
-fn a_writes_setpoints_are_its_count() {
+fn a_writes_setpoints_are_its_count_and_its_badge_is_0() {
     let mut store = opened(3, 2, 1);
     let (steps, _) = played(&mut store, 9, u32::MAX);
-    let setpoints = steps.iter().filter_map(|step| match step {
-        Step::BeginWrite { setpoints, .. } => Some(setpoints.clone()),
+    let given = steps.iter().filter_map(|step| match step {
+        Step::BeginWrite { badge, setpoints, .. } => Some((*badge, setpoints.clone())),
         _ => None,
     });
-    assert!(setpoints.eq((1..=255).map(|count| vec![count; 2])));
+    assert!(given.eq((1..=255).map(|count| (0, vec![count; 2]))));
 }
 
 #[test]
@@ -137,7 +137,7 @@ fn what_a_limit_refuses_is_not_acceptable() {
     assert_eq!(store.next_step(5), None);
 
     let mut store = opened(2, 1, 2);
-    store.begin_write(0, 1, &[1]).unwrap();
+    store.begin_write(0, 1, 0, &[1]).unwrap();
     store.begin_read(1, 1).unwrap();
     store.deliver_request(1, 16).unwrap();
     store.deliver_reply(1, 16).unwrap();
@@ -149,7 +149,7 @@ fn what_a_limit_refuses_is_not_acceptable() {
     assert_eq!(store.acceptable(), [Numbered::Request { client: 0, target: 0 }]);
 
     let mut store = opened(2, 1, 1);
-    store.begin_write(0, 1, &[1]).unwrap();
+    store.begin_write(0, 1, 0, &[1]).unwrap();
     store.deliver_request(0, 0).unwrap();
     store.deliver_reply(0, 0).unwrap();
     assert_eq!(store.acceptable(), [Numbered::Request { client: 0, target: 16 }]);

@@ -2,7 +2,7 @@
 
 use crate::lines::line_of;
 use crate::random::Random;
-use crate::wrong::{self, Size};
+use crate::wrong::{self, badge, Size};
 use model::{Link, Method, Player, State, Step, Store};
 
 /// What a section is after.
@@ -15,6 +15,9 @@ enum Aim {
     /// As many READs as can begin, and one more.
     AllReads,
 }
+
+/// The setpoint of every WRITE whose setpoints are not its own: tags and badges alone tell these WRITEs apart.
+const EQUAL_SETPOINT: u32 = 1800;
 
 /// A schedule in the making, with the store as the lines so far left it.
 pub struct Generator {
@@ -99,8 +102,11 @@ impl Generator {
         Step::Open { method, servers, clients, setpoints }
     }
 
-    /// Setpoints that no WRITE gave before, now and then at the ends of their range.
+    /// Setpoints that no WRITE gave before, now and then at the ends of their range, or equal ones.
     fn setpoints(&mut self, servers: usize) -> Vec<u32> {
+        if self.random.chance(1, 10) {
+            return vec![EQUAL_SETPOINT; servers];
+        }
         let edge = self.random.chance(1, 20);
         let mut fresh = || {
             self.fresh = self.fresh.wrapping_add(1);
@@ -197,8 +203,8 @@ impl Generator {
         let mask = self.mask(servers);
         let client = client as u32;
         if writes {
-            let setpoints = self.setpoints(servers);
-            Step::BeginWrite { client, mask, setpoints }
+            let (badge, setpoints) = (badge(&mut self.random), self.setpoints(servers));
+            Step::BeginWrite { client, mask, badge, setpoints }
         } else {
             Step::BeginRead { client, mask }
         }

@@ -11,3 +11,4 @@ pub use generator::{schedule, Generator};
 pub use lines::line_of;
 pub use load::load_text;
 pub use random::Random;
+pub use wrong::badge;

@@ -6,7 +6,9 @@ use model::Step;
 pub fn line_of(step: &Step) -> Vec<u8> {
     let (letter, numbers) = match step {
         Step::Open { method, servers, clients, setpoints } => ('O', [&[*method, *servers, *clients], &setpoints[..]].concat()),
-        Step::BeginWrite { client, mask, setpoints } => ('W', [&[*client, *mask], &setpoints[..]].concat()),
+        Step::BeginWrite { client, mask, badge, setpoints } => {
+            ('W', [&[*client, *mask, u32::from(*badge)], &setpoints[..]].concat())
+        }
         Step::BeginRead { client, mask } => ('R', vec![*client, *mask]),
         Step::DeliverRequest { client, target } => ('>', vec![*client, *target]),
         Step::DeliverReply { client, target } => ('<', vec![*client, *target]),

@@ -15,7 +15,7 @@ pub struct Size {
 pub fn unreadable(random: &mut Random, size: Size) -> Vec<u8> {
     let good = line_of(&step_of_any_kind(random, size));
     let letter = random.pick(b"OWR><");
-    match random.below(19) {
+    match random.below(21) {
         0 => Vec::new(),
         1 => vec![b' '],
         2 => vec![letter],
@@ -34,6 +34,8 @@ pub fn unreadable(random: &mut Random, size: Size) -> Vec<u8> {
         15 => format!("{} {}", letter as char, random.below(3)).into_bytes(),
         16 => [&good[..], b" 1 2 3"].concat(),
         17 => noise(random),
+        18 => no_badge(random, size),
+        19 => beyond_badges(random, size),
         _ => too_long(random),
     }
 }
@@ -42,6 +44,22 @@ pub fn unreadable(random: &mut Random, size: Size) -> Vec<u8> {
 fn replaced(line: &[u8], by: &[u8]) -> Vec<u8> {
     let space = line.iter().position(|&byte| byte == b' ').unwrap_or(0);
     [&line[..space], by, &line[space + 1..]].concat()
+}
+
+/// A W line that ends before its badge.
+fn no_badge(random: &mut Random, size: Size) -> Vec<u8> {
+    format!("W {} {}", client(random, size.clients), mask(random, size.servers)).into_bytes()
+}
+
+/// A W line with a number for its badge that has more than 16 bits, good or not in all else.
+fn beyond_badges(random: &mut Random, size: Size) -> Vec<u8> {
+    let badge = match random.below(3) {
+        0 => 65_536,
+        1 => random.pick(&[65_537, 65_543, 131_071, 131_072, 1 << 31, u32::MAX - 65_535, u32::MAX]),
+        _ => (random.draw() as u32).max(65_536),
+    };
+    let setpoints = " 7".repeat(random.pick(&[0, 1, size.servers, size.servers]));
+    format!("W {} {} {badge}{setpoints}", client(random, size.clients), mask(random, size.servers)).into_bytes()
 }
 
 /// Bytes of any value but 10.
@@ -57,7 +75,7 @@ fn noise(random: &mut Random) -> Vec<u8> {
 /// A line of numbers that has about 200 bytes: 200 is a line, 201 is none.
 fn too_long(random: &mut Random) -> Vec<u8> {
     let length = random.pick(&[199, 200, 201, 202, 203, 400, 401, 1000, 5000]);
-    let start = random.pick(&[&b"O 2 1 1"[..], b"W 0 1", b"R 0 1", b"> 0 0", b"xyz"]);
+    let start = random.pick(&[&b"O 2 1 1"[..], b"W 0 1 0", b"R 0 1", b"> 0 0", b"xyz"]);
     let mut line = start.to_vec();
     while line.len() + 2 <= length {
         line.extend(b" 7");
@@ -73,11 +91,22 @@ pub fn step_of_any_kind(random: &mut Random, size: Size) -> Step {
         0 => bad_opening(random),
         1 => {
             let setpoints = (0..random.below(18)).map(|place| place as u32).collect();
-            Step::BeginWrite { client, mask: mask(random, size.servers), setpoints }
+            Step::BeginWrite { client, mask: mask(random, size.servers), badge: badge(random), setpoints }
         }
         2 => Step::BeginRead { client, mask: mask(random, size.servers) },
         3 => Step::DeliverRequest { client, target: target(random, size.servers) },
         _ => Step::DeliverReply { client, target: target(random, size.servers) },
+    }
+}
+
+/// A badge, often 0, 7 or one at an end of its range or of a byte's.
+pub fn badge(random: &mut Random) -> u16 {
+    match random.below(8) {
+        0 | 1 => 0,
+        2 => 7,
+        3 => 65_535,
+        4 => random.pick(&[1, 255, 256, 256 + 7, 32_768, 65_534]),
+        _ => random.draw() as u16,
     }
 }
 

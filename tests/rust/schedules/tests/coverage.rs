@@ -36,6 +36,35 @@ fn about_a_third_of_the_lines_is_refused() {
     assert!((30..37).contains(&(100 * refused / all)), "{refused} of {all}");
 }
 
+/// The numbers of a W line, where nothing else stands behind its letter.
+fn write_numbers(line: &[u8]) -> Option<Vec<u32>> {
+    let text = std::str::from_utf8(line).ok()?;
+    text.strip_prefix("W ")?.split(' ').map(|word| word.parse().ok()).collect()
+}
+
+/// The badges of accepted WRITEs, and W lines whose badge is none or missing.
+#[test]
+fn badges_of_every_kind_occur() {
+    let (mut accepted, mut beyond, mut missing) = (BTreeMap::new(), 0, 0);
+    for seed in 60..100 {
+        let mut player = Player::default();
+        for line in line::lines(&schedule(seed, 12)) {
+            let outcome = player.take_line(line);
+            match write_numbers(line).as_deref() {
+                Some(&[_, _, badge, ..]) if outcome.is_ok() => *accepted.entry(badge).or_insert(0) += 1,
+                Some(&[_, _, badge, ..]) if badge >= 65_536 => beyond += 1,
+                Some([_, _]) => missing += 1,
+                _ => {}
+            }
+        }
+    }
+    for badge in [0, 7, 255, 256, 263, 65_535] {
+        assert!(accepted.contains_key(&badge), "{badge}: {accepted:?}");
+    }
+    assert!(accepted.keys().all(|&badge| badge < 65_536) && accepted.len() > 100);
+    assert!(beyond > 20 && missing > 20, "{beyond} beyond 65,535, {missing} missing");
+}
+
 #[test]
 fn the_same_seed_gives_the_same_text() {
     assert_eq!(schedule(7, 3), schedule(7, 3));

@@ -9,7 +9,7 @@ fn printed(line: &str) -> String {
 
 #[test]
 fn the_worked_example() {
-    let lines = "O 2 2 2 0 0\nW 0 3 1 1\nR 1 3\n> 1 16\n< 1 16\n> 0 1\n> 1 1\n> 1 0\n< 1 0\n< 0 1\n< 1 1\n> 0 0\n< 0 0\n";
+    let lines = "O 2 2 2 0 0\nW 0 3 0 1 1\nR 1 3\n> 1 16\n< 1 16\n> 0 1\n> 1 1\n> 1 0\n< 1 0\n< 0 1\n< 1 1\n> 0 0\n< 0 0\n";
     assert_eq!(printed("0 12 2 2 2\n"), lines);
     assert_eq!(printed("0 12 2 2 2"), lines);
     assert_eq!(printed("0 3 2 2 2\n"), lines[..lines.find("< 1 16").unwrap()]);

@@ -9,7 +9,7 @@ pub struct Tables {
     pub clients: Vec<u32>,
     pub links: Vec<u32>,
     pub keys: Vec<u32>,
-    pub setpoints: Vec<u32>,
+    pub values: Vec<u32>,
     pub log: Vec<u32>,
     pub writes: Vec<u32>,
     pub reads: Vec<u32>,
@@ -17,13 +17,14 @@ pub struct Tables {
 
 /// Words of each table's row, and rows of a fixed number.
 pub const COUNTS_WORDS: usize = 23;
-pub const CLIENT_WORDS: usize = 54;
-pub const LINK_WORDS: usize = 3;
+pub const CLIENT_WORDS: usize = 70;
+pub const LINK_WORDS: usize = 4;
 pub const LINKS_OF_CLIENT: usize = 17;
 pub const VERSIONS_OF_SERVER: usize = 256;
+pub const VALUE_WORDS: usize = 2;
 pub const LOG_WORDS: usize = 2;
 pub const LOG_ENTRIES: usize = 256;
-pub const RECORD_WORDS: usize = 5;
+pub const RECORD_WORDS: usize = 6;
 pub const RECORDS: usize = 255;
 
 /// Places in the counts.
@@ -45,6 +46,12 @@ pub const RECORD: usize = 4;
 pub const SETPOINTS: usize = 5;
 pub const RECEIVED: usize = 21;
 pub const TAGS: usize = 38;
+pub const BADGES: usize = 54;
+
+/// The place of the badge in a link's words and in a record's, and how many badges there are.
+pub const LINK_BADGE: usize = 3;
+pub const RECORD_BADGE: usize = 5;
+pub const BADGES_BELOW: u32 = 65_536;
 
 /// Kinds of what a link holds.
 pub const NOTHING: u32 = 0;
@@ -58,7 +65,7 @@ pub fn needed(servers: usize, clients: usize) -> [usize; 8] {
         CLIENT_WORDS * clients,
         LINK_WORDS * LINKS_OF_CLIENT * clients,
         VERSIONS_OF_SERVER * servers,
-        VERSIONS_OF_SERVER * servers,
+        VALUE_WORDS * VERSIONS_OF_SERVER * servers,
         LOG_WORDS * LOG_ENTRIES,
         RECORD_WORDS * RECORDS,
         RECORD_WORDS * RECORDS,
@@ -82,7 +89,7 @@ impl Tables {
             &mut self.clients,
             &mut self.links,
             &mut self.keys,
-            &mut self.setpoints,
+            &mut self.values,
             &mut self.log,
             &mut self.writes,
             &mut self.reads,
@@ -91,7 +98,7 @@ impl Tables {
 
     /// The same to read.
     pub fn all(&self) -> [&Vec<u32>; 8] {
-        [&self.counts, &self.clients, &self.links, &self.keys, &self.setpoints, &self.log, &self.writes, &self.reads]
+        [&self.counts, &self.clients, &self.links, &self.keys, &self.values, &self.log, &self.writes, &self.reads]
     }
 
     /// The words of each table, in the same order.
@@ -111,6 +118,11 @@ impl Tables {
         &self.links[link_place(client, target)..][..LINK_WORDS]
     }
 
+    /// A version's badge and setpoint.
+    pub fn value(&self, server: usize, place: usize) -> &[u32] {
+        &self.values[value_place(server, place)..][..VALUE_WORDS]
+    }
+
     pub fn entry(&self, tag: usize) -> &[u32] {
         &self.log[LOG_WORDS * tag..][..LOG_WORDS]
     }
@@ -127,6 +139,11 @@ impl Tables {
 /// Links stand at 17 times the client plus the target.
 pub fn link_place(client: usize, target: usize) -> usize {
     LINK_WORDS * (LINKS_OF_CLIENT * client + target)
+}
+
+/// The values of a server's versions stand at 256 times the server plus the version's place, badge first.
+pub fn value_place(server: usize, place: usize) -> usize {
+    VALUE_WORDS * (VERSIONS_OF_SERVER * server + place)
 }
 
 /// "a key is 256 times its count plus its client", back.

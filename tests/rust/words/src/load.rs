@@ -7,7 +7,7 @@ use model::load::Pick;
 use model::{Refusal, Step};
 
 /// A step's row: kind (0 a WRITE, 1 a READ, 2 a request, 3 a reply), client, the begin's mask or the target, and the WRITE's
-/// setpoint, else 0.
+/// setpoint, else 0. A WRITE's badge has no word: in a load it is 0.
 pub const STEP_WORDS: usize = 4;
 
 /// The answer where no step is acceptable: no refusal, and no step.
@@ -38,7 +38,7 @@ pub struct LoadEnd {
 /// The row of a step that a load gives.
 fn row_of(step: &Step) -> [u32; STEP_WORDS] {
     match *step {
-        Step::BeginWrite { client, mask, ref setpoints } => [0, client, mask, setpoints[0]],
+        Step::BeginWrite { client, mask, ref setpoints, .. } => [0, client, mask, setpoints[0]],
         Step::BeginRead { client, mask } => [1, client, mask, 0],
         Step::DeliverRequest { client, target } => [2, client, target, 0],
         Step::DeliverReply { client, target } => [3, client, target, 0],

@@ -21,10 +21,16 @@ pub fn store_of(tables: &Tables) -> Store {
 }
 
 fn versions(tables: &Tables, server: usize) -> Vec<Version> {
-    let first = VERSIONS_OF_SERVER * server;
-    let places = first..first + tables.count(HELD + server);
-    let version = |place| Version { key: key_of(tables.keys[place]), setpoint: tables.setpoints[place] };
-    places.map(version).collect()
+    let keys = &tables.keys[VERSIONS_OF_SERVER * server..];
+    let version = |place: usize| {
+        let value = tables.value(server, place);
+        Version { key: key_of(keys[place]), badge: badge_of(value[0]), setpoint: value[1] }
+    };
+    (0..tables.count(HELD + server)).map(version).collect()
+}
+
+fn badge_of(word: u32) -> u16 {
+    u16::try_from(word).expect("sound tables have badges of 16 bits")
 }
 
 fn entry(tables: &Tables, tag: usize) -> Entry {
@@ -44,6 +50,7 @@ fn write_record(words: &[u32]) -> WriteRecord {
         tag: words[2] as usize,
         begin: words[3],
         end: end_of(words[4]),
+        badge: badge_of(words[RECORD_BADGE]),
     }
 }
 
@@ -73,6 +80,7 @@ fn client_of(tables: &Tables, servers: &[Vec<Version>], log: &[Entry], client: u
         tag: row[TAG] as usize,
         setpoints: row[SETPOINTS..RECEIVED].try_into().expect("16 setpoints"),
         tags: std::array::from_fn(|server| row[TAGS + server] as usize),
+        badges: row[BADGES..CLIENT_WORDS].try_into().expect("16 badges"),
         log: log[..received[COORDINATOR] as usize].to_vec(),
         record: row[RECORD] as usize,
         ..Client::default()
@@ -91,14 +99,14 @@ fn link_of(words: &[u32], state: State, target: usize, servers: &[Vec<Version>],
     match words[0] {
         NOTHING => Link::Nothing,
         REQUEST => Link::Request(request_of(words, state, target)),
-        _ => Link::Reply(reply_of(words[2], state, target, servers, log)),
+        _ => Link::Reply(reply_of(words, state, target, servers, log)),
     }
 }
 
 fn request_of(words: &[u32], state: State, target: usize) -> Request {
     let key = key_of(words[1]);
     match state {
-        State::WritingSetpoints => Request::Set { key, setpoint: words[2] },
+        State::WritingSetpoints => Request::Set { key, badge: badge_of(words[LINK_BADGE]), setpoint: words[2] },
         State::WaitingForTag => Request::Enter { key, mask: words[2] },
         State::AskingCoordinator => Request::WhichKeys,
         State::AskingSetpoints => Request::Get { key },
@@ -108,7 +116,8 @@ fn request_of(words: &[u32], state: State, target: usize) -> Request {
     }
 }
 
-fn reply_of(number: u32, state: State, target: usize, servers: &[Vec<Version>], log: &[Entry]) -> Reply {
+fn reply_of(words: &[u32], state: State, target: usize, servers: &[Vec<Version>], log: &[Entry]) -> Reply {
+    let number = words[2];
     let first = number as usize;
     match state {
         State::WritingSetpoints => Reply::SetDone,
@@ -118,7 +127,7 @@ fn reply_of(number: u32, state: State, target: usize, servers: &[Vec<Version>], 
             let keys = (0..servers.len()).map(|server| latest(log, server, tag));
             Reply::Keys { tag, keys: keys.collect() }
         }
-        State::AskingSetpoints => Reply::Got { setpoint: number },
+        State::AskingSetpoints => Reply::Got { badge: badge_of(words[LINK_BADGE]), setpoint: number },
         State::AskingAll if target == COORDINATOR => Reply::Log { entries: log[..first].to_vec() },
         State::AskingAll => Reply::All { versions: servers[target][..first].to_vec() },
         State::Idle => unreachable!("an idle client's links are empty"),

@@ -76,10 +76,16 @@ fn scalars(tables: &Tables, press: &Press) -> bool {
         && (0..press.servers).all(|server| (1..=VERSIONS_OF_SERVER).contains(&tables.count(HELD + server)))
 }
 
-/// "each station's first version bears the opening's key"
+/// "every number in its range": a badge has 16 bits.
+fn badge(word: u32) -> bool {
+    word < BADGES_BELOW
+}
+
+/// "each station's first version bears the opening's key"; its badge is any.
 fn versions(tables: &Tables, press: &Press, server: usize) -> bool {
-    let keys = &tables.keys[VERSIONS_OF_SERVER * server..][..tables.count(HELD + server)];
-    keys[0] == 0 && keys.iter().all(|&key| press.key(key))
+    let held = tables.count(HELD + server);
+    let keys = &tables.keys[VERSIONS_OF_SERVER * server..][..held];
+    keys[0] == 0 && keys.iter().all(|&key| press.key(key)) && (0..held).all(|place| badge(tables.value(server, place)[0]))
 }
 
 /// "tag 0 holds it with all k stations"
@@ -91,13 +97,13 @@ fn log(tables: &Tables, press: &Press) -> bool {
     tables.entry(0) == [0, press.all_servers()] && (0..tables.count(ENTRIES)).all(entry_sound)
 }
 
-/// The records' numbers in their ranges; begin and end are any.
+/// The records' numbers in their ranges; begin and end are any, and so is a READ's word in the place of a badge.
 fn records(tables: &Tables, press: &Press) -> bool {
     let owner = |record: &[u32]| (record[0] as usize) < press.clients;
     let tag = |record: &[u32]| (record[2] as usize) < tables.count(ENTRIES);
     let write = |place| {
         let record = tables.write(place);
-        owner(record) && (1..=255).contains(&record[1]) && tag(record)
+        owner(record) && (1..=255).contains(&record[1]) && tag(record) && badge(record[RECORD_BADGE])
     };
     let read = |place| {
         let record = tables.read(place);
@@ -121,6 +127,7 @@ fn client_sound(tables: &Tables, press: &Press, client: usize) -> bool {
         && (press.mask(mask) || (state == 0 && mask == 0))
         && (row[TAG] as usize) < tables.count(ENTRIES)
         && (0..press.servers).all(|server| (row[TAGS + server] as usize) < tables.count(ENTRIES))
+        && (0..press.servers).all(|server| badge(row[BADGES + server]))
         && (0..LINKS_OF_CLIENT).all(|target| link_sound(tables, press, client, target))
         && (0..LINKS_OF_CLIENT).all(|target| received_sound(tables, client, target))
         && waits(tables, client)
@@ -149,7 +156,7 @@ fn link_sound(tables: &Tables, press: &Press, client: usize, target: usize) -> b
     match link[0] {
         NOTHING => true,
         REQUEST => sends_to(row, target) && request_sound(press, client, row[STATE], link),
-        REPLY => sends_to(row, target) && reply_sound(tables, row[STATE], target, link[2] as usize),
+        REPLY => sends_to(row, target) && reply_sound(tables, row[STATE], target, link),
         _ => false,
     }
 }
@@ -158,19 +165,21 @@ fn link_sound(tables: &Tables, press: &Press, client: usize, target: usize) -> b
 fn request_sound(press: &Press, client: usize, state: u32, link: &[u32]) -> bool {
     let own_key = (256..65536).contains(&link[1]) && link[1] as usize % 256 == client;
     match state {
-        1 => own_key,
+        1 => own_key && badge(link[LINK_BADGE]),
         2 => own_key && press.mask(link[2]),
         4 => press.key(link[1]),
         _ => true,
     }
 }
 
-/// A reply's contents: a tag of at least 1 within the log, or an n of at least 1 and no more than is held.
-fn reply_sound(tables: &Tables, state: u32, target: usize, number: usize) -> bool {
+/// A reply's contents: a tag of at least 1 within the log, or an n of at least 1 and no more than is held, or a badge.
+fn reply_sound(tables: &Tables, state: u32, target: usize, link: &[u32]) -> bool {
     let entries = tables.count(ENTRIES);
+    let number = link[2] as usize;
     match state {
         2 => (1..entries).contains(&number),
         3 => (1..=entries).contains(&number),
+        4 => badge(link[LINK_BADGE]),
         5 if target == COORDINATOR => (1..=entries).contains(&number),
         5 => (1..=tables.count(HELD + target)).contains(&number),
         _ => true,

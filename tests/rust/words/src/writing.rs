@@ -40,6 +40,10 @@ pub fn write_changes(tables: &mut Tables, before: &Store, after: &Store) {
             put(&mut tables.reads, RECORD_WORDS * place, &read_words(record));
         }
     }
+    // A READ has no badge: its record's last word is written with it, as 0, and kept from then on.
+    for place in before.reads.len()..after.reads.len() {
+        tables.reads[RECORD_WORDS * place + RECORD_BADGE] = 0;
+    }
 }
 
 fn put(table: &mut [u32], place: usize, words: &[u32]) {
@@ -64,7 +68,7 @@ fn write_counts(tables: &mut Tables, store: &Store) {
 
 fn write_version(tables: &mut Tables, server: usize, place: usize, version: Version) {
     tables.keys[VERSIONS_OF_SERVER * server + place] = version.key.word();
-    tables.setpoints[VERSIONS_OF_SERVER * server + place] = version.setpoint;
+    put(&mut tables.values, value_place(server, place), &[u32::from(version.badge), version.setpoint]);
 }
 
 fn write_entry(tables: &mut Tables, store: &Store, tag: usize) {
@@ -72,12 +76,13 @@ fn write_entry(tables: &mut Tables, store: &Store, tag: usize) {
     put(&mut tables.log, LOG_WORDS * tag, &[entry.key.word(), entry.mask]);
 }
 
-fn write_words(record: &WriteRecord) -> [u32; 5] {
-    let WriteRecord { client, count, tag, begin, end } = *record;
-    [client as u32, u32::from(count), tag as u32, begin, end.unwrap_or(0)]
+fn write_words(record: &WriteRecord) -> [u32; RECORD_WORDS] {
+    let WriteRecord { client, count, tag, begin, end, badge } = *record;
+    [client as u32, u32::from(count), tag as u32, begin, end.unwrap_or(0), u32::from(badge)]
 }
 
-fn read_words(record: &ReadRecord) -> [u32; 5] {
+/// All but the word in the place of a badge.
+fn read_words(record: &ReadRecord) -> [u32; RECORD_BADGE] {
     let ReadRecord { client, mask, tag, begin, end } = *record;
     [client as u32, mask, tag as u32, begin, end.unwrap_or(0)]
 }
@@ -107,27 +112,35 @@ fn client_words(client: &Client) -> [u32; CLIENT_WORDS] {
     for (server, &tag) in client.tags.iter().enumerate() {
         row[TAGS + server] = tag as u32;
     }
+    row[BADGES..].copy_from_slice(&client.badges);
     row
 }
 
 fn link_words(link: &Link) -> [u32; LINK_WORDS] {
     match link {
-        Link::Nothing => [NOTHING, 0, 0],
+        Link::Nothing => [NOTHING, 0, 0, 0],
         Link::Request(request) => {
-            let (key, number) = request_words(request);
-            [REQUEST, key, number]
+            let (key, number, badge) = request_words(request);
+            [REQUEST, key, number, badge]
         }
-        Link::Reply(reply) => [REPLY, 0, reply_number(reply)],
+        Link::Reply(reply) => [REPLY, 0, reply_number(reply), reply_badge(reply)],
     }
 }
 
 /// "what a message does not carry is written as 0"
-fn request_words(request: &Request) -> (u32, u32) {
+fn request_words(request: &Request) -> (u32, u32, u32) {
     match *request {
-        Request::Set { key, setpoint } => (key.word(), setpoint),
-        Request::Enter { key, mask } => (key.word(), mask),
-        Request::Get { key } => (key.word(), 0),
-        Request::WhichKeys | Request::GetAll | Request::GetLog => (0, 0),
+        Request::Set { key, badge, setpoint } => (key.word(), setpoint, u32::from(badge)),
+        Request::Enter { key, mask } => (key.word(), mask, 0),
+        Request::Get { key } => (key.word(), 0, 0),
+        Request::WhichKeys | Request::GetAll | Request::GetLog => (0, 0, 0),
+    }
+}
+
+fn reply_badge(reply: &Reply) -> u32 {
+    match reply {
+        Reply::Got { badge, .. } => u32::from(*badge),
+        _ => 0,
     }
 }
 
@@ -136,7 +149,7 @@ fn reply_number(reply: &Reply) -> u32 {
         Reply::SetDone => 0,
         Reply::Entered { tag } => *tag,
         Reply::Keys { tag, .. } => tag + 1,
-        Reply::Got { setpoint } => *setpoint as usize,
+        Reply::Got { setpoint, .. } => *setpoint as usize,
         Reply::All { versions } => versions.len(),
         Reply::Log { entries } => entries.len(),
     };

@@ -14,7 +14,7 @@ fn opened(method: u32, servers: u32, clients: u32) -> Tables {
 /// The step of a row, for a press of k stations.
 fn step_of(row: &[u32], servers: usize) -> Step {
     match *row {
-        [0, client, mask, setpoint] => Step::BeginWrite { client, mask, setpoints: vec![setpoint; servers] },
+        [0, client, mask, setpoint] => Step::BeginWrite { client, mask, badge: 0, setpoints: vec![setpoint; servers] },
         [1, client, mask, 0] => Step::BeginRead { client, mask },
         [2, client, target, 0] => Step::DeliverRequest { client, target },
         [3, client, target, 0] => Step::DeliverReply { client, target },
@@ -63,12 +63,12 @@ fn a_load_leaves_what_its_steps_leave() {
     }
 }
 
-/// What stands in a link that holds nothing is free, and a link that was used since is three zeros.
+/// What stands in a link that holds nothing is free, and a link that was used since is four zeros.
 #[test]
 fn a_link_that_is_empty_again_is_written() {
     let mut tables = opened(2, 1, 1);
     let (mut seed, mut list) = (4, vec![0; 4000]);
-    tables.links[1] = 5;
+    tables.links[1..4].fill(70_000);
     assert!(sound(&tables));
     while tables.links[0] == 0 {
         seed = play_load(&mut tables, seed, 1, &mut list).seed;
@@ -76,9 +76,9 @@ fn a_link_that_is_empty_again_is_written() {
     while tables.links[0] != 0 {
         seed = play_load(&mut tables, seed, 1, &mut list).seed;
     }
-    assert_eq!(tables.links[..3], [0, 0, 0]);
+    assert_eq!(tables.links[..4], [0, 0, 0, 0]);
     let mut at_once = opened(2, 1, 1);
-    at_once.links[1] = 5;
+    at_once.links[1..4].fill(70_000);
     let steps = tables.counts[STEP] - 1;
     play_load(&mut at_once, 4, steps, &mut list);
     assert_eq!(at_once, tables);

@@ -11,19 +11,19 @@ use Rattle.fields.specs.Bits.{fieldAt}
 use Rattle.fields.specs.FieldLaws.{field-below}
 use Rattle.fields.specs.ByBytes.{field-by-bytes}
 use Rattle.formats.specs.Columns.{mostBits}
-use Rattle.formats.specs.Entry.{keyBits}
+use Rattle.formats.specs.Entry.{keyBits, entryBits, Slim}
 use Rattle.formats.specs.Found.{keyAt, numberAt}
 use Rattle.formats.proofs.entries.store_entries.Statement.{statement}
 use Rattle.formats.proofs.entries.store_entries.Tie as tie
 
 abbrev Inv-loop : tie.InvT-loop
-Inv-loop bytes first width keys₀ numbers₀ entries at₀ i₀ keys numbers at i =
-    (at ≡ first + i * (keyBits + width))
-    × Laying (keyAt bytes first width) entries keys₀ i keys
-    × Laying (numberAt bytes first width) entries numbers₀ i numbers
+Inv-loop bytes first behind keys₀ numbers₀ entries at₀ i₀ keys numbers at i =
+    (at ≡ first + i * entryBits behind)
+    × Laying (keyAt bytes first behind) entries keys₀ i keys
+    × Laying (numberAt bytes first behind) entries numbers₀ i numbers
 
 abbrev μ-loop : tie.MeasureT-loop
-μ-loop bytes first width keys₀ numbers₀ entries at₀ i₀ keys numbers at i = entries - i
+μ-loop bytes first behind keys₀ numbers₀ entries at₀ i₀ keys numbers at i = entries - i
 
 loop-holds : tie.Need-loop-holds Inv-loop μ-loop
 loop-holds c =
@@ -35,53 +35,56 @@ module _ (c : tie.In-loop Inv-loop μ-loop) where
   one-more :
       let l = c .before .loop in
       let a = c .before .before .before .before .before .args in
-      (l .i + 1) * (keyBits + a .width) ≡ l .i * (keyBits + a .width) + (keyBits + a .width)
+      (l .i + 1) * entryBits (a .behind) ≡ l .i * entryBits (a .behind) + entryBits (a .behind)
   one-more =
       let l = c .before .loop in
       let a = c .before .before .before .before .before .args in
-      ap (λ (n : ℕ). n * (keyBits + a .width)) (add-one (l .i)) ∙ suc-mul (l .i) (keyBits + a .width)
+      ap (λ (n : ℕ). n * entryBits (a .behind)) (add-one (l .i)) ∙ suc-mul (l .i) (entryBits (a .behind))
 
   here :
       let l = c .before .loop in
       let a = c .before .before .before .before .before .args in
-      (l .at + (keyBits + a .width) ≤ 8 * length (a .bytes .now)) × (l .at + (keyBits + a .width) ≤ mostBits) × (a .width ≤ 32)
+      (l .at + entryBits (a .behind) ≤ 8 * length (a .bytes .now)) × (l .at + entryBits (a .behind) ≤ mostBits)
+      × Slim (a .behind)
   here =
       let l = c .before .loop in
       let s = c .before .before .before .before .before in
       let a = s .args in
       let p = s .pre .0 in
-      let room : (l .i + 1) * (keyBits + a .width) ≤ a .entries * (keyBits + a .width) =
+      let room : (l .i + 1) * entryBits (a .behind) ≤ a .entries * entryBits (a .behind) =
       mul-le-mul (omega (arith, c .loop-test .taken)) (omega arith) in
-      (omega (arith, l .inv .0, one-more, room, p .inside), omega (arith, l .inv .0, one-more, room, p .near), p .narrow)
+      (omega (arith, l .inv .0, one-more, room, p .inside), omega (arith, l .inv .0, one-more, room, p .near), p .slim)
 
 read-field-requires : tie.Need-read-field-requires Inv-loop μ-loop
-read-field-requires c κs = record { narrow = omega arith; inside = omega (arith, here c) }
+read-field-requires c κs = record { narrow = omega arith; inside = omega (arith, here c .0) }
 
 -- what was read by bytes is the key bit by bit
 module _ (c : tie.After-read-field Inv-loop μ-loop) where
   key-bits :
       let l = c .before .before .loop in
       let a = c .before .before .before .before .before .before .args in
-      (c .read-field .result ≡ fieldAt (a .bytes .now) (a .first + l .i * (keyBits + a .width)) keyBits) × (c .read-field .result < 4096)
+      (c .read-field .result ≡ fieldAt (a .bytes .now) (a .first + l .i * entryBits (a .behind)) keyBits) × (c .read-field .result < 4096)
   key-bits =
       let l = c .before .before .loop in
       let a = c .before .before .before .before .before .before .args in
       let e = c .read-field .ensures ∙ field-by-bytes _ _ _ ∙ ap (λ (b : ℕ). fieldAt (a .bytes .now) b keyBits) (l .inv .0) in
-      (e, omega (arith, e, field-below (a .bytes .now) (a .first + l .i * (keyBits + a .width)) keyBits))
+      (e, omega (arith, e, field-below (a .bytes .now) (a .first + l .i * entryBits (a .behind)) keyBits))
 
 read-field-requires-2 : tie.Need-read-field-requires-2 Inv-loop μ-loop
-read-field-requires-2 c κs = let h = here (c .before) in record { narrow = h .2; inside = omega (arith, h) }
+read-field-requires-2 c κs = let h = here (c .before .before) in record { narrow = h .2 .number; inside = omega (arith, h .0) }
 
 loop-again : tie.Need-loop-again Inv-loop μ-loop
 loop-again c =
-    let at-key = c .before in
+    let at-number = c .before .before in
+    let at-key = at-number .before .before in
     let turn = at-key .before in
     let l = turn .before .loop in
     let a = turn .before .before .before .before .before .args in
     let k = key-bits at-key .0 in
     let h = turn .loop-test .taken in
     let number =
-    c .read-field2 .ensures ∙ field-by-bytes _ _ _ ∙ ap (λ (b : ℕ). fieldAt (a .bytes .now) (b + keyBits) (a .width)) (l .inv .0) in (
+    at-number .read-field2 .ensures ∙ field-by-bytes _ _ _
+    ∙ ap (λ (b : ℕ). fieldAt (a .bytes .now) (b + keyBits + a .behind .badge) (a .behind .width)) (l .inv .0) in (
       omega (arith, l .inv .0, one-more turn),
       laying-more (l .inv .1) h (ap (λ (n : ℕ). n / 16 * 256 + n % 16) k),
       laying-more (l .inv .2) h number,
@@ -104,12 +107,14 @@ store-entries-spec =
     (λ c. omega (arith, key-bits c .1))
     (λ c. search needs)
     (λ c. omega (arith, c .before .before .loop .inv .1 .kept, c .before .before .loop .inv .1 .room))
-    (λ c. omega (arith, here (c .before)))
+    (λ c. omega (arith, here (c .before) .1))
+    (λ c. omega (arith, here (c .before .before) .1))
     read-field-requires-2
     (λ c. search needs)
-    (λ c. omega (arith, c .before .before .before .loop .inv .2 .kept, c .before .before .before .loop .inv .2 .room))
-    (λ c. omega (arith, here (c .before .before)))
-    (λ c. omega (arith, here (c .before .before)))
+    (λ c. let l = c .before .before .before .before .loop in omega (arith, l .inv .2 .kept, l .inv .2 .room))
+    (λ c. omega (arith, here (c .before .before .before .before) .1))
+    (λ c. omega (arith, here (c .before .before .before .before .before) .1))
+    (λ c. omega (arith, here (c .before .before .before .before .before) .1))
     (λ c. omega arith)
     (λ c. omega arith)
     loop-again

@@ -8,13 +8,13 @@ use lib.ListN.{getD, length-replicate}
 use Rattle.fields.specs.ByBytes.{field-by-bytes}
 use Rattle.formats.specs.declared.state.State.{State}
 use Rattle.formats.specs.declared.table.Shape.{Shape}
-use Rattle.formats.specs.Table.{manyPlace, entryPlace, numberPlace, entriesIn}
+use Rattle.formats.specs.Table.{manyPlace, entryPlace, badgePlace, numberPlace, fixedFields, entriesIn}
 use Rattle.formats.specs.TableLaws.{target-is}
 use Rattle.formats.specs.FormatLaws.{Rowed, rowed-start, rowed-tells, next-place, place-inner}
-use Rattle.formats.specs.Entry.{Ahead}
+use Rattle.formats.specs.Entry.{Ahead, behindOf, Slim}
 use Rattle.formats.specs.EntryLaws.{sort-known}
 use Rattle.formats.specs.Reading.{scanOf, Come, Said, come-none, come-unknown, come-start, turn-fault, turn-on, turn-rowed, turn-said}
-use Rattle.formats.specs.Judging.{entries-said, number-limits, said-few, rest-asked, rest-refused, rest-read}
+use Rattle.formats.specs.Judging.{entries-said, behind-limits, said-few, rest-asked, rest-refused, rest-read}
 use Rattle.formats.proofs.reading.scan_frame.Statement.{statement}
 use Rattle.formats.proofs.reading.scan_frame.Tie as tie
 
@@ -50,7 +50,7 @@ loop-holds c =
     let at-read = c .before .before .before .before .before in
     let a = at-read .before .before .before .args in
     let e = c .first .ensures in (
-      rw e (come-start (a .bytes .now) (length-replicate {A = ℕ} 8 0)),
+      rw e (come-start (a .bytes .now) (length-replicate {A = ℕ} fixedFields 0)),
       rw e (rowed-start (at-read .read-field .result)),
       rw e (λ h. let z : ⊥ = omega arith in absurd z),
     )
@@ -158,57 +158,63 @@ module _ (c : tie.After-entries-in Inv-loop μ-loop) where
 array-read-entries-in-2 : tie.Need-array-read-entries-in-2 Inv-loop μ-loop
 array-read-entries-in-2 c = search needs
 
-limits-of-requires : tie.Need-limits-of-requires Inv-loop μ-loop
-limits-of-requires c κs =
+behind-key-requires : tie.Need-behind-key-requires Inv-loop μ-loop
+behind-key-requires c κs =
     let at-row = c .before .before .before .before .before in
-    sort-known (at-row .before .before .before .before .read-field .result) (at-row .row-of .ensures) numberPlace
+    let known = sort-known (at-row .before .before .before .before .read-field .result) (at-row .row-of .ensures) in
+    (known badgePlace, known numberPlace)
+
+-- what stands behind an entry's key
+module _ (c : tie.After-behind-key Inv-loop μ-loop) where
+  behind-is :
+      let at-row = c .before .before .before .before .before .before in
+      (c .behind-key .result ≡ behindOf (at-row .before .before .before .before .read-field .result)) × Slim (c .behind-key .result)
+  behind-is =
+      let at-row = c .before .before .before .before .before .before in
+      behind-limits (at-row .before .before .before .before .read-field .result) (at-row .row-of .ensures) (c .behind-key .ensures)
+
+add-rest-fault : tie.Need-add-rest-fault Inv-loop μ-loop
+add-rest-fault c = let slim = behind-is (c .before) .1 in omega (arith, slim .badge, slim .number)
 
 rest-fault-requires : tie.Need-rest-fault-requires Inv-loop μ-loop
 rest-fault-requires c κs =
-    let at-entries = c .before in
+    let at-behind = c .before in
+    let at-entries = at-behind .before in
     let at-if3 = at-entries .before in
-    let at-loop = at-if3 .before .before in
-    let at-row = at-loop .before .before in
-    let l = at-loop .loop in
-    let n = number-limits (at-row .before .before .before .before .read-field .result) (at-row .row-of .ensures) (c .limits-of .ensures) in
-    (rest-asked (l .inv .0) (ahead at-if3) (said at-if3) (many at-entries) (n .0) (n .1) (n .2), l .inv .0 .inside)
+    let l = at-if3 .before .before .loop in
+    let b = behind-is at-behind in
+    (rest-asked (l .inv .0) (ahead at-if3) (said at-if3) (many at-entries) (b .0) (b .1), l .inv .0 .inside)
 
 returns-4 : tie.Need-returns-4 Inv-loop μ-loop
 returns-4 c =
     let at-rest = c .before .before in
-    let at-limits = at-rest .before in
-    let at-entries = at-limits .before in
+    let at-behind = at-rest .before .before in
+    let at-entries = at-behind .before in
     let at-if3 = at-entries .before in
-    let at-loop = at-if3 .before .before in
-    let at-row = at-loop .before .before in
-    let n = number-limits (at-row .before .before .before .before .read-field .result) (at-row .row-of .ensures)
-    (at-limits .limits-of .ensures) in
     c .refused4 .ensures
     ∙ ap scanOf
-    (rest-refused (at-loop .loop .inv .0) (ahead at-if3) (said at-if3) (many at-entries) (n .0) (n .1) (at-rest .rest-fault .ensures)
+    (rest-refused (at-if3 .before .before .loop .inv .0) (ahead at-if3) (said at-if3) (many at-entries) (behind-is at-behind .0)
+    (at-rest .rest-fault .ensures)
     (c .before .if5 .taken))
 
 mul-t16 : tie.Need-mul-t16 Inv-loop μ-loop
 mul-t16 c =
-    let at-entries = c .before .before .before in
+    let at-entries = c .before .before .before .before in
     omega (arith, many at-entries, said-few (said (at-entries .before)))
 
-add-t34 : tie.Need-add-t34 Inv-loop μ-loop
-add-t34 c =
-    let at-entries = c .before .before .before in
+add-t37 : tie.Need-add-t37 Inv-loop μ-loop
+add-t37 c =
+    let at-entries = c .before .before .before .before in
     omega (arith, many at-entries, said-few (said (at-entries .before)))
 
 returns-5 : tie.Need-returns-5 Inv-loop μ-loop
 returns-5 c =
     let at-rest = c .before in
-    let at-limits = at-rest .before in
-    let at-entries = at-limits .before in
+    let at-behind = at-rest .before .before in
+    let at-entries = at-behind .before in
     let at-if3 = at-entries .before in
-    let at-loop = at-if3 .before .before in
-    let at-row = at-loop .before .before in
-    let n = number-limits (at-row .before .before .before .before .read-field .result) (at-row .row-of .ensures)
-    (at-limits .limits-of .ensures) in
-    rest-read (at-loop .loop .inv .0) (ahead at-if3) (said at-if3) (many at-entries) (n .0) (n .1) (at-rest .rest-fault .ensures)
+    rest-read (at-if3 .before .before .loop .inv .0) (ahead at-if3) (said at-if3) (many at-entries) (behind-is at-behind .0)
+    (at-rest .rest-fault .ensures)
     (c .if5 .left)
 
 pub scan-frame-spec : {M : Type 1} → statement M
@@ -241,10 +247,12 @@ scan-frame-spec =
     array-read-entries-in-2
     (λ c κs. search needs)
     (λ c. search needs)
-    limits-of-requires
+    (λ c. search needs)
+    behind-key-requires
+    add-rest-fault
     rest-fault-requires
     (λ c κs. search needs)
     returns-4
     mul-t16
-    add-t34
+    add-t37
     returns-5)

@@ -1,5 +1,6 @@
 -- A kind picks the row of the definition; a number that is none of the twelve has no field behind the header.
-use mathlib.Core.Path.{_≡_, sym, ap}
+use borrow.Author.Needs.{needs}
+use mathlib.Core.Path.{_≡_, sym, ap, _∙_}
 use Prim.Native.Nat.{ℕ, _≤_}
 use native.Mathlib.Omega.{arith}
 use lib.ListN.{getD}
@@ -15,9 +16,10 @@ body-of kind k e = ap (λ (n : ℕ). getD bodies n bare) (sym e)
 
 last : tie.Need-returns-13
 last c =
-    let k = c .before .args .kind in
-    let r = c .match .rest in
-    row-by k (c .before .pre)
+    let k = c .before .before .args .kind in
+    let r = c .before .match .rest in
+    c .row13 .ensures
+    ∙ row-by k (c .before .before .pre)
     (by-equal k 0
     (body-of k 0)
     (λ d.
@@ -33,16 +35,29 @@ pub row-of-spec : {M : Type 1} → statement M
 row-of-spec =
     tie.close
     (tie.spec
-    (λ c. row-by (c .before .args .kind) (c .before .pre) (body-of _ 1 (c .match .keys1)))
-    (λ c. row-by (c .before .args .kind) (c .before .pre) (body-of _ 2 (c .match .keys2)))
-    (λ c. row-by (c .before .args .kind) (c .before .pre) (body-of _ 3 (c .match .keys3)))
-    (λ c. row-by (c .before .args .kind) (c .before .pre) (body-of _ 4 (c .match .keys4)))
-    (λ c. row-by (c .before .args .kind) (c .before .pre) (body-of _ 5 (c .match .keys5)))
-    (λ c. row-by (c .before .args .kind) (c .before .pre) (body-of _ 6 (c .match .keys6)))
-    (λ c. row-by (c .before .args .kind) (c .before .pre) (body-of _ 7 (c .match .keys7)))
-    (λ c. row-by (c .before .args .kind) (c .before .pre) (body-of _ 8 (c .match .keys8)))
-    (λ c. row-by (c .before .args .kind) (c .before .pre) (body-of _ 9 (c .match .keys9)))
-    (λ c. row-by (c .before .args .kind) (c .before .pre) (body-of _ 10 (c .match .keys10)))
-    (λ c. row-by (c .before .args .kind) (c .before .pre) (body-of _ 11 (c .match .keys11)))
-    (λ c. row-by (c .before .args .kind) (c .before .pre) (body-of _ 12 (c .match .keys12)))
+    (λ c κs. search needs)
+    (λ c κs. search needs)
+    (λ c κs. search needs)
+    (λ c κs. search needs)
+    (λ c κs. search needs)
+    (λ c κs. search needs)
+    (λ c κs. search needs)
+    (λ c κs. search needs)
+    (λ c κs. search needs)
+    (λ c κs. search needs)
+    (λ c κs. search needs)
+    (λ c κs. search needs)
+    (λ c κs. search needs)
+    (λ c. c .row .ensures ∙ row-by (c .before .before .args .kind) (c .before .before .pre) (body-of _ 1 (c .before .match .keys1)))
+    (λ c. c .row2 .ensures ∙ row-by (c .before .before .args .kind) (c .before .before .pre) (body-of _ 2 (c .before .match .keys2)))
+    (λ c. c .row3 .ensures ∙ row-by (c .before .before .args .kind) (c .before .before .pre) (body-of _ 3 (c .before .match .keys3)))
+    (λ c. c .row4 .ensures ∙ row-by (c .before .before .args .kind) (c .before .before .pre) (body-of _ 4 (c .before .match .keys4)))
+    (λ c. c .row5 .ensures ∙ row-by (c .before .before .args .kind) (c .before .before .pre) (body-of _ 5 (c .before .match .keys5)))
+    (λ c. c .row6 .ensures ∙ row-by (c .before .before .args .kind) (c .before .before .pre) (body-of _ 6 (c .before .match .keys6)))
+    (λ c. c .row7 .ensures ∙ row-by (c .before .before .args .kind) (c .before .before .pre) (body-of _ 7 (c .before .match .keys7)))
+    (λ c. c .row8 .ensures ∙ row-by (c .before .before .args .kind) (c .before .before .pre) (body-of _ 8 (c .before .match .keys8)))
+    (λ c. c .row9 .ensures ∙ row-by (c .before .before .args .kind) (c .before .before .pre) (body-of _ 9 (c .before .match .keys9)))
+    (λ c. c .row10 .ensures ∙ row-by (c .before .before .args .kind) (c .before .before .pre) (body-of _ 10 (c .before .match .keys10)))
+    (λ c. c .row11 .ensures ∙ row-by (c .before .before .args .kind) (c .before .before .pre) (body-of _ 11 (c .before .match .keys11)))
+    (λ c. c .row12 .ensures ∙ row-by (c .before .before .args .kind) (c .before .before .pre) (body-of _ 12 (c .before .match .keys12)))
     last)

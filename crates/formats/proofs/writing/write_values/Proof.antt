@@ -21,14 +21,14 @@ use Rattle.formats.proofs.writing.write_values.Tie as tie
 -- a number that is no kind
 returns : tie.Need-returns
 returns c =
-    let s = c .before .before .before .before .before in
+    let s = c .before .before .before .before .before .before in
     let a = s .args in
     write-bad _ (a .bytes .now) (kind-unknown _ (rw (values-kind (s .pre)) (c .if1 .taken)))
 
 target-of-requires : tie.Need-target-of-requires
 target-of-requires c κs =
     let at-if1 = c .before in
-    let a = at-if1 .before .before .before .before .before .args in
+    let a = at-if1 .before .before .before .before .before .before .args in
     target-is (getD (a .fixed .now) 0 0) (omega (arith, at-if1 .if1 .left)) (c .shape-of .ensures)
 
 row-of-requires : tie.Need-row-of-requires
@@ -38,25 +38,26 @@ row-of-requires c κs = c .target-of .ensures ∙ ap (λ (s : Shape). s .target)
 module _ (c : tie.Else2) where
   right :
       let at-kind = c .before .before .before .before .before .before .before in
-      let a = at-kind .before .before .before .before .args in
-      good format (valuesBy (a .fixed .now) (a .keys .now) (a .numbers .now) (a .entries)) ≡ true
+      let a = at-kind .before .before .before .before .before .args in
+      good format (valuesBy (a .fixed .now) (a .keys .now) (a .badges .now) (a .numbers .now) (a .entries)) ≡ true
   right = holds (c .before .writable .ensures) (c .if2 .left)
 
 -- and the table tells how long their frame is
 module _ (c : tie.After-frame-length) where
   long :
       let at-kind = c .before .before .before .before .before .before .before .before in
-      let a = at-kind .before .before .before .before .args in
-      c .frame-length .result ≡ length (frame format (valuesBy (a .fixed .now) (a .keys .now) (a .numbers .now) (a .entries)))
+      let a = at-kind .before .before .before .before .before .args in
+      c .frame-length .result
+      ≡ length (frame format (valuesBy (a .fixed .now) (a .keys .now) (a .badges .now) (a .numbers .now) (a .entries)))
   long =
       let at-shape = c .before .before .before .before .before .before in
-      let s = at-shape .before .before .before .before .before .before in
+      let s = at-shape .before .before .before .before .before .before .before in
       length-is (s .pre) (right (c .before)) (at-shape .shape-of .ensures) (c .frame-length .ensures)
 
 returns-2 : tie.Need-returns-2
 returns-2 c =
     let at-kind = c .before .before .before .before .before .before .before in
-    let a = at-kind .before .before .before .before .args in
+    let a = at-kind .before .before .before .before .before .args in
     write-bad _ (a .bytes .now) (fails (c .before .writable .ensures) (c .if2 .taken))
 
 returns-3 : tie.Need-returns-3
@@ -64,7 +65,7 @@ returns-3 c =
     let at-length = c .before in
     let at-if2 = at-length .before in
     let at-kind = at-if2 .before .before .before .before .before .before .before in
-    let a = at-kind .before .before .before .before .args in
+    let a = at-kind .before .before .before .before .before .args in
     write-small _ (a .bytes .now) (right at-if2) (omega (arith, long at-length, c .if3 .taken))
 
 slice-aggregate-fill : tie.Need-slice-aggregate-fill
@@ -72,7 +73,7 @@ slice-aggregate-fill c =
     let at-if3 = c .before .before in
     let at-length = at-if3 .before in
     let at-kind = at-length .before .before .before .before .before .before .before .before in
-    let a = at-kind .before .before .before .before .args in
+    let a = at-kind .before .before .before .before .before .args in
     sym (length-take-le (at-length .frame-length .result) (a .bytes .now) (at-if3 .if3 .left))
 
 fill-requires : tie.Need-fill-requires
@@ -81,7 +82,7 @@ fill-requires c κs =
     let at-length = at-if3 .before in
     let at-if2 = at-length .before in
     let at-row = at-if2 .before .before .before in
-    let s = at-row .before .before .before .before .before .before .before .before in
+    let s = at-row .before .before .before .before .before .before .before .before .before in
     let room = length-take-le (at-length .frame-length .result) (s .args .bytes .now) (at-if3 .if3 .left) in
     record {
       its-row = at-row .row-of .ensures;
@@ -97,8 +98,8 @@ returns-4 c =
     let at-length = at-if3 .before in
     let at-if2 = at-length .before in
     let at-kind = at-if2 .before .before .before .before .before .before .before in
-    let a = at-kind .before .before .before .before .args in
-    let vs = valuesBy (a .fixed .now) (a .keys .now) (a .numbers .now) (a .entries) in
+    let a = at-kind .before .before .before .before .before .args in
+    let vs = valuesBy (a .fixed .now) (a .keys .now) (a .badges .now) (a .numbers .now) (a .entries) in
     let n = at-length .frame-length .result in
     let h = at-if3 .if3 .left in
     let w = write-done vs (a .bytes .now) (right at-if2) (long at-length) h in

@@ -1,5 +1,5 @@
 -- `keys::Key::same` meets its contract: each way out is a case law of `sameKey`.
-use Rattle.keys.specs.Keys.{same-count, other-count}
+use Rattle.keys.specs.KeyLaws.{same-count, other-count}
 use Rattle.keys.proofs.Key.same.Statement.{statement}
 use Rattle.keys.proofs.Key.same.Tie as tie
 

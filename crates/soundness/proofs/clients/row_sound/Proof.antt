@@ -43,7 +43,7 @@ returns-5 c =
       holds (at-count .count-sound .ensures t) (at-mask .before .if2 .left),
       holds (at-mask .mask-sound .ensures t) (at-tag .before .if3 .left),
       holds (at-tag .tag-sound .ensures t) (c .before .if4 .left),
-    ) (c .kept-tags-sound .ensures t)
+    ) (c .all-kept-sound .ensures t)
 
 pub row-sound-spec : {M : Type 1} → statement M
 row-sound-spec =

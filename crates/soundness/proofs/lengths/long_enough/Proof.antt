@@ -76,4 +76,6 @@ returns-8 c = rw (
 pub long-enough-spec : {M : Type 1} → statement M
 long-enough-spec =
     tie.close
-    (tie.spec returns (λ c. search needs) returns-2 (λ c. search needs) (λ c. search needs) returns-3 (λ c. search needs) returns-4 (λ c. search needs) returns-5 (λ c. search needs) returns-6 (λ c. search needs) returns-7 (λ c. search needs) returns-8)
+    (tie.spec returns (λ c. search needs) returns-2 (λ c. search needs) (λ c. search needs) returns-3 (λ c. search needs) returns-4
+    (λ c. search needs) (λ c. search needs) returns-5 (λ c. search needs) returns-6 (λ c. search needs) returns-7 (λ c. search needs)
+    returns-8)

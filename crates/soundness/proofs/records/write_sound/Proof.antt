@@ -23,16 +23,32 @@ returns-2 c = λ t. rw (
 returns-3 : tie.Need-returns-3
 unfolding writeSound
 returns-3 c = λ t. rw (
-  ← (c .before .before .before .before .before .before .before .count-at .ensures),
-  ← (c .before .before .before .before .before .before .record-word .ensures),
-  lt-ltb _ _ (c .before .before .before .before .before .if1 .left),
-  ← (c .before .before .before .before .record-word2 .ensures),
-  holds (c .before .before .before .between .ensures) (c .before .before .if2 .left),
+  ← (c .before .before .before .before .before .before .before .before .count-at .ensures),
+  ← (c .before .before .before .before .before .before .before .record-word .ensures),
+  lt-ltb _ _ (c .before .before .before .before .before .before .if1 .left),
+  ← (c .before .before .before .before .before .record-word2 .ensures),
+  holds (c .before .before .before .before .between .ensures) (c .before .before .before .if2 .left),
+  ← (c .before .before .count-at2 .ensures),
   ← (c .before .record-word3 .ensures),
-  ← (c .count-at2 .ensures),
+  le-ltb _ _ (c .if3 .taken),
 )
+
+returns-4 : tie.Need-returns-4
+unfolding writeSound
+returns-4 c = λ t. rw (
+  ← (c .before .before .before .before .before .before .before .before .before .before .count-at .ensures),
+  ← (c .before .before .before .before .before .before .before .before .before .record-word .ensures),
+  lt-ltb _ _ (c .before .before .before .before .before .before .before .before .if1 .left),
+  ← (c .before .before .before .before .before .before .before .record-word2 .ensures),
+  holds (c .before .before .before .before .before .before .between .ensures) (c .before .before .before .before .before .if2 .left),
+  ← (c .before .before .before .before .count-at2 .ensures),
+  ← (c .before .before .before .record-word3 .ensures),
+  lt-ltb _ _ (c .before .before .if3 .left),
+  ← (c .before .record-word4 .ensures),
+) (c .badge-fits .ensures)
 
 pub write-sound-spec : {M : Type 1} → statement M
 write-sound-spec =
     tie.close
-    (tie.spec (λ c κs. search needs) (λ c κs. search needs) returns (λ c κs. search needs) (λ c κs. search needs) returns-2 (λ c κs. search needs) (λ c κs. search needs) returns-3)
+    (tie.spec (λ c κs. search needs) (λ c κs. search needs) returns (λ c κs. search needs) (λ c κs. search needs) returns-2
+    (λ c κs. search needs) (λ c κs. search needs) returns-3 (λ c κs. search needs) (λ c κs. search needs) returns-4)

@@ -1,18 +1,18 @@
 -- `soundness::servers::servers_sound` meets its contract: the servers before `server` are sound.
 use Prim.Native.Nat.{_-_}
-use Rattle.tables.specs.Tables.{withCounts}
+use Rattle.tables.specs.Tables.{withCounts, withVersions}
 use Rattle.soundness.specs.Loops.{Passed, passed-none, passed-more, passed-stop, passed-end}
-use Rattle.soundness.specs.Parts.{withKeys}
 use Rattle.soundness.specs.Sound.{serverSound}
 use borrow.Author.Needs.{needs}
 use Rattle.soundness.proofs.servers.servers_sound.Statement.{statement}
 use Rattle.soundness.proofs.servers.servers_sound.Tie as tie
 
 abbrev Inv-loop : tie.InvT-loop
-Inv-loop counts keys servers server₀ server = Passed (λ t. serverSound (withKeys keys (withCounts counts t))) servers server
+Inv-loop counts keys values servers server₀ server =
+    Passed (λ t. serverSound (withVersions keys values (withCounts counts t))) servers server
 
 abbrev μ-loop : tie.MeasureT-loop
-μ-loop counts keys servers server₀ server = servers - server
+μ-loop counts keys values servers server₀ server = servers - server
 
 loop-holds : tie.Need-loop-holds Inv-loop μ-loop
 loop-holds c = passed-none
@@ -29,4 +29,5 @@ returns-2 c = passed-end (c .before .loop .inv) (c .before .before .count-at .en
 pub servers-sound-spec : {M : Type 1} → statement M
 servers-sound-spec =
     tie.close
-    (tie.spec Inv-loop μ-loop (λ c κs. search needs) (λ c. search needs) loop-holds (λ c κs. search needs) returns (λ c. search needs) (λ c. search needs) loop-again returns-2)
+    (tie.spec Inv-loop μ-loop (λ c κs. search needs) (λ c. search needs) loop-holds (λ c κs. search needs) returns (λ c. search needs)
+    (λ c. search needs) loop-again returns-2)

@@ -1,5 +1,5 @@
 -- `tables::links::is_empty` meets its contract: each kind is a case law of `isEmpty`.
-use Rattle.tables.specs.Links.{full-request, full-reply, none-there}
+use Rattle.tables.specs.LinkLaws.{full-request, full-reply, none-there}
 use borrow.Author.Needs.{needs}
 use Rattle.tables.proofs.links.is_empty.Statement.{statement}
 use Rattle.tables.proofs.links.is_empty.Tie as tie

@@ -1,5 +1,5 @@
 -- `tables::links::put_link` meets its contract: each case of the content is a case law of `putLink`.
-use Rattle.tables.specs.Links.{put-nothing, put-request, put-reply}
+use Rattle.tables.specs.LinkLaws.{put-nothing, put-request, put-reply}
 use borrow.Author.Needs.{needs}
 use Rattle.tables.proofs.links.put_link.Statement.{statement}
 use Rattle.tables.proofs.links.put_link.Tie as tie
