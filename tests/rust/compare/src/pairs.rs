@@ -26,12 +26,13 @@ pub struct Pair {
 
 type Frames = Vec<Vec<u8>>;
 type Made = (Recording, Recording, Known);
+type Making = fn(Frames, &mut Random) -> Made;
 
 const AGREE: Known = Known::Exactly(Ok(Compared::Agree));
 const REFUSED: Known = Known::Exactly(Err(Refusal::BadRecording));
 
 /// Pairs by what is odd in them, each made of frames of which there is one at least.
-const KINDS: [(&str, fn(Frames, &mut Random) -> Made); 20] = [
+const KINDS: [(&str, Making); 20] = [
     ("equal", equal),
     ("crossed", crossed_links),
     ("swapped on one link", swapped),
@@ -343,7 +344,7 @@ fn both_faulty(frames: Frames, random: &mut Random) -> Made {
 }
 
 /// Full recordings, in turn; the links are one, a few or all.
-const FULL: [(&str, fn(Frames, &mut Random) -> Made); 8] = [
+const FULL: [(&str, Making); 8] = [
     ("full: equal", equal),
     ("full: the last frame another", last_changed),
     ("full: crossed", crossed_links),
