@@ -17,7 +17,7 @@ use schedules::Random;
 const SHORT_FOR_A_FULL: usize = 250;
 const SHORT_FOR_A_RUN: usize = 20;
 
-/// In a run of so many pairs each kind of pair is to occur, and each of these.
+/// In a run of so many cases each kind of pair is to occur, and each of these.
 const MANY: usize = 10_000;
 const DUE: [&str; 5] = ["agree", "differ", "differ behind place 255", "differ at the coordinator", "no 16"];
 const DUE_RUNS: [&str; 3] = [OTHER_TARGETS, ONE_TARGET, "pairs of swapped requests"];
@@ -50,7 +50,7 @@ pub fn compare_by(arguments: &Arguments, comparing: Comparing, opening: Opening)
         runs.require(&DUE_RUNS)?;
         pairs.require(&names().collect::<Vec<_>>())?;
     }
-    Ok(format!("{} pairs; {runs}; answers: {answers}; pairs: {pairs}", arguments.cases))
+    Ok(format!("{} cases; {runs}; answers: {answers}; pairs: {pairs}", arguments.cases))
 }
 
 struct Comparison<'a> {
