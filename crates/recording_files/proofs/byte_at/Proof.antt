@@ -1,0 +1,16 @@
+use native.Mathlib.Omega.{arith}
+use mathlib.Core.Path.{refl}
+use borrow.Author.Needs.{needs}
+use Rattle.recording_files.proofs.byte_at.Statement.{statement}
+use Rattle.recording_files.proofs.byte_at.Tie as tie
+use Rattle.recording_files.proofs.byte_at.Reads as reads
+use Rattle.recording_files.proofs.byte_at.Lts as lts
+
+cast-result : tie.Need-cast-result
+cast-result c = omega (arith, c .shared-slice-known .given (c .before .args .at))
+
+returns : tie.Need-returns
+returns c = (refl, omega (arith, c .shared-slice-known .given (c .before .args .at)))
+
+pub byte-at-spec : {M : Type 1} → statement M
+byte-at-spec = tie.close (tie.spec (λ c. search needs) cast-result returns)
