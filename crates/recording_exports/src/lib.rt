@@ -22,6 +22,8 @@ fn compared_number(answer: Compared) -> u64
     }
 }
 
+// Compares two recordings, each the lengths of its frames and their bytes end to end: 0 where they agree; else 2^32, and below it client,
+// target and the place on that link of the first difference; or 16, where a recording is none.
 #[no_mangle]
 pub extern "C" fn recordings_compare(
     lengths: &[u32],
