@@ -118,7 +118,8 @@ module _ (f g : ℕ → ℕ) (n m : ℕ) (bytes bytes′ : List ℕ) where
   abbrev read-other : List ℕ
   read-other = built g (min m mostRead)
 
-  pub compared-read : compared (built f (min n mostRead)) bytes (built g (min m mostRead)) bytes′ ≡ compared (built f n) bytes (built g m) bytes′
+  pub compared-read : compared (built f (min n mostRead)) bytes (built g (min m mostRead)) bytes′ ≡ compared (built f n) bytes
+      (built g m) bytes′
   compared-read =
       by-test (wellMade (built f n) bytes)
       (λ t. by-test (wellMade (built g m) bytes′)

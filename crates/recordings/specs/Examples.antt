@@ -44,7 +44,8 @@ pub record Examples : Type 0 where
 
 pub examples : Examples
 unfolding bitOf bitAt fieldAt ahead judged ended read sortAt bitsOf leastOf mostOf entriesIn fieldOf within leftAfter placeAfter nextOf
-    entries fixed format framesOf total broken allReadable wellMade isOn framesOn same further firstDifference differenceOn orElse fromLink compared
+    entries fixed format framesOf total broken allReadable wellMade isOn framesOn same further firstDifference differenceOn orElse
+    fromLink compared
 examples =
     record {
       empty = refl;

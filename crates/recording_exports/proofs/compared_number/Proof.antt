@@ -11,4 +11,5 @@ returns-2 c = c .differ-number .ensures ∙ sym (ap comparedNumber (c .before .b
 pub compared-number-spec : {M : Type 1} → statement M
 compared-number-spec =
     tie.close
-    (tie.spec (λ c. search needs) (λ c. search needs) (λ c κs. search needs) (λ c. search needs) (λ c. search needs) (λ c. search needs) returns-2 (λ c. search needs))
+    (tie.spec (λ c. search needs) (λ c. search needs) (λ c κs. search needs) (λ c. search needs) (λ c. search needs) (λ c. search needs)
+    returns-2 (λ c. search needs))

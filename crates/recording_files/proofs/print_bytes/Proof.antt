@@ -23,7 +23,8 @@ put-byte-requires : tie.Need-put-byte-requires Inv-loop μ-loop
 put-byte-requires c κs =
     let p = c .before .before .before .loop in
     let n = copied-to (c .before .before .before .before .before .before .args .out .now)
-    (c .before .before .before .before .before .before .args .text .now) (c .before .before .before .before .before .before .args .at) (p .i)
+    (c .before .before .before .before .before .before .args .text .now) (c .before .before .before .before .before .before .args .at)
+    (p .i)
     (p .inv .1 .0) (p .inv .0) in
     omega arith
 
@@ -31,15 +32,18 @@ loop-again : tie.Need-loop-again Inv-loop μ-loop
 loop-again c =
     let p = c .before .before .before .before .before .before .loop in
     let a = c .before .before .before .before .before .before .before .before .before .args in (
-      printed-more (a .out .now) (a .text .now) (a .at) (p .i) (omega arith) (c .before .before .before .before .before .loop-test .taken) (p .inv .0)
+      printed-more (a .out .now) (a .text .now) (a .at) (p .i) (omega arith) (c .before .before .before .before .before .loop-test .taken)
+          (p .inv .0)
           (c .before .before .put-byte .ensures),
       (search needs, c .before .before .put-byte .kept .1 .0 ∙ p .inv .1 .1),
     )
 
 returns : tie.Need-returns Inv-loop μ-loop
-returns c = let p = c .before .loop in rw (take-all (p .i) (c .before .before .before .before .args .text .now) (c .loop-test .left)) at (p .inv .0)
+returns c =
+    let p = c .before .loop in rw (take-all (p .i) (c .before .before .before .before .args .text .now) (c .loop-test .left)) at (p .inv .0)
 
 pub print-bytes-spec : {M : Type 1} → statement M
 print-bytes-spec =
     tie.close
-    (tie.spec Inv-loop μ-loop loop-holds (λ c. search needs) put-byte-requires (λ c. search needs) (λ c. search needs) loop-again (λ c. search needs) returns)
+    (tie.spec Inv-loop μ-loop loop-holds (λ c. search needs) put-byte-requires (λ c. search needs) (λ c. search needs) loop-again
+    (λ c. search needs) returns)

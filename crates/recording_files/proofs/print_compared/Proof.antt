@@ -9,15 +9,26 @@ use Rattle.recording_files.proofs.print_bytes.Reads as print-bytes-read
 use Rattle.recording_files.proofs.print_difference.Reads as print-difference-reads
 
 returns : tie.Need-returns
-returns c = (rw (c .before .before .before .before .before .enum-told .given .1) (c .before .before .print-bytes .ensures), omega (arith, c .before .before .print-bytes .ensures .end))
+returns c = (
+  rw (c .before .before .before .before .before .enum-told .given .1) (c .before .before .print-bytes .ensures),
+  omega (arith, c .before .before .print-bytes .ensures .end),
+)
 
 returns-2 : tie.Need-returns-2
-returns-2 c = (rw (c .before .before .before .before .before .answer .given .1) (c .before .before .print-difference .ensures .0), c .before .before .print-difference .ensures .1)
+returns-2 c = (
+  rw (c .before .before .before .before .before .answer .given .1) (c .before .before .print-difference .ensures .0),
+  c .before .before .print-difference .ensures .1,
+)
 
 returns-3 : tie.Need-returns-3
-returns-3 c = (rw (c .before .before .before .before .before .answer2 .given .1) (c .before .before .print-refusal .ensures .0), omega (arith, c .before .before .print-refusal .ensures .1))
+returns-3 c = (
+  rw (c .before .before .before .before .before .answer2 .given .1) (c .before .before .print-refusal .ensures .0),
+  omega (arith, c .before .before .print-refusal .ensures .1),
+)
 
 pub print-compared-spec : {M : Type 1} → statement M
 print-compared-spec =
     tie.close
-    (tie.spec (λ c. search needs) (λ c. search needs) (λ c κs. search needs) (λ c. search needs) (λ c κs. search needs) (λ c. search needs) (λ c. search needs) (λ c κs. search needs) (λ c. search needs) returns (λ c. search needs) returns-2 (λ c. search needs) returns-3)
+    (tie.spec (λ c. search needs) (λ c. search needs) (λ c κs. search needs) (λ c. search needs) (λ c κs. search needs)
+    (λ c. search needs) (λ c. search needs) (λ c κs. search needs) (λ c. search needs) returns (λ c. search needs) returns-2
+    (λ c. search needs) returns-3)

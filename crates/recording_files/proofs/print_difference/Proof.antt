@@ -14,12 +14,20 @@ use Rattle.recording_files.proofs.put_byte.Reads as put-byte-reads
 
 returns : tie.Need-returns
 returns c =
-    let start = c .before .before .before .before .before .before .before .before .before .before .before .before .before .before .before .before .before .before .before .before .before .before in
+    let start =
+    c .before .before .before .before .before .before .before .before .before .before .before .before .before .before .before .before
+    .before .before .before .before .before .before in
     let a = start .args in
     let out = a .out .now in
     let word : List ℕ = 100 ∷ 105 ∷ 102 ∷ 102 ∷ 101 ∷ 114 ∷ [] in
-    let p₁ = printed-then out word (spaced (a .client)) 0 (omega arith) (c .before .before .before .before .before .before .before .before .before .before .before .before .before .before .before .before .before .before .print-bytes .ensures) (c .before .before .before .before .before .before .before .before .before .before .before .before .before .before .print-spaced .ensures .0) in
-    let p₂ = printed-then out (word ++ spaced (a .client)) (spaced (a .target)) 0 (omega arith) p₁ (c .before .before .before .before .before .before .before .before .before .before .print-spaced2 .ensures .0) in
+    let p₁ =
+    printed-then out word (spaced (a .client)) 0 (omega arith)
+    (c .before .before .before .before .before .before .before .before .before .before .before .before .before .before .before .before
+    .before .before .print-bytes .ensures) (c .before .before .before .before .before .before .before .before .before .before .before
+    .before .before .before .print-spaced .ensures .0) in
+    let p₂ =
+    printed-then out (word ++ spaced (a .client)) (spaced (a .target)) 0 (omega arith) p₁
+    (c .before .before .before .before .before .before .before .before .before .before .print-spaced2 .ensures .0) in
     let p₃ =
     printed-then out ((word ++ spaced (a .client)) ++ spaced (a .target)) (spaced (a .place)) 0 (omega arith) p₂
     (c .before .before .before .before .before .before .print-spaced3 .ensures .0) in
@@ -29,8 +37,10 @@ returns c =
       p₄,
       omega (
         arith,
-        c .before .before .before .before .before .before .before .before .before .before .before .before .before .before .before .before .before .before .print-bytes .ensures .end,
-        c .before .before .before .before .before .before .before .before .before .before .before .before .before .before .print-spaced .ensures .1,
+        c .before .before .before .before .before .before .before .before .before .before .before .before .before .before .before .before
+            .before .before .print-bytes .ensures .end,
+        c .before .before .before .before .before .before .before .before .before .before .before .before .before
+            .before .print-spaced .ensures .1,
         c .before .before .before .before .before .before .before .before .before .before .print-spaced2 .ensures .1,
         c .before .before .before .before .before .before .print-spaced3 .ensures .1,
         c .before .before .put-byte .ensures .end,
@@ -40,4 +50,5 @@ returns c =
 pub print-difference-spec : {M : Type 1} → statement M
 print-difference-spec =
     tie.close
-    (tie.spec (λ c. search needs) (λ c κs. search needs) (λ c κs. search needs) (λ c κs. search needs) (λ c κs. search needs) (λ c κs. search needs) (λ c. search needs) returns)
+    (tie.spec (λ c. search needs) (λ c κs. search needs) (λ c κs. search needs) (λ c κs. search needs) (λ c κs. search needs)
+    (λ c κs. search needs) (λ c. search needs) returns)

@@ -11,7 +11,12 @@ use Rattle.recording_files.proofs.print_compared.Reads as print-compare
 returns : tie.Need-returns
 returns c = (
   rw (c .before .before .before .before .compare-files .ensures) at (c .before .before .print-compared .ensures .0),
-  counts-of _ (omega (arith, c .before .before .print-compared .ensures .1, c .before .before .print-compared .kept .1 .0, c .before .before .before .before .before .before .before .before .pre .2)),
+  counts-of _ (omega (
+    arith,
+    c .before .before .print-compared .ensures .1,
+    c .before .before .print-compared .kept .1 .0,
+    c .before .before .before .before .before .before .before .before .pre .2,
+  )),
 )
 
 pub print-files-spec : {M : Type 1} → statement M

@@ -11,7 +11,9 @@ use Rattle.recording_files.proofs.store_lengths.Reads as store-lengths-
 
 store-lengths-requires : tie.Need-store-lengths-requires
 store-lengths-requires c κs =
-    let l = lengths-held (c .before .before .before .before .before .args .file .now) (c .before .before .before .before .before .pre .0) (c .before .before .frames-in .ensures) (c .before .least .ensures) in
+    let l =
+    lengths-held (c .before .before .before .before .before .args .file .now) (c .before .before .before .before .before .pre .0)
+    (c .before .before .frames-in .ensures) (c .before .least .ensures) in
     record { held = l .held; fits = omega (arith, l .fits, c .before .before .before .before .before .pre .1) }
 
 pub read-lengths-spec : {M : Type 1} → statement M

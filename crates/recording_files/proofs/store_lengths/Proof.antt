@@ -42,4 +42,5 @@ returns c = laying-all (c .before .loop .inv) (c .loop-test .left)
 pub store-lengths-spec : {M : Type 1} → statement M
 store-lengths-spec =
     tie.close
-    (tie.spec Inv-loop μ-loop loop-holds mul-word-at add-word-at word-at-requires (λ c. search needs) slice-write-lengths (λ c. search needs) (λ c. search needs) loop-again same-length returns)
+    (tie.spec Inv-loop μ-loop loop-holds mul-word-at add-word-at word-at-requires
+    (λ c. search needs) slice-write-lengths (λ c. search needs) (λ c. search needs) loop-again same-length returns)

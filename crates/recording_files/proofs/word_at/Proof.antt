@@ -10,9 +10,17 @@ use Rattle.recording_files.proofs.byte_at.Reads as byte-at-reads
 returns : tie.Need-returns
 unfolding wordAt
 returns c =
-    omega (arith, c .before .before .before .byte-at .ensures .0, c .before .before .byte-at2 .ensures .0, c .before .byte-at3 .ensures .0, c .byte-at4 .ensures .0)
+    omega (
+      arith,
+      c .before .before .before .byte-at .ensures .0,
+      c .before .before .byte-at2 .ensures .0,
+      c .before .byte-at3 .ensures .0,
+      c .byte-at4 .ensures .0,
+    )
 
 pub word-at-spec : {M : Type 1} → statement M
 word-at-spec =
     tie.close
-    (tie.spec (λ c κs. search needs) (λ c. search needs) (λ c. search needs) (λ c κs. search needs) (λ c. search needs) (λ c. search needs) (λ c κs. search needs) (λ c. search needs) (λ c. search needs) (λ c κs. search needs) (λ c. search needs) (λ c. search needs) (λ c. search needs) returns)
+    (tie.spec (λ c κs. search needs) (λ c. search needs) (λ c. search needs) (λ c κs. search needs) (λ c. search needs)
+    (λ c. search needs) (λ c κs. search needs) (λ c. search needs) (λ c. search needs) (λ c κs. search needs) (λ c. search needs)
+    (λ c. search needs) (λ c. search needs) returns)
