@@ -1,5 +1,5 @@
--- The file of a recording, as the program takes it: "4 bytes, most significant first, the number of frames n; n times 4 bytes, each frame's
--- length; then the frames' bytes. An empty file is an empty recording."
+-- The file of a recording, as the program takes it (docs/USING.md): 4 bytes, most significant first, the number of frames n; n times 4
+-- bytes, each frame's length; then the frames' bytes. An empty file is an empty recording.
 use Prim.Native.Nat.{ℕ, _+_, _*_}
 use mathlib.Core.List.{List, [], _∷_, _++_}
 use mathlib.Core.Bool.{Bool, _||_}

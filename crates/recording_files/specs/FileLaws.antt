@@ -1,17 +1,17 @@
 -- The cases of a file, as the code meets them.
-use mathlib.Core.Path.{_≡_, refl, sym, ap, ap₂, _∙_}
+use mathlib.Core.Path.{_≡_, sym, ap, ap₂, _∙_}
 use Prim.Native.Nat.{ℕ, _+_, _-_, _*_, _/_, _≤_, _<_, min}
 use native.Mathlib.Omega.{arith}
 use mathlib.Core.List.{List}
 use mathlib.Core.Bool.{true, false, true≢false}
-use lib.Dec.{leb, eqb}
+use lib.Dec.{leb}
 use lib.ListN.{length, getD, take, drop, length-drop, drop-of-length-le, List·getD-eq-default}
 use lib.Seq.{take-all, length-take-le}
 use borrow.Author.Tests.{eq-eqb, ne-eqb, le-leb, lt-leb, leb-true, leb-false}
 use Rattle.ranges.specs.Tests.{by-test, by-equal}
 use Rattle.ranges.specs.Laid.{built, laid}
 use Rattle.ranges.specs.LaidLaws.{built-length, laid-front}
-use Rattle.recordings.specs.Recording.{mostFrames, wellMade}
+use Rattle.recordings.specs.Recording.{wellMade}
 use Rattle.recordings.specs.Comparing.{compared}
 use Rattle.recordings.specs.Whole.{well-made-many}
 use Rattle.recordings.specs.LinkLaws.{compared-refused, compared-refused-other}
@@ -118,8 +118,8 @@ module _ (f g : ℕ → ℕ) (n m : ℕ) (bytes bytes′ : List ℕ) where
   abbrev read-other : List ℕ
   read-other = built g (min m mostRead)
 
-  pub compared-read : compared (built f (min n mostRead)) bytes (built g (min m mostRead)) bytes′ ≡ compared (built f n) bytes
-      (built g m) bytes′
+  pub compared-read :
+      compared (built f (min n mostRead)) bytes (built g (min m mostRead)) bytes′ ≡ compared (built f n) bytes (built g m) bytes′
   compared-read =
       by-test (wellMade (built f n) bytes)
       (λ t. by-test (wellMade (built g m) bytes′)

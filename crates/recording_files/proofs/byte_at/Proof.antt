@@ -1,10 +1,9 @@
-use native.Mathlib.Omega.{arith}
+-- A byte is below 256.
 use mathlib.Core.Path.{refl}
+use native.Mathlib.Omega.{arith}
 use borrow.Author.Needs.{needs}
 use Rattle.recording_files.proofs.byte_at.Statement.{statement}
 use Rattle.recording_files.proofs.byte_at.Tie as tie
-use Rattle.recording_files.proofs.byte_at.Reads as reads
-use Rattle.recording_files.proofs.byte_at.Lts as lts
 
 cast-result : tie.Need-cast-result
 cast-result c = omega (arith, c .shared-slice-known .given (c .before .args .at))

@@ -1,18 +1,20 @@
 -- A space and the digits behind it; a number of 32 bits has at most ten.
 use mathlib.Core.List.{[], _∷_}
 use native.Mathlib.Omega.{arith}
+use borrow.Author.Needs.{needs}
 use Rattle.schedule.specs.Decimal.{decimal}
 use Rattle.schedule.specs.DecimalLaws.{word-short}
 use Rattle.printing.specs.PrintedLaws.{printed-then}
-use borrow.Author.Needs.{needs}
 use Rattle.recording_files.proofs.print_spaced.Statement.{statement}
 use Rattle.recording_files.proofs.print_spaced.Tie as tie
 
 print-decimal-requires : tie.Need-print-decimal-requires
 print-decimal-requires c κs =
-    let s = word-short (c .before .before .before .before .before .before .args .number)
-    (c .before .before .before .before .before .before .fits .number .fits) in
-    omega (arith, c .before .before .before .put-byte .ensures .end, c .before .before .before .put-byte .kept .1 .0)
+    let at-put-byte = c .before .before .before in
+    let start = at-put-byte .before .before .before in
+    let s = word-short (start .args .number)
+    (start .fits .number .fits) in
+    omega (arith, at-put-byte .put-byte .ensures .end, at-put-byte .put-byte .kept .1 .0)
 
 returns : tie.Need-returns
 returns c =

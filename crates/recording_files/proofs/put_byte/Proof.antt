@@ -1,6 +1,6 @@
 -- A store of one byte is a text of one byte.
-use Rattle.printing.specs.PrintedLaws.{printed-byte}
 use borrow.Author.Needs.{needs}
+use Rattle.printing.specs.PrintedLaws.{printed-byte}
 use Rattle.recording_files.proofs.put_byte.Statement.{statement}
 use Rattle.recording_files.proofs.put_byte.Tie as tie
 
