@@ -9,12 +9,14 @@ mod instructions;
 mod load_speed;
 mod plans;
 mod program;
+mod recording_speed;
 mod sides;
 mod steps;
 mod table;
+mod two_cursors;
 
 use clock::Clock;
-use ffi::{FrameLibrary, LoadLibrary, StoreLibrary};
+use ffi::{FrameLibrary, LoadLibrary, RecordingLibrary, StoreLibrary};
 use std::path::Path;
 
 fn main() {
@@ -22,10 +24,11 @@ fn main() {
     let [proved, model, parts @ ..] = &given[..] else {
         panic!("bench PROVED-PROGRAM MODEL-PROGRAM [PART...]");
     };
-    // Frames need their own library alone.
+    // Frames and recordings need their own library alone.
     let store = || StoreLibrary::linked().expect("libstore_exports.a is linked: run bench/run");
     let frame = || FrameLibrary::linked().expect("libframe_exports.a is linked: run bench/run");
     let load = || LoadLibrary::linked().expect("libworkload_exports.a is linked: run bench/run");
+    let recording = || RecordingLibrary::linked().expect("librecording_exports.a is linked: run bench/run");
     match parts {
         [part, rest @ ..] if part == "count" => {
             instructions::count_of_nothing();
@@ -42,7 +45,7 @@ fn main() {
         _ => {}
     }
     let clock = Clock::calibrated();
-    const PARTS: [&str; 6] = ["steps", "growth", "check", "frames", "load", "program"];
+    const PARTS: [&str; 7] = ["steps", "growth", "check", "frames", "load", "recordings", "program"];
     assert!(parts.iter().all(|part| PARTS.contains(&part.as_str())), "the parts are {PARTS:?}");
     let wanted = |part: &str| parts.is_empty() || parts.iter().any(|word| word == part);
     if wanted("steps") {
@@ -59,6 +62,9 @@ fn main() {
     }
     if wanted("load") {
         load_speed::report(store(), load());
+    }
+    if wanted("recordings") {
+        recording_speed::report(recording());
     }
     if wanted("program") {
         program::report(proved, model);

@@ -6,6 +6,7 @@
 //!     compare frames [--cases N] [--seed S]
 //!     compare wire [--cases N] [--seed S]
 //!     compare load [--cases N] [--seed S]
+//!     compare recordings [--cases N] [--seed S]
 //!     compare load-text PROGRAM [ARGUMENT...] [--cases N] [--seed S]
 
 mod arguments;
@@ -14,13 +15,18 @@ mod frames_run;
 mod load_run;
 mod load_text_run;
 mod messages;
+mod pairs;
 mod programs;
 mod reached;
+mod recordings_run;
+mod runs;
 mod schedules_run;
 mod stores;
 mod tables_run;
 mod tally;
 mod wire_run;
+#[cfg(test)]
+mod wrong_comparisons;
 
 use arguments::Arguments;
 use std::process::ExitCode;
@@ -32,9 +38,9 @@ fn main() -> ExitCode {
     let given: Vec<String> = std::env::args().skip(1).collect();
     let Some(arguments) = Arguments::parse(&given) else {
         eprintln!(
-            "usage: compare schedules PROGRAM [ARGUMENT...] | load-text PROGRAM [ARGUMENT...] | tables | frames | wire | load,"
+            "usage: compare schedules PROGRAM [ARGUMENT...] | load-text PROGRAM [ARGUMENT...] | tables | frames | wire | load |"
         );
-        eprintln!("       each with [--cases N] [--seed S]");
+        eprintln!("       recordings, each with [--cases N] [--seed S]");
         return ExitCode::from(2);
     };
     let started = std::time::Instant::now();
@@ -44,6 +50,7 @@ fn main() -> ExitCode {
         "frames" => frames_run::compare(&arguments),
         "wire" => wire_run::compare(&arguments),
         "load" => load_run::compare(&arguments),
+        "recordings" => recordings_run::compare(&arguments),
         "load-text" => load_text_run::compare(&arguments),
         other => Err(format!("no such comparison: {other}")),
     };

@@ -1,11 +1,13 @@
 //! Random messages as they are lent to a writer: good ones, and ones that no frame holds.
 
-use frames::lent::Fixed;
-use frames::message::{to_server, KINDS, MOST_ENTRIES, MOST_KEYS};
+use frames::lent::{write_lent, Fixed};
+use frames::message::{to_server, HEAD, KINDS, MOST_ENTRIES, MOST_KEYS};
 use schedules::{badge, Random};
 
 /// Most entries of a message that is not a long one.
 const SHORT: usize = 24;
+/// More than any frame has.
+const MOST_BYTES: usize = 2000;
 
 /// The fixed part of a message and its entries: key words, badges of versions, and tags, setpoints or masks.
 #[derive(Clone, Debug)]
@@ -20,17 +22,20 @@ impl Lent {
     pub fn is_long(&self) -> bool {
         self.fixed.entries as usize > SHORT
     }
+
+    /// The frame of a good message.
+    pub fn frame(&self) -> Vec<u8> {
+        let mut bytes = vec![0; MOST_BYTES];
+        let length = write_lent(&self.fixed, &self.keys, &self.badges, &self.numbers, &mut bytes).expect("a good message");
+        bytes.truncate(length);
+        bytes
+    }
 }
 
 /// A short message of any kind: most are good; some have one value that no field takes, or entries too few or too many.
 pub fn random_message(random: &mut Random) -> Lent {
     let kind = random.within(1, KINDS as usize) as u32;
-    let most = match kind {
-        6 => MOST_KEYS,
-        10 | 12 => SHORT,
-        _ => 0,
-    };
-    let entries = if most == 0 { 0 } else { random.within(1, most) };
+    let entries = most_of(kind).map_or(0, |most| random.within(1, most));
     let mut message = good_message(random, kind, entries);
     if random.chance(1, 4) {
         spoil(random, &mut message);
@@ -61,12 +66,35 @@ pub fn with_broken_entry(message: &Lent, random: &mut Random) -> Lent {
     broken
 }
 
+/// A good message of a link, with as many entries as a short one has at most.
+pub fn message_of_link(random: &mut Random, client: u8, target: u8) -> Lent {
+    let to_servers = u32::from(target) < HEAD;
+    let kinds: Vec<u32> = (1..=KINDS).filter(|&kind| to_server(kind) == to_servers).collect();
+    let kind = random.pick(&kinds);
+    let entries = most_of(kind).map_or(0, |most| random.within(1, most));
+    let server = if to_servers { target } else { 0 };
+    good_message_of(random, Fixed { kind, client, server, entries: entries as u32, ..Fixed::default() })
+}
+
+/// The most entries of a short message of a kind; none where the kind has no entries.
+fn most_of(kind: u32) -> Option<usize> {
+    match kind {
+        6 => Some(MOST_KEYS),
+        10 | 12 => Some(SHORT),
+        _ => None,
+    }
+}
+
 /// A message whose values are all in their ranges, often at an end.
 fn good_message(random: &mut Random, kind: u32, entries: usize) -> Lent {
-    let mut fixed = Fixed { kind, client: random.below(16) as u8, entries: entries as u32, ..Fixed::default() };
-    if to_server(kind) {
-        fixed.server = random.below(16) as u8;
-    }
+    let client = random.below(16) as u8;
+    let server = if to_server(kind) { random.below(16) as u8 } else { 0 };
+    good_message_of(random, Fixed { kind, client, server, entries: entries as u32, ..Fixed::default() })
+}
+
+/// The same of a kind, a link and a number of entries.
+pub fn good_message_of(random: &mut Random, mut fixed: Fixed) -> Lent {
+    let (kind, entries) = (fixed.kind, fixed.entries as usize);
     let count = if random.chance(1, 2) { 1 << random.below(8) } else { random.within(1, 255) as u8 };
     match kind {
         1 => (fixed.key, fixed.badge, fixed.number) = ((count, fixed.client), badge(random), random.word()),

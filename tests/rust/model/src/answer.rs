@@ -18,6 +18,7 @@ pub enum Refusal {
     BadField = 11,
     NoRoom = 12,
     Unreadable = 13,
+    BadRecording = 16,
 }
 
 /// What a READ shows of a station: "with each setpoint the tag of the WRITE that put it there, 0 for the opening", and "the badge
@@ -82,7 +83,7 @@ pub fn word(outcome: &Outcome) -> String {
 }
 
 impl Refusal {
-    /// The refusal of a number, 1 to 13.
+    /// The refusal of a number, 1 to 13 and 16.
     pub fn from_number(number: u32) -> Option<Refusal> {
         use Refusal::*;
         let all = [
@@ -99,6 +100,7 @@ impl Refusal {
             BadField,
             NoRoom,
             Unreadable,
+            BadRecording,
         ];
         all.into_iter().find(|&refusal| refusal as u32 == number)
     }

@@ -1,0 +1,2 @@
+-- What is known of a file that was read.
+pub mod Held

@@ -1,0 +1,3 @@
+-- What comparing answers, as a number.
+pub mod Numbers
+pub mod NumberLaws

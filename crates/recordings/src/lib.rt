@@ -1,0 +1,239 @@
+// Two recordings of one wire, compared link by link. A recording is the lengths of its frames, and their bytes end to end.
+// Both are judged wholly first; then each link is followed through both at once, by two cursors, with no memory beyond these.
+ghost use mathlib.Core.Path.{_≡_};
+ghost use Prim.Native.Nat.{_+_, _≤_, _<_};
+ghost use lib.ListN.{length, getD};
+ghost use Rattle.recordings.specs.Recording.{framesOf, readable, wellMade};
+ghost use Rattle.recordings.specs.Comparing.{same, differenceOn, fromLink, links, compared};
+ghost use Rattle.recordings.specs.ReadableLaws.{onBytes};
+ghost use Rattle.recordings.specs.Whole.{whole, frameAt, Standing, Reached, Here, Paired};
+
+// "up to 4,096 frames"
+pub const MOST_FRAMES: usize = 4096;
+// Sixteen stations and the head.
+pub const TARGETS: u32 = 17;
+// Sixteen panels, each with its targets.
+pub const LINKS: u32 = 272;
+
+// What comparing gives: the recordings agree; or the client, the target and the place on that link of the first difference; or the number
+// that refuses them.
+pub enum Compared {
+    Agree,
+    Differ(u8, u8, u32),
+    Refused(u8),
+}
+
+// The place of the first difference on a link.
+pub enum Place {
+    Nowhere,
+    At(u32),
+}
+
+// Where a recording is followed: its next frame, and where that begins.
+pub struct Cursor {
+    pub frame: usize,
+    pub at: usize,
+}
+
+fn wide(n: u32) -> usize
+    ensures { λ r. ⌜ r ≡ n ⌝ }
+{
+    n as usize
+}
+
+// A frame that the reader takes.
+fn is_readable(bytes: &[u8]) -> bool
+    ensures { λ r. ⌜ r ≡ readable (now (bytes .entry)) ⌝ }
+{
+    let scan = formats::reading::scan_frame(bytes);
+    scan.fault == 0
+}
+
+// The lengths are used up by the bytes, and each frame is readable.
+fn is_whole(lengths: &[u32], bytes: &[u8]) -> bool
+    ensures { λ r. ⌜ r ≡ whole (now (lengths .entry)) (now (bytes .entry)) ⌝ }
+{
+    let mut i: usize = 0;
+    let mut at: usize = 0;
+    while i < lengths.len() {
+        let n = wide(lengths[i]);
+        if bytes.len() - at < n {
+            return false;
+        }
+        let end = at + n;
+        if !is_readable(&bytes[at..end]) {
+            return false;
+        }
+        at = end;
+        i += 1;
+    }
+    at == bytes.len()
+}
+
+pub fn is_well_made(lengths: &[u32], bytes: &[u8]) -> bool
+    ensures { λ r. ⌜ r ≡ wellMade (now (lengths .entry)) (now (bytes .entry)) ⌝ }
+{
+    if MOST_FRAMES < lengths.len() {
+        return false;
+    }
+    is_whole(lengths, bytes)
+}
+
+// Whether the frame that begins at a byte is of a link, by its header.
+fn is_on(bytes: &[u8], at: usize, client: u8, target: u8) -> bool
+    requires { ⌜ at + 2 ≤ length (now bytes) ⌝ }
+    ensures { λ r. ⌜ r ≡ onBytes client target (getD (now (bytes .entry)) at 0) (getD (now (bytes .entry)) (at + 1) 0) ⌝ }
+{
+    if bytes[at] % 16 != client {
+        return false;
+    }
+    bytes[at + 1] / 8 == target
+}
+
+// The next frame of a link, from a cursor on, or the recording's end.
+fn next_on(lengths: &[u32], bytes: &[u8], client: u8, target: u8, frame: usize, at: usize) -> Cursor
+    requires { ⌜ Standing (now lengths) (now bytes) frame at ⌝ }
+    ensures { λ r. ⌜ Reached (now (lengths .entry)) (now (bytes .entry)) client target frame at r ⌝ }
+{
+    let mut i = frame;
+    let mut place = at;
+    while i < lengths.len() {
+        if is_on(bytes, place, client, target) {
+            return Cursor {
+                frame: i,
+                at: place,
+            };
+        }
+        place += wide(lengths[i]);
+        i += 1;
+    }
+    Cursor {
+        frame: i,
+        at: place,
+    }
+}
+
+// Equal bytes.
+fn is_same(a: &[u8], b: &[u8]) -> bool
+    ensures { λ r. ⌜ r ≡ same (now (a .entry)) (now (b .entry)) ⌝ }
+{
+    if a.len() != b.len() {
+        return false;
+    }
+    let mut i: usize = 0;
+    while i < a.len() {
+        if a[i] != b[i] {
+            return false;
+        }
+        i += 1;
+    }
+    true
+}
+
+// The frames at two cursors are equal.
+fn is_same_frame(
+    lengths: &[u32],
+    bytes: &[u8],
+    i: usize,
+    at: usize,
+    lengths2: &[u32],
+    bytes2: &[u8],
+    i2: usize,
+    at2: usize,
+) -> bool
+    requires { ⌜ Here (now lengths) (now bytes) i at × Here (now lengths2) (now bytes2) i2 at2 ⌝ }
+    ensures { λ r. ⌜ r ≡ same (frameAt (now (lengths .entry)) (now (bytes .entry)) i at)
+        (frameAt (now (lengths2 .entry)) (now (bytes2 .entry)) i2 at2) ⌝ }
+{
+    let end = at + wide(lengths[i]);
+    let end2 = at2 + wide(lengths2[i2]);
+    is_same(&bytes[at..end], &bytes2[at2..end2])
+}
+
+// The next frame of a link behind the one at a cursor.
+fn next_behind(lengths: &[u32], bytes: &[u8], client: u8, target: u8, i: usize, at: usize) -> Cursor
+    requires { ⌜ Here (now lengths) (now bytes) i at ⌝ }
+    ensures { λ r. ⌜ Reached (now (lengths .entry)) (now (bytes .entry)) client target (i + 1)
+        (at + getD (now (lengths .entry)) i 0) r ⌝ }
+{
+    let end = at + wide(lengths[i]);
+    next_on(lengths, bytes, client, target, i + 1, end)
+}
+
+// The place of the first difference on a link: two cursors go from frame to frame of it, each in its recording.
+fn difference_on(
+    lengths: &[u32],
+    bytes: &[u8],
+    lengths2: &[u32],
+    bytes2: &[u8],
+    client: u8,
+    target: u8,
+) -> Place
+    requires { ⌜ Paired (now lengths) (now bytes) (now lengths2) (now bytes2) ⌝ }
+    ensures { λ r. ⌜ r ≡ differenceOn client target (framesOf (now (lengths .entry)) (now (bytes .entry)))
+        (framesOf (now (lengths2 .entry)) (now (bytes2 .entry))) ⌝ }
+{
+    let first = next_on(lengths, bytes, client, target, 0, 0);
+    let first2 = next_on(lengths2, bytes2, client, target, 0, 0);
+    let mut i = first.frame;
+    let mut at = first.at;
+    let mut i2 = first2.frame;
+    let mut at2 = first2.at;
+    let mut place: u32 = 0;
+    while i < lengths.len() {
+        if lengths2.len() <= i2 {
+            return Place::At(place);
+        }
+        if !is_same_frame(lengths, bytes, i, at, lengths2, bytes2, i2, at2) {
+            return Place::At(place);
+        }
+        let next = next_behind(lengths, bytes, client, target, i, at);
+        let next2 = next_behind(lengths2, bytes2, client, target, i2, at2);
+        i = next.frame;
+        at = next.at;
+        i2 = next2.frame;
+        at2 = next2.at;
+        place += 1;
+    }
+    if i2 < lengths2.len() {
+        return Place::At(place);
+    }
+    Place::Nowhere
+}
+
+// The first link that has a difference, by client, then by target.
+fn first_difference(lengths: &[u32], bytes: &[u8], lengths2: &[u32], bytes2: &[u8]) -> Compared
+    requires { ⌜ Paired (now lengths) (now bytes) (now lengths2) (now bytes2) ⌝ }
+    ensures { λ r. ⌜ r ≡ fromLink (framesOf (now (lengths .entry)) (now (bytes .entry)))
+        (framesOf (now (lengths2 .entry)) (now (bytes2 .entry))) links 0 ⌝ }
+{
+    let mut link: u32 = 0;
+    while link < LINKS {
+        let client = (link / TARGETS) as u8;
+        let target = (link % TARGETS) as u8;
+        let found = difference_on(lengths, bytes, lengths2, bytes2, client, target);
+        match found {
+            Place::At(place) => {
+                return Compared::Differ(client, target, place);
+            }
+            Place::Nowhere => {
+                link += 1;
+            }
+        }
+    }
+    Compared::Agree
+}
+
+// Two recordings compared. Nothing is written.
+pub fn compare(lengths: &[u32], bytes: &[u8], lengths2: &[u32], bytes2: &[u8]) -> Compared
+    ensures { λ r. ⌜ r ≡ compared (now (lengths .entry)) (now (bytes .entry))
+        (now (lengths2 .entry)) (now (bytes2 .entry)) ⌝ }
+{
+    if !is_well_made(lengths, bytes) {
+        return Compared::Refused(16);
+    }
+    if !is_well_made(lengths2, bytes2) {
+        return Compared::Refused(16);
+    }
+    first_difference(lengths, bytes, lengths2, bytes2)
+}
