@@ -152,7 +152,8 @@ def cargo(member, program):
     if tool is None:
         raise Fault("there is no command cargo on this machine")
     folder = ROOT / "tests" / "rust"
-    words = ["build", "--offline", "--quiet", "--release", "--manifest-path", str(folder / "Cargo.toml"), "--target-dir", str(folder / "target")]
+    words = ["build", "--offline", "--quiet", "--release", "--manifest-path", str(folder / "Cargo.toml"),
+             "--target-dir", str(folder / "target")]
     passed(subprocess.run([tool, *words, "-p", member, "--bin", program], stdin=subprocess.DEVNULL, stdout=sys.stderr).returncode)
     return str(folder / "target" / "release" / program)
 
