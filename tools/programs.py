@@ -20,6 +20,9 @@ UNCHANGED = re.compile(r"^rt: \w+ proved \(unchanged since it was last proved\)$
 # What --quick runs: the member of tests/rust and its program.
 QUICK = {"replay": ("model", "model-replay"), "rough_load": ("schedules", "model-load")}
 HOW = ("--built", "--quick")
+# What plays from saved tables, and what that links.
+SAVED = ("saved", "saved-replay")
+LIBRARIES = ["store_exports", "wire_exports"]
 
 
 class Fault(Exception):
@@ -87,19 +90,24 @@ def command_of(name, how):
     return quick(name) if how == "--quick" else proved(name, how == "--built")
 
 
+def kit():
+    """The command rt."""
+    if (rt := shutil.which("rt")) is None:
+        raise Fault("the Rattle kit is not on this machine: there is no command rt")
+    return rt
+
+
 def proved(name, built):
     """The proved program; with `built` as it was built, else proved and built first where it is not up to date."""
-    rt = shutil.which("rt")
-    if rt is None:
-        raise Fault("the Rattle kit is not on this machine: there is no command rt")
+    rt = kit()
     if not built:
         passed(check(rt, ["check", name]))
     program = ROOT / "target" / "bin" / name
     if not os.access(program, os.X_OK):
         raise Fault(f"there is no target/bin/{name}: rt check {name} builds it")
     # A program runs under the kit's loader and C library, and under the kit's emulator where the processor is another.
-    kit = Path(os.environ.get("RATTLE_HOME") or Path(rt).resolve().parent.parent)
-    toolchain = kit / "on" / os.uname().machine / "toolchain"
+    home = Path(os.environ.get("RATTLE_HOME") or Path(rt).resolve().parent.parent)
+    toolchain = home / "on" / os.uname().machine / "toolchain"
     emulator = toolchain / "bin" / "qemu-x86_64"
     loader = [str(toolchain / "lib" / "ld-linux-x86-64.so.2"), "--library-path", str(toolchain / "lib"), str(program)]
     return [str(emulator), *loader] if os.access(emulator, os.X_OK) else loader
@@ -139,11 +147,32 @@ def passed(status):
 def quick(name):
     """The plain Rust program that does the same, of which nothing is proved."""
     if name not in QUICK:
-        raise Fault(f"--quick has no plain Rust program for {name}: only for {' and '.join(QUICK)}")
-    member, program = QUICK[name]
+        raise Fault(f"--quick has no plain Rust program for {name}")
+    return [unproved(*QUICK[name])]
+
+
+def unproved(member, program):
+    """A program of tests/rust, once it is built and it is said what it is."""
     built = cargo(member, program)
     tell("--quick: this is by the plain Rust model of tests/rust, of which nothing is proved")
-    return [built]
+    return built
+
+
+def saved(how):
+    """The program of tests/rust that takes up tables and saves them: by the proved libraries, or with --quick by the model alone."""
+    if how == "--quick":
+        return [unproved(*SAVED), "--model"]
+    rt = kit()
+    if how != "--built":
+        passed(check(rt, ["check", *LIBRARIES]))
+    for name in LIBRARIES:
+        library, stamp = ROOT / "target" / "staticlib" / f"lib{name}.a", ROOT / "target" / "stamp" / name
+        # rt builds a library anew each time, which takes as long as its proof, so it is asked only where the crate was proved since
+        if how != "--built" and (not library.is_file() or not stamp.is_file() or library.stat().st_mtime < stamp.stat().st_mtime):
+            passed(check(rt, ["staticlib", name]))
+        if not library.is_file():
+            raise Fault(f"there is no target/staticlib/lib{name}.a: rt staticlib {name} builds it")
+    return [cargo(*SAVED)]
 
 
 def cargo(member, program):
@@ -198,16 +227,21 @@ def input_of(name, given, watch=None):
         except OSError as fault:
             raise Fault(f"standard input: {fault.strerror}") from fault
         return Input(0, "standard input", watch)
+    return Input(opened(name), name, watch)
+
+
+def opened(name):
+    """The file of that name, open to be read."""
     try:
         number = os.open(name, os.O_RDONLY)
         os.read(number, 0)
     except OSError as fault:
         raise Fault(f"{name}: {fault.strerror}") from fault
-    return Input(number, name, watch)
+    return number
 
 
-def play(words, source):
-    """Runs a program on an input and passes on what it prints."""
+def play(words, source, speaks=False):
+    """Runs a program on an input and passes on what it prints. One that speaks has said itself why its exit status is not 0."""
     try:
         child = subprocess.Popen(words, stdin=subprocess.PIPE, stdout=subprocess.PIPE)
     except OSError as fault:
@@ -224,7 +258,9 @@ def play(words, source):
         raise Fault(f"standard output: {fault.strerror}", 1) from fault
     if source.fault:
         raise source.fault
-    if (status := child.wait()) != 0:
+    if (status := child.wait()) > 0 and speaks:
+        return status
+    if status != 0:
         ended = f"by signal {-status}" if status < 0 else f"with status {status}"
         raise Fault(f"the program ended {ended}", 1)
     return 0
