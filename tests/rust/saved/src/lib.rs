@@ -6,7 +6,7 @@ mod play;
 mod text;
 
 pub use play::{play, By};
-pub use text::{read, written};
+pub use text::{lengthened, read, written};
 
 /// Why no tables were taken up or saved: refused by 2, in words.
 #[derive(Clone, Debug, PartialEq, Eq)]

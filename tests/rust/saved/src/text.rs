@@ -3,7 +3,7 @@
 use crate::Refused;
 use std::fmt::Write;
 use std::str::SplitAsciiWhitespace;
-use words::layout::{needed, CLIENTS, COUNTS_WORDS, SERVERS};
+use words::layout::{needed, CLIENTS, SERVERS};
 use words::Tables;
 
 const HEAD: [&str; 3] = ["setpoint-store", "tables", "1"];
@@ -25,17 +25,16 @@ pub fn written(tables: &Tables) -> String {
     text + "end\n"
 }
 
-/// The tables of a text, with zeros behind them up to the length that the largest press needs, so that any opening can follow.
-/// Whether they are sound is not asked here.
+/// The tables of a text, as long as it says. Whether they are sound, and so long enough, is not asked here.
 pub fn read(text: &[u8]) -> Result<Tables, Refused> {
     let text = std::str::from_utf8(text).map_err(|_| Refused("it is no text of tables".into()))?;
     let mut parts = text.split_ascii_whitespace();
     if !HEAD.iter().all(|&word| parts.next() == Some(word)) {
         return Err(Refused(format!("it does not begin with '{}'", HEAD.join(" "))));
     }
-    let mut tables = Tables::filled(MOST, MOST, 0);
-    for (name, table) in NAMES.into_iter().zip(tables.all_mut()) {
-        fill(name, table, &mut parts)?;
+    let mut tables = Tables::default();
+    for ((name, table), most) in NAMES.into_iter().zip(tables.all_mut()).zip(needed(MOST, MOST)) {
+        fill(name, table, most, &mut parts)?;
     }
     match (parts.next(), parts.next()) {
         (Some("end"), None) => Ok(tables),
@@ -43,20 +42,27 @@ pub fn read(text: &[u8]) -> Result<Tables, Refused> {
     }
 }
 
-fn fill(name: &str, table: &mut [u32], parts: &mut SplitAsciiWhitespace) -> Result<(), Refused> {
+fn fill(name: &str, table: &mut Vec<u32>, most: usize, parts: &mut SplitAsciiWhitespace) -> Result<(), Refused> {
     if parts.next() != Some(name) {
         return Err(Refused(format!("the table {name} is missing")));
     }
     let length = number(parts.next()).ok_or_else(|| Refused(format!("{name} has no number of words")))? as usize;
-    // A row more than the largest press has would be a table of something else, and counts that are short are no counts.
-    if length > table.len() || (name == NAMES[0] && length != COUNTS_WORDS) {
-        return Err(Refused(format!("{name} has {length} words, which no press has")));
+    if length > most {
+        return Err(Refused(format!("{name} has {length} words, and the largest press needs {most}")));
     }
-    for (place, word) in table[..length].iter_mut().enumerate() {
-        *word =
-            number(parts.next()).ok_or_else(|| Refused(format!("word {place} of {name} is missing, or no number of 32 bits")))?;
+    for place in 0..length {
+        let word = number(parts.next());
+        table.push(word.ok_or_else(|| Refused(format!("word {place} of {name} is missing, or no number of 32 bits")))?);
     }
     Ok(())
+}
+
+/// Sound tables with zeros behind them up to the length that the largest press needs, so that any opening can follow. They stay sound.
+pub fn lengthened(mut tables: Tables) -> Tables {
+    for (table, most) in tables.all_mut().into_iter().zip(needed(MOST, MOST)) {
+        table.resize(most, 0);
+    }
+    tables
 }
 
 /// Decimal, with no leading zero: a word has one text.

@@ -1,7 +1,7 @@
 //! Every schedule of the repository, cut in two at many places: what is saved at the cut and taken up behind it gives what the whole gives.
 
-use saved::{play, read, written, By, Refused};
-use std::path::Path;
+use saved::{lengthened, play, read, written, By, Refused};
+use std::path::{Path, PathBuf};
 use words::layout::{CLIENTS, METHOD, SERVERS};
 use words::Tables;
 
@@ -10,12 +10,23 @@ fn players() -> Vec<By> {
     [Some(By::Model), By::proved()].into_iter().flatten().collect()
 }
 
+fn root() -> PathBuf {
+    Path::new(env!("CARGO_MANIFEST_DIR")).join("../../..")
+}
+
+/// Where the libraries are built, they are what is tried.
+#[test]
+fn the_proved_crates_are_tried() {
+    let built = |name: &str| root().join("target/staticlib").join(name).exists();
+    assert_eq!(By::proved().is_some(), built("libstore_exports.a") && built("libwire_exports.a"));
+}
+
 fn schedules() -> Vec<(Vec<u8>, String)> {
-    let root = Path::new(env!("CARGO_MANIFEST_DIR")).join("../../..");
+    let root = root();
     let folders = ["examples", "tests/schedules"].map(|name| root.join(name));
     let files = folders.iter().flat_map(|folder| std::fs::read_dir(folder).unwrap()).map(|file| file.unwrap().path());
     let texts = files.filter(|file| file.extension().is_some_and(|end| end == "txt"));
-    let pair = |file: std::path::PathBuf| {
+    let pair = |file: PathBuf| {
         let wanted = std::fs::read_to_string(file.with_extension("out")).unwrap();
         (std::fs::read(&file).unwrap(), wanted)
     };
@@ -67,7 +78,9 @@ fn what_is_saved_goes_on() {
                 if by.sound(&tables).is_err() {
                     continue; // no press is open yet
                 }
-                let mut moved = read(written(&tables).as_bytes()).unwrap();
+                let found = read(written(&tables).as_bytes()).unwrap();
+                by.sound(&found).unwrap();
+                let mut moved = lengthened(found);
                 by.sound(&moved).unwrap();
                 let second = answers(&played(by, &mut moved, &schedule[cut..]));
                 let both: Vec<String> = first.into_iter().filter(|line| !in_register(line)).chain(second).collect();
@@ -102,8 +115,8 @@ fn what_is_no_text_of_tables() {
     for (old, new, why) in [
         ("setpoint-store tables 1", "setpoint-store tables 2", "does not begin"),
         ("setpoint-store", "", "does not begin"),
-        ("counts 23", "counts", "counts has 2 words"),
-        ("counts 23", "counts 22", "counts has 22 words"),
+        ("counts 23", "counts", "the table clients is missing"),
+        ("counts 23", "counts 22", "the table clients is missing"),
         ("counts 23", "counts 24", "counts has 24 words"),
         ("clients 140", "clients 139", "the table links is missing"),
         ("clients 140", "clients 141", "word 140 of clients is missing"),
@@ -141,5 +154,10 @@ fn what_is_not_sound_is_refused() {
             assert_eq!(by.sound(&wrong), Err(Refused("the tables are not sound".into())));
         }
         assert!(by.sound(&empty()).is_err());
+        for table in 0..8 {
+            let mut short = good.clone();
+            short.all_mut()[table].pop();
+            assert!(by.sound(&short).is_err(), "table {table} is a word too short");
+        }
     }
 }

@@ -6,7 +6,7 @@
 //!
 //! Exit status: 0 all was played and saved; 1 an input or an output failed; 2 a wrong command line, tables that are refused, no library.
 
-use saved::{play, read, written, By, Refused};
+use saved::{lengthened, play, read, written, By, Refused};
 use std::io::{self, BufWriter, Read};
 use std::process::ExitCode;
 use words::Tables;
@@ -44,8 +44,9 @@ fn run() -> Result<(), Fault> {
     let mut tables = Tables::filled(16, 16, 0);
     if let Some(name) = from {
         let text = std::fs::read(&name).map_err(|error| Fault::Said(2, format!("{name}: {error}")))?;
-        tables = read(&text).map_err(refused(&name))?;
-        by.sound(&tables).map_err(refused(&name))?;
+        let found = read(&text).map_err(refused(&name))?;
+        by.sound(&found).map_err(refused(&name))?;
+        tables = lengthened(found);
     }
     let mut schedule = Vec::new();
     io::stdin().read_to_end(&mut schedule)?;
