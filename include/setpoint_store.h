@@ -151,6 +151,8 @@ extern "C" {
 #define SETPOINT_FRAME_ALL 10u
 #define SETPOINT_FRAME_GET_LOG 11u
 #define SETPOINT_FRAME_LOG 12u
+#define SETPOINT_FRAME_LONGEST 1923u /* bytes of the longest frame */
+#define SETPOINT_FRAME_ENTRIES 256u /* entries of the longest frame */
 
 /* A delivered reply's answer as it crosses, and beside it what a READ shows: setpoints, and the tags and badges of the WRITEs that put them
    there; 0 where it shows none. */
@@ -229,9 +231,9 @@ setpoint_crossing store_deliver_reply(
     const uint32_t *keys, size_t keys_length, const uint32_t *values, size_t values_length, const uint32_t *log, size_t log_length,
     uint32_t *writes, size_t writes_length, uint32_t *reads, size_t reads_length, uint32_t client, uint32_t target);
 
-/* Begins a WRITE on tables known to be sound; nothing checks them. */
+/* Begins a WRITE on tables known to be sound. */
 /* UNCHECKED: the tables must be sound. Nothing checks a caller in another language: on other tables anything may happen. */
-uint32_t store_begin_write_sound(
+uint32_t store_begin_write_unchecked(
     uint32_t *counts, size_t counts_length, uint32_t *clients, size_t clients_length, uint32_t *links, size_t links_length,
     const uint32_t *keys, size_t keys_length, const uint32_t *values, size_t values_length, const uint32_t *log, size_t log_length,
     uint32_t *writes, size_t writes_length, const uint32_t *reads, size_t reads_length, uint32_t client, uint32_t mask, uint16_t badge,
@@ -239,21 +241,21 @@ uint32_t store_begin_write_sound(
 
 /* Begins a READ on tables known to be sound. */
 /* UNCHECKED: the tables must be sound. Nothing checks a caller in another language: on other tables anything may happen. */
-uint32_t store_begin_read_sound(
+uint32_t store_begin_read_unchecked(
     uint32_t *counts, size_t counts_length, uint32_t *clients, size_t clients_length, uint32_t *links, size_t links_length,
     const uint32_t *keys, size_t keys_length, const uint32_t *values, size_t values_length, const uint32_t *log, size_t log_length,
     const uint32_t *writes, size_t writes_length, uint32_t *reads, size_t reads_length, uint32_t client, uint32_t mask);
 
 /* Delivers a request on tables known to be sound. */
 /* UNCHECKED: the tables must be sound. Nothing checks a caller in another language: on other tables anything may happen. */
-uint32_t store_deliver_request_sound(
+uint32_t store_deliver_request_unchecked(
     uint32_t *counts, size_t counts_length, const uint32_t *clients, size_t clients_length, uint32_t *links, size_t links_length,
     uint32_t *keys, size_t keys_length, uint32_t *values, size_t values_length, uint32_t *log, size_t log_length, uint32_t *writes,
     size_t writes_length, const uint32_t *reads, size_t reads_length, uint32_t client, uint32_t target);
 
 /* Delivers a reply on tables known to be sound. */
 /* UNCHECKED: the tables must be sound. Nothing checks a caller in another language: on other tables anything may happen. */
-setpoint_crossing store_deliver_reply_sound(
+setpoint_crossing store_deliver_reply_unchecked(
     uint32_t *counts, size_t counts_length, uint32_t *clients, size_t clients_length, uint32_t *links, size_t links_length,
     const uint32_t *keys, size_t keys_length, const uint32_t *values, size_t values_length, const uint32_t *log, size_t log_length,
     uint32_t *writes, size_t writes_length, uint32_t *reads, size_t reads_length, uint32_t client, uint32_t target);
@@ -394,33 +396,33 @@ static inline setpoint_crossing setpoint_store_deliver_reply(setpoint_tables *ta
 }
 
 /* UNCHECKED: the tables must be sound. Nothing checks a caller in another language: on other tables anything may happen. */
-static inline uint32_t setpoint_store_begin_write_sound(
+static inline uint32_t setpoint_store_begin_write_unchecked(
     setpoint_tables *tables, uint32_t client, uint32_t mask, uint16_t badge, const uint32_t *setpoints, size_t setpoints_length) {
-    return store_begin_write_sound(
+    return store_begin_write_unchecked(
         tables->counts, tables->counts_length, tables->clients, tables->clients_length, tables->links, tables->links_length, tables->keys,
         tables->keys_length, tables->values, tables->values_length, tables->log, tables->log_length, tables->writes, tables->writes_length,
         tables->reads, tables->reads_length, client, mask, badge, setpoints, setpoints_length);
 }
 
 /* UNCHECKED: the tables must be sound. Nothing checks a caller in another language: on other tables anything may happen. */
-static inline uint32_t setpoint_store_begin_read_sound(setpoint_tables *tables, uint32_t client, uint32_t mask) {
-    return store_begin_read_sound(
+static inline uint32_t setpoint_store_begin_read_unchecked(setpoint_tables *tables, uint32_t client, uint32_t mask) {
+    return store_begin_read_unchecked(
         tables->counts, tables->counts_length, tables->clients, tables->clients_length, tables->links, tables->links_length, tables->keys,
         tables->keys_length, tables->values, tables->values_length, tables->log, tables->log_length, tables->writes, tables->writes_length,
         tables->reads, tables->reads_length, client, mask);
 }
 
 /* UNCHECKED: the tables must be sound. Nothing checks a caller in another language: on other tables anything may happen. */
-static inline uint32_t setpoint_store_deliver_request_sound(setpoint_tables *tables, uint32_t client, uint32_t target) {
-    return store_deliver_request_sound(
+static inline uint32_t setpoint_store_deliver_request_unchecked(setpoint_tables *tables, uint32_t client, uint32_t target) {
+    return store_deliver_request_unchecked(
         tables->counts, tables->counts_length, tables->clients, tables->clients_length, tables->links, tables->links_length, tables->keys,
         tables->keys_length, tables->values, tables->values_length, tables->log, tables->log_length, tables->writes, tables->writes_length,
         tables->reads, tables->reads_length, client, target);
 }
 
 /* UNCHECKED: the tables must be sound. Nothing checks a caller in another language: on other tables anything may happen. */
-static inline setpoint_crossing setpoint_store_deliver_reply_sound(setpoint_tables *tables, uint32_t client, uint32_t target) {
-    return store_deliver_reply_sound(
+static inline setpoint_crossing setpoint_store_deliver_reply_unchecked(setpoint_tables *tables, uint32_t client, uint32_t target) {
+    return store_deliver_reply_unchecked(
         tables->counts, tables->counts_length, tables->clients, tables->clients_length, tables->links, tables->links_length, tables->keys,
         tables->keys_length, tables->values, tables->values_length, tables->log, tables->log_length, tables->writes, tables->writes_length,
         tables->reads, tables->reads_length, client, target);

@@ -1,4 +1,5 @@
-// What other languages call, on numbers and slices: the check of tables, the five public steps, and four of them on tables known to be sound.
+// What other languages call, on numbers and slices: the check of tables, the five public steps, and four of them on tables known to be
+// sound, which are named `_unchecked`, since nothing checks a caller in another language.
 // An answer crosses as a number: 0 for ok, and below 256 the number of a refusal.
 ghost use mathlib.Core.Path.{_≡_};
 ghost use Rattle.tables.specs.Tables.{tablesOf};
@@ -243,9 +244,9 @@ pub extern "C" fn store_deliver_reply(
     to_cross(delivered)
 }
 
-// Begins a WRITE on tables known to be sound; nothing checks them.
+// Begins a WRITE on tables known to be sound.
 #[no_mangle]
-pub extern "C" fn store_begin_write_sound(
+pub extern "C" fn store_begin_write_unchecked(
     counts: &mut [u32],
     clients: &mut [u32],
     links: &mut [u32],
@@ -282,7 +283,7 @@ pub extern "C" fn store_begin_write_sound(
 
 // Begins a READ on tables known to be sound.
 #[no_mangle]
-pub extern "C" fn store_begin_read_sound(
+pub extern "C" fn store_begin_read_unchecked(
     counts: &mut [u32],
     clients: &mut [u32],
     links: &mut [u32],
@@ -315,7 +316,7 @@ pub extern "C" fn store_begin_read_sound(
 
 // Delivers a request on tables known to be sound.
 #[no_mangle]
-pub extern "C" fn store_deliver_request_sound(
+pub extern "C" fn store_deliver_request_unchecked(
     counts: &mut [u32],
     clients: &[u32],
     links: &mut [u32],
@@ -348,7 +349,7 @@ pub extern "C" fn store_deliver_request_sound(
 
 // Delivers a reply on tables known to be sound.
 #[no_mangle]
-pub extern "C" fn store_deliver_reply_sound(
+pub extern "C" fn store_deliver_reply_unchecked(
     counts: &mut [u32],
     clients: &mut [u32],
     links: &mut [u32],

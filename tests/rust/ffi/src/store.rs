@@ -90,17 +90,17 @@ mod linked {
     exported!(store_open: &mut Tables,
         [counts mut, clients mut, links mut, keys mut, values mut, log mut, writes ptr, reads ptr]
         (method: u32, servers: u32, panels: u32, given: *const u32, given_length: usize) -> u32);
-    // Those that end in `_sound` are for tables known to be sound: on others anything may happen.
-    exported!(store_begin_write, store_begin_write_sound: &mut Tables,
+    // Those that end in `_unchecked` are for tables known to be sound: on others anything may happen.
+    exported!(store_begin_write, store_begin_write_unchecked: &mut Tables,
         [counts mut, clients mut, links mut, keys ptr, values ptr, log ptr, writes mut, reads ptr]
         (client: u32, mask: u32, badge: u16, given: *const u32, given_length: usize) -> u32);
-    exported!(store_begin_read, store_begin_read_sound: &mut Tables,
+    exported!(store_begin_read, store_begin_read_unchecked: &mut Tables,
         [counts mut, clients mut, links mut, keys ptr, values ptr, log ptr, writes ptr, reads mut]
         (client: u32, mask: u32) -> u32);
-    exported!(store_deliver_request, store_deliver_request_sound: &mut Tables,
+    exported!(store_deliver_request, store_deliver_request_unchecked: &mut Tables,
         [counts mut, clients ptr, links mut, keys mut, values mut, log mut, writes mut, reads ptr]
         (client: u32, target: u32) -> u32);
-    exported!(store_deliver_reply, store_deliver_reply_sound: &mut Tables,
+    exported!(store_deliver_reply, store_deliver_reply_unchecked: &mut Tables,
         [counts mut, clients mut, links mut, keys ptr, values ptr, log ptr, writes mut, reads mut]
         (client: u32, target: u32) -> Crossing);
 
@@ -150,10 +150,10 @@ mod linked {
         taken_by!(
             t,
             step,
-            store_begin_write_sound,
-            store_begin_read_sound,
-            store_deliver_request_sound,
-            store_deliver_reply_sound
+            store_begin_write_unchecked,
+            store_begin_read_unchecked,
+            store_deliver_request_unchecked,
+            store_deliver_reply_unchecked
         )
     }
 

@@ -1,13 +1,13 @@
--- `store_exports::store_deliver_request_sound` meets its contract: the number is the answer's, and `store::deliver_request_sound` leaves the tables.
+-- `store_exports::store_deliver_request_unchecked` meets its contract: the number is the answer's, and `store::deliver_request_sound` leaves the tables.
 use Rattle.store_exports.specs.NumberLaws.{answered}
 use borrow.Author.Needs.{needs}
-use Rattle.store_exports.proofs.store_deliver_request_sound.Statement.{statement}
-use Rattle.store_exports.proofs.store_deliver_request_sound.Tie as tie
+use Rattle.store_exports.proofs.store_deliver_request_unchecked.Statement.{statement}
+use Rattle.store_exports.proofs.store_deliver_request_unchecked.Tie as tie
 
 returns : tie.Need-returns
 returns c = answered (c .answer-number .ensures) (c .before .before .before .before .before .before .before .before .before .before .before .before .before .deliver-request-sound .ensures)
 
-pub store-deliver-request-sound-spec : {M : Type 1} → statement M
-store-deliver-request-sound-spec =
+pub store-deliver-request-unchecked-spec : {M : Type 1} → statement M
+store-deliver-request-unchecked-spec =
     tie.close
     (tie.spec (λ c κs. search needs) (λ c κs. search needs) (λ c. search needs) (λ c. search needs) (λ c. search needs) (λ c. search needs) (λ c. search needs) (λ c. search needs) returns)
