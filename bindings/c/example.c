@@ -5,7 +5,7 @@
    sent; then it is delivered. The steps and their answers are those of examples/crossing-b.txt, and so is the register at the end.
 
    It is an example: no crate rests on it, and nothing of it is proved. bindings/run builds it and compares what it prints with
-   bindings/c/example.out. */
+   bindings/example.out. */
 #define _POSIX_C_SOURCE 200809L
 #include <stdio.h>
 #include <stdlib.h>
@@ -17,7 +17,7 @@
 #include "setpoint_store.h"
 
 enum { METHOD_B = 2, STATIONS = 2, PANELS = 2, HEAD = SETPOINT_LINKS_COORDINATOR, BOTH = 3, BADGE = 7 };
-enum { FRAME_BYTES = 2048, ENTRIES = 256 }; /* enough for the longest frame */
+enum { FRAME_BYTES = SETPOINT_FRAME_LONGEST, ENTRIES = SETPOINT_FRAME_ENTRIES };
 
 static void stop(const char *why) {
     fflush(stdout);

@@ -3,7 +3,7 @@
 use std::path::Path;
 
 fn main() {
-    let folder = Path::new(env!("CARGO_MANIFEST_DIR")).join("../../../target/staticlib");
+    let folder = Path::new(env!("CARGO_MANIFEST_DIR")).join("../../target/staticlib");
     for library in ["store_exports", "frame_exports", "wire_exports", "workload_exports", "recording_exports"] {
         let archive = folder.join(format!("lib{library}.a"));
         println!("cargo::rustc-check-cfg=cfg({library})");
