@@ -85,7 +85,7 @@ mod linked {
 mod linked {
     use super::{Fixed, Parts};
 
-    // Nothing checks these declarations against crates/frame_exports/src/lib.rt.
+    // tools/c-header compares these declarations with crates/frame_exports/src/lib.rt.
     #[rustfmt::skip]
     extern "C" {
         fn frame_read(

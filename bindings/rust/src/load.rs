@@ -60,7 +60,7 @@ mod linked {
     use crate::exported::exported;
     use crate::{Lent, LentMut};
 
-    // Nothing checks these declarations against crates/workload_exports/src/lib.rt.
+    // tools/c-header compares these declarations with crates/workload_exports/src/lib.rt.
     exported!(workload_exports load_advance: [&[u32]; 0], [] (seed: u32) -> u32);
     exported!(workload_exports load_next_step: Lent,
         [counts ptr, clients ptr, links ptr, keys ptr, values ptr, log ptr, writes ptr, reads ptr]

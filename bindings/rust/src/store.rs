@@ -79,7 +79,7 @@ mod linked {
     use crate::exported::exported;
     use crate::{Crossing, Lent, LentMut};
 
-    // Nothing checks these declarations against crates/store_exports/src/lib.rt.
+    // tools/c-header compares these declarations with crates/store_exports/src/lib.rt.
     exported!(store_exports store_sound: Lent,
         [counts ptr, clients ptr, links ptr, keys ptr, values ptr, log ptr, writes ptr, reads ptr]
         () -> bool);

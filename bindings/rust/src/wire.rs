@@ -30,7 +30,7 @@ mod linked {
     use crate::exported::exported;
     use crate::Lent;
 
-    // Nothing checks these declarations against crates/wire_exports/src/lib.rt.
+    // tools/c-header compares these declarations with crates/wire_exports/src/lib.rt.
     exported!(wire_exports wire_write_link_frame: Lent,
         [counts ptr, clients ptr, links ptr, keys ptr, values ptr, log ptr, writes ptr, reads ptr]
         (client: u32, target: u32, bytes: *mut u8, bytes_length: usize) -> u64);
