@@ -15,11 +15,16 @@ use text::{Asked, Said};
 pub struct Violation {
     pub line: usize,
     pub what: String,
+    /// Whether the output has an answer to each line and a register behind them; where it has not, nothing is said of the demand.
+    pub fits: bool,
 }
 
 impl fmt::Display for Violation {
     fn fmt(&self, out: &mut fmt::Formatter) -> fmt::Result {
-        write!(out, "line {}: {}", self.line, self.what)
+        match self.line {
+            0 => write!(out, "{}", self.what),
+            line => write!(out, "line {line}: {}", self.what),
+        }
     }
 }
 
@@ -35,29 +40,43 @@ pub struct Summary {
 }
 
 pub(crate) fn violation(line: usize, what: impl Into<String>) -> Violation {
-    Violation { line, what: what.into() }
+    Violation { line, what: what.into(), fits: true }
+}
+
+pub(crate) fn unfit(line: usize, what: impl Into<String>) -> Violation {
+    Violation { line, what: what.into(), fits: false }
 }
 
 /// Checks what was printed for a schedule.
 pub fn check(schedule: &[u8], output: &[u8]) -> Result<Summary, Violation> {
-    let output = std::str::from_utf8(output).map_err(|_| violation(0, "the output is no text"))?;
-    if !output.is_empty() && !output.ends_with('\n') {
-        return Err(violation(0, "the output's last line does not end"));
-    }
-    let mut printed = output.split_terminator('\n');
+    let lines = text::lines(schedule);
+    let (answers, register) = parts_of(output, lines.len())?;
     let mut summary = Summary::default();
     let mut run: Option<Run> = None;
-    for (place, line) in text::lines(schedule).into_iter().enumerate() {
-        let number = place + 1;
-        let answer = printed.next().ok_or_else(|| violation(number, "no answer is printed"))?;
-        let said = text::said(answer, number)?;
-        let asked = text::asked(line);
+    for (number, (line, said)) in (1..).zip(lines.into_iter().zip(answers)) {
         count(&mut summary, &said);
-        run = take(run, asked, said, number, &mut summary)?;
+        run = take(run, text::asked(line), said, number, &mut summary)?;
     }
-    let register: Vec<&str> = printed.collect();
     close(run, Some(&register), &mut summary)?;
     Ok(summary)
+}
+
+/// The answers to so many lines, and the lines of the register behind them.
+fn parts_of(output: &[u8], lines: usize) -> Result<(Vec<Said>, Vec<&str>), Violation> {
+    let output = std::str::from_utf8(output).map_err(|_| unfit(0, "the output is no text"))?;
+    if !output.is_empty() && !output.ends_with('\n') {
+        return Err(unfit(0, "the output's last line does not end: it is cut"));
+    }
+    let mut printed: Vec<&str> = output.split_terminator('\n').collect();
+    if printed.len() < lines {
+        return Err(unfit(0, format!("the schedule has {lines} lines, and the output only {}", printed.len())));
+    }
+    let register = printed.split_off(lines);
+    let answers = (1..).zip(printed).map(|(number, line)| text::said(line, number)).collect::<Result<_, _>>()?;
+    match register.iter().find(|line| !line.starts_with("W ") && !line.starts_with("R ")) {
+        Some(line) => Err(unfit(0, format!("behind the {lines} answers, no line of a register: {line:?}"))),
+        None => Ok((answers, register)),
+    }
 }
 
 fn count(summary: &mut Summary, said: &Said) {

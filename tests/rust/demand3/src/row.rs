@@ -10,7 +10,8 @@ pub fn row_of(run: &Run) -> Result<Vec<usize>, Violation> {
     let mut reads: Vec<usize> = (0..run.transactions.len()).filter(|&place| finished_read(&run.transactions[place])).collect();
     let last = run.tagged.len();
     if let Some(&place) = reads.iter().find(|&&place| tag(run, place) > last) {
-        return Err(violation(0, format!("a READ shows tag {}, and {last} WRITEs are tagged", tag(run, place))));
+        let what = format!("a READ shows tag {}, and {last} WRITEs are tagged", tag(run, place));
+        return Err(violation(run.transactions[place].line, what));
     }
     reads.sort_by_key(|&place| (tag(run, place), run.transactions[place].begin));
     let mut row = Vec::new();
@@ -52,15 +53,19 @@ pub fn walk(run: &Run, row: &[usize]) -> Result<(), Violation> {
             Kind::Read { shown } => {
                 let due: Vec<(usize, Value)> = stations.iter().map(|&server| (server, values[server])).collect();
                 if *shown != due {
-                    return Err(violation(
-                        0,
-                        format!("the READ begun at step {} shows {shown:?}, and the row has {due:?}", transaction.begin),
-                    ));
+                    let what = format!("the READ shows {}, and the row has {}", text_of(shown), text_of(&due));
+                    return Err(violation(transaction.line, what));
                 }
             }
         }
     }
     Ok(())
+}
+
+/// `station=setpoint@tag#badge` of each station, as a READ shows them.
+fn text_of(values: &[(usize, Value)]) -> String {
+    let texts: Vec<String> = values.iter().map(|(server, value)| format!("{server}={value}")).collect();
+    texts.join(" ")
 }
 
 /// A transaction that finished before another began stands before it in the row.
@@ -104,7 +109,10 @@ pub fn register(run: &Run, row: &[usize], printed: &[&str]) -> Result<(), Violat
     for (place, line) in due.iter().enumerate() {
         match printed.get(place) {
             Some(found) if found == line => {}
-            other => return Err(violation(0, format!("the register has {other:?} in place of {line:?}"))),
+            other => {
+                let found = other.map_or("nothing".to_string(), |found| format!("{found:?}"));
+                return Err(violation(0, format!("the register has {found} in place of {line:?}")));
+            }
         }
     }
     match printed.get(due.len()) {

@@ -25,6 +25,8 @@ pub struct Transaction {
     /// A WRITE's by the order of first deliveries at the head, a READ's as shown.
     pub tag: Option<usize>,
     pub deliveries: usize,
+    /// The schedule's line that ended it; before that, the one that began it.
+    pub line: usize,
 }
 
 impl Transaction {
@@ -109,7 +111,7 @@ impl Run {
             return Err(violation(line, "a transaction begins while its panel's last one is in progress"));
         }
         self.current[client] = Some(self.transactions.len());
-        self.transactions.push(Transaction { kind, client, mask, begin: self.step, end: None, tag: None, deliveries: 0 });
+        self.transactions.push(Transaction { kind, client, mask, begin: self.step, end: None, tag: None, deliveries: 0, line });
         Ok(())
     }
 
@@ -157,9 +159,11 @@ impl Run {
             return Err(violation(line, "a READ answers write"));
         }
         if transaction.tag != Some(tag) {
-            return Err(violation(line, format!("write answers {tag}, and the WRITE's tag is {:?}", transaction.tag)));
+            let own = transaction.tag.map_or("none yet".to_string(), |own| own.to_string());
+            return Err(violation(line, format!("write answers {tag}, and the WRITE's tag is {own}")));
         }
         transaction.end = Some(self.step);
+        transaction.line = line;
         self.current[transaction.client] = None;
         Ok(())
     }
@@ -170,12 +174,13 @@ impl Run {
         let Kind::Read { shown: kept } = &mut transaction.kind else {
             return Err(violation(line, "a WRITE answers read"));
         };
-        if wanted != Some(transaction.deliveries) {
-            return Err(violation(line, format!("a READ ends after {} deliveries and not {wanted:?}", transaction.deliveries)));
+        if let Some(wanted) = wanted.filter(|&wanted| wanted != transaction.deliveries) {
+            return Err(violation(line, format!("a READ ends after {} deliveries and not {wanted}", transaction.deliveries)));
         }
         *kept = shown;
         transaction.tag = Some(tag);
         transaction.end = Some(self.step);
+        transaction.line = line;
         self.current[transaction.client] = None;
         Ok(())
     }

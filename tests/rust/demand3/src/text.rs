@@ -1,6 +1,7 @@
 //! The two texts: what each line of the schedule asks, and what each line of the output says.
 
-use crate::{violation, Violation};
+use crate::{unfit, Violation};
+use std::fmt;
 
 /// A line of the schedule.
 #[derive(Clone, Debug, PartialEq, Eq)]
@@ -19,6 +20,13 @@ pub struct Value {
     pub setpoint: u32,
     pub tag: usize,
     pub badge: u32,
+}
+
+/// `setpoint@tag#badge`
+impl fmt::Display for Value {
+    fn fmt(&self, out: &mut fmt::Formatter) -> fmt::Result {
+        write!(out, "{}@{}#{}", self.setpoint, self.tag, self.badge)
+    }
 }
 
 /// A badge has 16 bits.
@@ -83,8 +91,8 @@ fn readable(line: &[u8]) -> Option<Asked> {
 /// What an output line says; it bears the number of the line that it answers.
 pub fn said(printed: &str, line: usize) -> Result<Said, Violation> {
     let answer = printed.strip_prefix(&format!("{line} "));
-    let answer = answer.ok_or_else(|| violation(line, format!("the answer has another line number: {printed}")))?;
-    answer_of(answer).ok_or_else(|| violation(line, format!("not an answer: {answer}")))
+    let answer = answer.ok_or_else(|| unfit(line, format!("the answer has another line number: {printed:?}")))?;
+    answer_of(answer).ok_or_else(|| unfit(line, format!("not an answer: {answer:?}")))
 }
 
 fn answer_of(answer: &str) -> Option<Said> {

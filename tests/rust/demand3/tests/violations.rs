@@ -317,3 +317,20 @@ fn a_delivery_to_a_server_that_is_not_there() {
     let report = check(b"O 3 1 2 5\nR 1 1\n> 1 3\n", b"1 ok\n2 ok\n3 ok\n").expect_err("a violation");
     assert!(report.what.contains("no target"), "{report}");
 }
+
+/// What is said of two texts that are not a schedule and its output, with `fits` false.
+fn unfit(output: &str) -> String {
+    let found = check(SAMPLE.as_bytes(), output.as_bytes()).expect_err("they do not fit");
+    assert!(!found.fits, "{found}");
+    found.to_string()
+}
+
+#[test]
+fn texts_that_do_not_fit_each_other() {
+    assert!(unfit("1 ok\n").contains("has 15 lines, and the output only 1"));
+    assert!(unfit(PRINTED.trim_end()).contains("it is cut"));
+    assert!(unfit(&PRINTED.replacen("R 0 ", "16 ok\nR 0 ", 1)).contains("no line of a register: \"16 ok\""));
+    // It is asked before the demand is: the READ is wrong too.
+    assert!(unfit(&PRINTED.replacen("14 read 0", "14 read 1", 1).replacen("15 write", "15 Write", 1)).contains("not an answer"));
+    assert!(check(SAMPLE.as_bytes(), PRINTED.replacen("14 read 0", "14 read 1", 1).as_bytes()).is_err_and(|found| found.fits));
+}
