@@ -1,6 +1,6 @@
-//! `model-frames SCHEDULE OUTPUT`: the frames that a schedule puts on its links, by the model, a line `LINE PANEL TARGET BYTES` each: the line
-//! of the schedule that put it there, its link, its bytes in hexadecimal. Exit status 1 where the model prints another output for that
-//! schedule, since the frames would be of another run; 2 where a file cannot be read.
+//! `model-frames SCHEDULE OUTPUT`: the frames that a schedule puts on its links, by the model, a line `LINE PANEL TARGET BYTES` each:
+//! the line of the schedule that put it there, its link, its bytes in hexadecimal. Exit status 1 where the model prints another output
+//! for that schedule, since the frames would be of another run; 2 where a file cannot be read.
 
 use model::line::lines;
 use model::{Link, Player, Store};
@@ -40,7 +40,7 @@ fn frames_of(schedule: &[u8]) -> String {
             continue;
         }
         for (place, link) in links_of(&player.store).iter().enumerate() {
-            // A line puts nothing on a link that holds the same afterwards: a delivery takes what was there, and a begin finds nothing there.
+            // A link that holds the same afterwards got no frame: a delivery takes what was there, and a begin finds nothing there.
             if before.get(place) != Some(link) {
                 printed.push_str(&frame_line(number, place / 17, place % 17, link));
             }
