@@ -1,5 +1,6 @@
 /* The setpoint store as C calls it. Made from the sources by tools/c-header; docs/INTEGRATING.md says how it is used. Link
-   libstore_exports.a, libframe_exports.a, libwire_exports.a, libworkload_exports.a, as far as their functions are called. */
+   libstore_exports.a, libframe_exports.a, libwire_exports.a, libworkload_exports.a, librecording_exports.a, as far as their functions are
+   called. */
 #ifndef SETPOINT_STORE_H
 #define SETPOINT_STORE_H
 
@@ -299,6 +300,12 @@ setpoint_load_end load_play(
     uint32_t *counts, size_t counts_length, uint32_t *clients, size_t clients_length, uint32_t *links, size_t links_length, uint32_t *keys,
     size_t keys_length, uint32_t *values, size_t values_length, uint32_t *log, size_t log_length, uint32_t *writes, size_t writes_length,
     uint32_t *reads, size_t reads_length, uint32_t seed, uint32_t wanted, uint32_t *list, size_t list_length);
+
+/* Compares two recordings, each the lengths of its frames and their bytes end to end: 0 where they agree; else 2^32, and below it client,
+   target and the place on that link of the first difference; or 16, where a recording is none. */
+uint64_t recordings_compare(
+    const uint32_t *lengths, size_t lengths_length, const uint8_t *bytes, size_t bytes_length, const uint32_t *lengths2,
+    size_t lengths2_length, const uint8_t *bytes2, size_t bytes2_length);
 
 /* ---- The eight tables as one struct, and the functions on it. */
 
