@@ -8,7 +8,7 @@ macro_rules! exported {
     (@lend mut $table:expr) => { $table.as_mut_ptr() };
     (@lend ptr $table:expr) => { $table.as_ptr() };
     (@one $library:ident $name:ident $lender:ty, [$($table:ident $lent:ident),*] ($($more:ident: $type:ty),*) -> $answer:ty) => {
-        #[inline]
+        #[inline(always)]
         #[allow(unused_mut, unused_variables)]
         pub unsafe fn $name(t: $lender $(, $more: $type)*) -> $answer {
             #[cfg($library)]

@@ -54,14 +54,14 @@ impl FrameLibrary {
     }
 
     /// Reads a frame; its entries go to the front of the slices.
-    #[inline]
+    #[inline(always)]
     pub fn read(self, bytes: &[u8], keys: &mut [u32], badges: &mut [u32], numbers: &mut [u32]) -> Parts {
         // The library was proved to stay within the slices that it is lent.
         unsafe { linked::read(bytes, keys, badges, numbers) }
     }
 
     /// Writes a message to the front of the bytes: its length, or a refusal, as a number that `answered` takes apart.
-    #[inline]
+    #[inline(always)]
     pub fn write(self, fixed: &Fixed, keys: &[u32], badges: &[u32], numbers: &[u32], bytes: &mut [u8]) -> u64 {
         // As above.
         unsafe { linked::write(fixed, keys, badges, numbers, bytes) }

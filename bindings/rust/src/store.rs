@@ -18,27 +18,27 @@ impl StoreLibrary {
     }
 
     /// Opens the store; the answer's number, as of the other steps.
-    #[inline]
+    #[inline(always)]
     pub fn open(self, tables: LentMut, method: u32, servers: u32, clients: u32, setpoints: &[u32]) -> u32 {
         unsafe { linked::store_open(tables, method, servers, clients, setpoints.as_ptr(), setpoints.len()) }
     }
 
-    #[inline]
+    #[inline(always)]
     pub fn begin_write(self, tables: LentMut, client: u32, mask: u32, badge: u16, setpoints: &[u32]) -> u32 {
         unsafe { linked::store_begin_write(tables, client, mask, badge, setpoints.as_ptr(), setpoints.len()) }
     }
 
-    #[inline]
+    #[inline(always)]
     pub fn begin_read(self, tables: LentMut, client: u32, mask: u32) -> u32 {
         unsafe { linked::store_begin_read(tables, client, mask) }
     }
 
-    #[inline]
+    #[inline(always)]
     pub fn deliver_request(self, tables: LentMut, client: u32, target: u32) -> u32 {
         unsafe { linked::store_deliver_request(tables, client, target) }
     }
 
-    #[inline]
+    #[inline(always)]
     pub fn deliver_reply(self, tables: LentMut, client: u32, target: u32) -> Crossing {
         unsafe { linked::store_deliver_reply(tables, client, target) }
     }
@@ -48,28 +48,28 @@ impl StoreLibrary {
 impl StoreLibrary {
     /// # Safety
     /// The tables must be sound.
-    #[inline]
+    #[inline(always)]
     pub unsafe fn begin_write_unchecked(self, tables: LentMut, client: u32, mask: u32, badge: u16, setpoints: &[u32]) -> u32 {
         linked::store_begin_write_unchecked(tables, client, mask, badge, setpoints.as_ptr(), setpoints.len())
     }
 
     /// # Safety
     /// The tables must be sound.
-    #[inline]
+    #[inline(always)]
     pub unsafe fn begin_read_unchecked(self, tables: LentMut, client: u32, mask: u32) -> u32 {
         linked::store_begin_read_unchecked(tables, client, mask)
     }
 
     /// # Safety
     /// The tables must be sound.
-    #[inline]
+    #[inline(always)]
     pub unsafe fn deliver_request_unchecked(self, tables: LentMut, client: u32, target: u32) -> u32 {
         linked::store_deliver_request_unchecked(tables, client, target)
     }
 
     /// # Safety
     /// The tables must be sound.
-    #[inline]
+    #[inline(always)]
     pub unsafe fn deliver_reply_unchecked(self, tables: LentMut, client: u32, target: u32) -> Crossing {
         linked::store_deliver_reply_unchecked(tables, client, target)
     }

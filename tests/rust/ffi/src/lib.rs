@@ -17,13 +17,17 @@ use model::Refusal;
 use setpoint_store::{Lent, LentMut, Refused};
 use words::Tables;
 
+// Field by field and inlined, so that a measured step is the exported function's and no copying of slices beside it.
+#[inline(always)]
 fn lent(tables: &Tables) -> Lent<'_> {
-    tables.all().map(Vec::as_slice)
+    let Tables { counts, clients, links, keys, values, log, writes, reads } = tables;
+    [counts, clients, links, keys, values, log, writes, reads]
 }
 
-#[inline]
+#[inline(always)]
 fn lent_mut(tables: &mut Tables) -> LentMut<'_> {
-    tables.all_mut().map(Vec::as_mut_slice)
+    let Tables { counts, clients, links, keys, values, log, writes, reads } = tables;
+    [counts, clients, links, keys, values, log, writes, reads]
 }
 
 /// Every refusal has a number that the model knows.

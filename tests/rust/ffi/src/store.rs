@@ -49,32 +49,36 @@ impl StoreLibrary {
     }
 
     /// Any step on any tables.
-    #[inline]
+    #[inline(always)]
     fn checked(self, tables: &mut Tables, step: &Step) -> Crossing {
-        let (library, t) = (self.0, lent_mut(tables));
+        let (library, t) = (self.0, tables);
         match step {
-            Step::Open { method, servers, clients, setpoints } => plain(library.open(t, *method, *servers, *clients, setpoints)),
-            Step::BeginWrite { client, mask, badge, setpoints } => {
-                plain(library.begin_write(t, *client, *mask, *badge, setpoints))
+            Step::Open { method, servers, clients, setpoints } => {
+                plain(library.open(lent_mut(t), *method, *servers, *clients, setpoints))
             }
-            Step::BeginRead { client, mask } => plain(library.begin_read(t, *client, *mask)),
-            Step::DeliverRequest { client, target } => plain(library.deliver_request(t, *client, *target)),
-            Step::DeliverReply { client, target } => library.deliver_reply(t, *client, *target),
+            Step::BeginWrite { client, mask, badge, setpoints } => {
+                plain(library.begin_write(lent_mut(t), *client, *mask, *badge, setpoints))
+            }
+            Step::BeginRead { client, mask } => plain(library.begin_read(lent_mut(t), *client, *mask)),
+            Step::DeliverRequest { client, target } => plain(library.deliver_request(lent_mut(t), *client, *target)),
+            Step::DeliverReply { client, target } => library.deliver_reply(lent_mut(t), *client, *target),
         }
     }
 
     /// Any step by the functions that check no tables, which must be sound. An opening has one function only: it asks of no old contents.
-    #[inline]
+    #[inline(always)]
     unsafe fn unchecked(self, tables: &mut Tables, step: &Step) -> Crossing {
-        let (library, t) = (self.0, lent_mut(tables));
+        let (library, t) = (self.0, tables);
         match step {
-            Step::Open { method, servers, clients, setpoints } => plain(library.open(t, *method, *servers, *clients, setpoints)),
-            Step::BeginWrite { client, mask, badge, setpoints } => {
-                plain(library.begin_write_unchecked(t, *client, *mask, *badge, setpoints))
+            Step::Open { method, servers, clients, setpoints } => {
+                plain(library.open(lent_mut(t), *method, *servers, *clients, setpoints))
             }
-            Step::BeginRead { client, mask } => plain(library.begin_read_unchecked(t, *client, *mask)),
-            Step::DeliverRequest { client, target } => plain(library.deliver_request_unchecked(t, *client, *target)),
-            Step::DeliverReply { client, target } => library.deliver_reply_unchecked(t, *client, *target),
+            Step::BeginWrite { client, mask, badge, setpoints } => {
+                plain(library.begin_write_unchecked(lent_mut(t), *client, *mask, *badge, setpoints))
+            }
+            Step::BeginRead { client, mask } => plain(library.begin_read_unchecked(lent_mut(t), *client, *mask)),
+            Step::DeliverRequest { client, target } => plain(library.deliver_request_unchecked(lent_mut(t), *client, *target)),
+            Step::DeliverReply { client, target } => library.deliver_reply_unchecked(lent_mut(t), *client, *target),
         }
     }
 }
