@@ -9,4 +9,5 @@ pub mod Begin
 pub mod Request
 pub mod Choice
 pub mod Reply
+pub mod Loss
 pub mod Examples
