@@ -20,13 +20,11 @@ impl LoadLibrary {
 
     /// The next step on any tables.
     pub fn next_step(self, tables: &Tables, seed: u32) -> LoadPick {
-        let setpoint_store::LoadPick { answer, seed, kind, client, second, setpoint } = self.0.next_step(lent(tables), seed);
-        LoadPick { answer, seed, kind, client, second, setpoint }
+        self.0.next_step(lent(tables), seed)
     }
 
     /// Plays a load on any tables and lists its steps at the front of the list.
     pub fn play(self, tables: &mut Tables, seed: u32, length: u32, list: &mut [u32]) -> LoadEnd {
-        let setpoint_store::LoadEnd { answer, steps, seed } = self.0.play(lent_mut(tables), seed, length, list);
-        LoadEnd { answer, steps, seed }
+        self.0.play(lent_mut(tables), seed, length, list)
     }
 }

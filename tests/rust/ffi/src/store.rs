@@ -4,8 +4,30 @@ use crate::{lent, lent_mut, refusal};
 use model::key::{has_server, servers_of};
 use model::{Answer, Outcome, Shown, Step};
 use setpoint_store::{accepted, Arrival, Crossing};
+use std::hint::black_box;
 use words::layout::MASK;
 use words::Tables;
+
+/// Any step by the functions of these names. An opening has one function only: it asks of no old contents. Each arm lends the tables by
+/// itself, behind a black box: the compiler takes what all arms begin with ahead of them, and eight slices there are too many for its
+/// registers, which cost a measured reply 30 instructions.
+macro_rules! taken {
+    ($library:expr, $tables:expr, $step:expr, $plain:expr, $replied:expr;
+        $begin_write:ident, $begin_read:ident, $deliver_request:ident, $deliver_reply:ident) => {{
+        let (library, t) = ($library, $tables);
+        match $step {
+            Step::Open { method, servers, clients, setpoints } => {
+                $plain(library.open(lent_mut(black_box(t)), *method, *servers, *clients, setpoints))
+            }
+            Step::BeginWrite { client, mask, badge, setpoints } => {
+                $plain(library.$begin_write(lent_mut(black_box(t)), *client, *mask, *badge, setpoints))
+            }
+            Step::BeginRead { client, mask } => $plain(library.$begin_read(lent_mut(black_box(t)), *client, *mask)),
+            Step::DeliverRequest { client, target } => $plain(library.$deliver_request(lent_mut(black_box(t)), *client, *target)),
+            Step::DeliverReply { client, target } => $replied(library.$deliver_reply(lent_mut(black_box(t)), *client, *target)),
+        }
+    }};
+}
 
 /// A handle that exists only where the library is linked.
 #[derive(Clone, Copy, Debug)]
@@ -22,7 +44,7 @@ impl StoreLibrary {
 
     /// Takes any step on any tables.
     pub fn take(self, tables: &mut Tables, step: &Step) -> Outcome {
-        let crossing = self.checked(tables, step);
+        let crossing = self.checked(tables, step, plain, |reply| reply);
         outcome(crossing, tables, step)
     }
 
@@ -31,13 +53,13 @@ impl StoreLibrary {
         if !matches!(step, Step::Open { .. }) && !self.sound(tables) {
             return Err(model::Refusal::Unsound);
         }
-        let crossing = unsafe { self.unchecked(tables, step) };
+        let crossing = unsafe { self.unchecked(tables, step, plain, |reply| reply) };
         outcome(crossing, tables, step)
     }
 
     /// The answer's number alone, for measurements.
     pub fn number(self, tables: &mut Tables, step: &Step) -> u64 {
-        self.checked(tables, step).number
+        self.checked(tables, step, u64::from, |reply| reply.number)
     }
 
     /// The same by the function that checks no tables.
@@ -45,41 +67,26 @@ impl StoreLibrary {
     /// # Safety
     /// The tables must be sound.
     pub unsafe fn number_sound(self, tables: &mut Tables, step: &Step) -> u64 {
-        self.unchecked(tables, step).number
+        self.unchecked(tables, step, u64::from, |reply| reply.number)
     }
 
-    /// Any step on any tables.
+    /// Any step on any tables, and what is made of its answer.
     #[inline(always)]
-    fn checked(self, tables: &mut Tables, step: &Step) -> Crossing {
-        let (library, t) = (self.0, tables);
-        match step {
-            Step::Open { method, servers, clients, setpoints } => {
-                plain(library.open(lent_mut(t), *method, *servers, *clients, setpoints))
-            }
-            Step::BeginWrite { client, mask, badge, setpoints } => {
-                plain(library.begin_write(lent_mut(t), *client, *mask, *badge, setpoints))
-            }
-            Step::BeginRead { client, mask } => plain(library.begin_read(lent_mut(t), *client, *mask)),
-            Step::DeliverRequest { client, target } => plain(library.deliver_request(lent_mut(t), *client, *target)),
-            Step::DeliverReply { client, target } => library.deliver_reply(lent_mut(t), *client, *target),
-        }
+    fn checked<T>(self, tables: &mut Tables, step: &Step, plain: impl Fn(u32) -> T, replied: impl Fn(Crossing) -> T) -> T {
+        taken!(self.0, tables, step, plain, replied; begin_write, begin_read, deliver_request, deliver_reply)
     }
 
-    /// Any step by the functions that check no tables, which must be sound. An opening has one function only: it asks of no old contents.
+    /// The same by the functions that check no tables, which must be sound.
     #[inline(always)]
-    unsafe fn unchecked(self, tables: &mut Tables, step: &Step) -> Crossing {
-        let (library, t) = (self.0, tables);
-        match step {
-            Step::Open { method, servers, clients, setpoints } => {
-                plain(library.open(lent_mut(t), *method, *servers, *clients, setpoints))
-            }
-            Step::BeginWrite { client, mask, badge, setpoints } => {
-                plain(library.begin_write_unchecked(lent_mut(t), *client, *mask, *badge, setpoints))
-            }
-            Step::BeginRead { client, mask } => plain(library.begin_read_unchecked(lent_mut(t), *client, *mask)),
-            Step::DeliverRequest { client, target } => plain(library.deliver_request_unchecked(lent_mut(t), *client, *target)),
-            Step::DeliverReply { client, target } => library.deliver_reply_unchecked(lent_mut(t), *client, *target),
-        }
+    unsafe fn unchecked<T>(
+        self,
+        tables: &mut Tables,
+        step: &Step,
+        plain: impl Fn(u32) -> T,
+        replied: impl Fn(Crossing) -> T,
+    ) -> T {
+        taken!(self.0, tables, step, plain, replied;
+            begin_write_unchecked, begin_read_unchecked, deliver_request_unchecked, deliver_reply_unchecked)
     }
 }
 

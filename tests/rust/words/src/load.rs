@@ -6,34 +6,15 @@ use crate::{sound, store_of};
 use model::load::Pick;
 use model::{Refusal, Step};
 
+/// How they cross, which the proved crate's callers share.
+pub use setpoint_store::{LoadEnd, LoadPick};
+
 /// A step's row: kind (0 a WRITE, 1 a READ, 2 a request, 3 a reply), client, the begin's mask or the target, and the WRITE's
 /// setpoint, else 0. A WRITE's badge has no word: in a load it is 0.
 pub const STEP_WORDS: usize = 4;
 
 /// The answer where no step is acceptable: no refusal, and no step.
 pub const NO_STEP: u32 = 256;
-
-/// The next step as it crosses: answer 0, the new seed and the step's row; or 2 or 256, the seed as it was and zeros.
-#[repr(C)]
-#[derive(Clone, Copy, Debug, PartialEq, Eq)]
-pub struct LoadPick {
-    pub answer: u32,
-    pub seed: u32,
-    pub kind: u32,
-    pub client: u32,
-    pub second: u32,
-    pub setpoint: u32,
-}
-
-/// The end of a load as it crosses: answer 0, the number of steps and the seed that is next; or 2 or 12, no steps and the
-/// seed as it was.
-#[repr(C)]
-#[derive(Clone, Copy, Debug, PartialEq, Eq)]
-pub struct LoadEnd {
-    pub answer: u32,
-    pub steps: u32,
-    pub seed: u32,
-}
 
 /// The row of a step that a load gives.
 fn row_of(step: &Step) -> [u32; STEP_WORDS] {
@@ -46,7 +27,7 @@ fn row_of(step: &Step) -> [u32; STEP_WORDS] {
     }
 }
 
-/// The next step on any tables.
+/// The next step on any tables: answer 0, the new seed and the step's row; or 2 or 256, the seed as it was and zeros.
 pub fn next_step(tables: &Tables, seed: u32) -> LoadPick {
     let none = |answer| LoadPick { answer, seed, kind: 0, client: 0, second: 0, setpoint: 0 };
     if !sound(tables) {
@@ -59,8 +40,8 @@ pub fn next_step(tables: &Tables, seed: u32) -> LoadPick {
     LoadPick { answer: 0, seed, kind, client, second, setpoint }
 }
 
-/// Plays a load on any tables and lists its steps at the front of the list: 2, then 12 "where the list is shorter than the wanted
-/// length needs", with all as before.
+/// Plays a load on any tables and lists its steps at the front of the list: answer 0, the number of steps and the seed that is next; or 2,
+/// then 12 "where the list is shorter than the wanted length needs", with no steps, the seed as it was and all as before.
 pub fn play_load(tables: &mut Tables, seed: u32, length: u32, list: &mut [u32]) -> LoadEnd {
     let refused = |refusal| LoadEnd { answer: refusal as u32, steps: 0, seed };
     if !sound(tables) {
