@@ -26,4 +26,5 @@ pub mod OnKeys
 pub mod OnGot
 pub mod OnAll
 pub mod Replies
+pub mod Losses
 pub mod Steps
