@@ -125,6 +125,6 @@ fn kind(method: Method, step: &Step, link: &Link, outcome: &Outcome) -> &'static
             (Reply::All { .. } | Reply::Log { .. }, Answer::Wait) => "reply all or log: wait",
             (Reply::All { .. } | Reply::Log { .. }, _) => "reply all or log, the last: read",
         },
-        (_, Link::Nothing) => unreachable!("a delivery finds something"),
+        (_, Link::Nothing | Link::Lost) => unreachable!("a delivery finds something"),
     }
 }
