@@ -1,18 +1,25 @@
 //! Tables through the proved check and the proved public steps: the answers and every word as the model has them.
 
 use crate::arguments::Arguments;
+use crate::losses;
 use crate::stores::{differing, shown, visit_store};
 use crate::tally::Tally;
 use crate::Report;
 use ffi::StoreLibrary;
 use model::answer::word;
 use model::{Outcome, Step};
+use words::layout::{ASKED, BADGES_BELOW, CLIENTS, CLIENT_WORDS, LINKS_OF_CLIENT, LINK_WORDS, LOST, NOTHING, STATE, WRITE_BADGE};
 use words::Tables;
 
 /// In a run of so many tables each of the answers below is to occur.
 const MANY: usize = 100_000;
-const DUE: [&str; 14] =
-    ["ok", "wait", "next", "write", "read", "no 1", "no 2", "no 3", "no 4", "no 5", "no 6", "no 7", "no 8", "no 9"];
+#[rustfmt::skip]
+const DUE: [&str; 16] = [
+    "ok", "wait", "next", "write", "read",
+    "no 1", "no 2", "no 3", "no 4", "no 5", "no 6", "no 7", "no 8", "no 9", "no 14", "no 15",
+];
+/// Of tables that are not sound for a lost link, a badge that a panel keeps or a key it asks for, so many are to be there.
+const UNSOUND: [&str; 4] = ["a lost link", "a kind beyond 3", "a kept badge", "a kept key"];
 
 /// What was compared so far.
 #[derive(Default)]
@@ -20,11 +27,40 @@ struct Counts {
     tables: usize,
     sound: usize,
     answers: Tally,
+    losses: Tally,
+    unsound: Tally,
+}
+
+/// What is compared with the model: the proved crates, or in tests what stands in for them.
+pub trait Subject {
+    fn sound(&self, tables: &Tables) -> bool;
+    fn take(&self, tables: &mut Tables, step: &Step) -> Outcome;
+    /// By the steps that check no tables.
+    fn take_sound(&self, tables: &mut Tables, step: &Step) -> Outcome;
+}
+
+impl Subject for StoreLibrary {
+    fn sound(&self, tables: &Tables) -> bool {
+        StoreLibrary::sound(*self, tables)
+    }
+
+    fn take(&self, tables: &mut Tables, step: &Step) -> Outcome {
+        StoreLibrary::take(*self, tables, step)
+    }
+
+    fn take_sound(&self, tables: &mut Tables, step: &Step) -> Outcome {
+        StoreLibrary::take_sound(*self, tables, step)
+    }
 }
 
 /// Checks `cases` tables, each with a step; between them an opened store goes on by its own steps.
 pub fn compare(arguments: &Arguments) -> Report {
     let library = StoreLibrary::linked().ok_or("libstore_exports.a is not linked: run tests/rust/build-store")?;
+    compare_by(arguments, &library)
+}
+
+/// The same of any subject.
+pub fn compare_by(arguments: &Arguments, library: &dyn Subject) -> Report {
     let mut counts = Counts::default();
     let mut stores = 0;
     while counts.tables < arguments.cases {
@@ -35,12 +71,15 @@ pub fn compare(arguments: &Arguments) -> Report {
     }
     if arguments.cases >= MANY {
         counts.answers.require(&DUE)?;
+        [&losses::DUE[..], &losses::REFUSED, &losses::TWICE].iter().try_for_each(|due| counts.losses.require(due))?;
+        counts.unsound.require(&UNSOUND)?;
     }
-    Ok(format!("{} tables, {} of them sound, {stores} stores; answers: {}", counts.tables, counts.sound, counts.answers))
+    let Counts { tables, sound, answers, losses, unsound } = counts;
+    Ok(format!("{tables} tables, {sound} of them sound, {stores} stores; answers: {answers}; {losses}; not sound: {unsound}"))
 }
 
 /// Soundness before, one step on both, and all words after. The tables go on as the model left them.
-fn compare_step(library: StoreLibrary, tables: &mut Tables, step: &Step, counts: &mut Counts) -> Result<(), String> {
+fn compare_step(library: &dyn Subject, tables: &mut Tables, step: &Step, counts: &mut Counts) -> Result<(), String> {
     let sound = words::sound(tables);
     if library.sound(tables) != sound {
         return Err(format!("the model finds sound: {sound}; {}", shown(tables)));
@@ -56,7 +95,45 @@ fn compare_step(library: StoreLibrary, tables: &mut Tables, step: &Step, counts:
     counts.tables += 1;
     counts.sound += usize::from(sound);
     counts.answers.count(&word(&expected));
+    if sound {
+        losses::names(&words::store_of(&before), step, &expected).iter().for_each(|name| counts.losses.count(name));
+    } else if let Some(name) = of_losses(&before) {
+        counts.unsound.count(name);
+    }
     Ok(())
+}
+
+/// Which of what losses need makes tables not sound, where nothing else does: with that word mended they are.
+fn of_losses(tables: &Tables) -> Option<&'static str> {
+    let clients = tables.counts.get(CLIENTS).map_or(0, |&clients| clients.min(16)) as usize;
+    let sound_with = |change: &dyn Fn(&mut Tables)| {
+        let mut mended = tables.clone();
+        change(&mut mended);
+        words::sound(&mended)
+    };
+    if tables.clients.len() < CLIENT_WORDS * clients || tables.links.len() < LINK_WORDS * LINKS_OF_CLIENT * clients {
+        return None;
+    }
+    for place in (0..LINKS_OF_CLIENT * clients).map(|link| LINK_WORDS * link).filter(|&place| tables.links[place] >= LOST) {
+        if sound_with(&|mended| mended.links[place] = NOTHING) {
+            return Some(if tables.links[place] == LOST { "a lost link" } else { "a kind beyond 3" });
+        }
+        // A panel that waits has a link that is not empty.
+        if tables.links[place] > LOST && sound_with(&|mended| mended.links[place] = LOST) {
+            return Some("a kind beyond 3");
+        }
+    }
+    for client in 0..clients {
+        let row = CLIENT_WORDS * client;
+        if tables.clients[row + WRITE_BADGE] >= BADGES_BELOW && sound_with(&|mended| mended.clients[row + WRITE_BADGE] = 0) {
+            return Some("a kept badge");
+        }
+        let keys = row + ASKED..row + CLIENT_WORDS;
+        if tables.clients[row + STATE] == 4 && sound_with(&|mended| mended.clients[keys.clone()].fill(0)) {
+            return Some("a kept key");
+        }
+    }
+    None
 }
 
 /// The model's answer and words are the library's.
