@@ -1,5 +1,6 @@
-//! That `compare tables`, `compare schedules` and the check of demand 3 find stores that are wrong in one thing that losses bring, each within
-//! a short run. A wrong store is the model with one thing spoilt behind its step. And that `compare wire` and `compare load` have lost links.
+//! That `compare tables`, `compare schedules`, the schedules written by hand and the check of demand 3 find stores that are wrong in one thing
+//! that losses bring. A wrong store is the model with one thing spoilt behind its step. And that `compare wire` and `compare load` have lost
+//! links.
 
 use crate::arguments::Arguments;
 use crate::load_run::{self, Loads};
@@ -14,6 +15,7 @@ use model::{
 };
 use std::cell::RefCell;
 use std::collections::{BTreeMap, BTreeSet};
+use std::path::Path;
 use words::layout::{LINKS_OF_CLIENT, LINK_WORDS, LOST};
 use words::load::{LoadEnd, LoadPick};
 use words::Tables;
@@ -404,6 +406,21 @@ fn tables_show_what_is_wrong() {
 fn schedules_show_what_is_wrong() {
     for flaw in FLAWS {
         assert_eq!(schedules(flaw, 600).is_ok(), IN_TABLES_ALONE.contains(&flaw), "{flaw:?}");
+    }
+}
+
+/// The schedules that were written by hand, with what must be printed for them.
+#[test]
+fn cards_show_what_is_wrong() {
+    let root = Path::new(env!("CARGO_MANIFEST_DIR")).join("../../..");
+    let file = |name: &str, end: &str| std::fs::read(root.join(name).with_extension(end)).expect("a schedule");
+    let cards = ["tests/schedules/losses", "tests/schedules/writes", "tests/schedules/refusals", "examples/losses"]
+        .map(|name| (file(name, "txt"), file(name, "out")));
+    let shown = |flaw: Flaw| cards.iter().any(|(schedule, wanted)| replayed(flaw, schedule) != *wanted);
+    assert!(!shown(Flaw::Nothing));
+    for flaw in FLAWS {
+        let never = flaw == Flaw::NearlyFullStation || IN_TABLES_ALONE.contains(&flaw);
+        assert_eq!(shown(flaw), !never, "{flaw:?}");
     }
 }
 
