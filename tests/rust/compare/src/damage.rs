@@ -97,8 +97,8 @@ fn change_kind(tables: &mut Tables, random: &mut Random) {
     }
 }
 
-/// A key that a client keeps becomes another one, or a word that is none: below the first count, of a client beyond p, of more than 16 bits.
-/// Most often it is one of a client that asks for setpoints; of servers that it does not ask, and of other clients, the word is free.
+/// A key that a client keeps becomes another one, or a word that is none: below the first count, of a client beyond p, of more than 16
+/// bits. Most often it is one of a client that asks for setpoints; of servers that it does not ask, and of other clients, it is free.
 fn change_asked_key(tables: &mut Tables, random: &mut Random) {
     let clients = tables.count(CLIENTS);
     let asking: Vec<usize> = (0..clients).filter(|&client| tables.client(client)[STATE] == 4).collect();

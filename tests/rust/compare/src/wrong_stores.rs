@@ -1,6 +1,6 @@
-//! That `compare tables`, `compare schedules`, the schedules written by hand and the check of demand 3 find stores that are wrong in one thing
-//! that losses bring. A wrong store is the model with one thing spoilt behind its step. And that `compare wire` and `compare load` have lost
-//! links.
+//! That `compare tables`, `compare schedules`, the schedules written by hand and the check of demand 3 find stores that are wrong in one
+//! thing that losses bring. A wrong store is the model with one thing spoilt behind its step. And that `compare wire` and `compare load` have
+//! lost links.
 
 use crate::arguments::Arguments;
 use crate::load_run::{self, Loads};
