@@ -17,8 +17,11 @@ pub fn compare(arguments: &Arguments) -> Report {
     compare_by(arguments, &mut |schedule| run(&arguments.program, schedule))
 }
 
+/// What a program printed, or why it did not.
+pub type Output = Result<Vec<u8>, String>;
+
 /// The same by any program, which gives its output for a schedule.
-pub fn compare_by(arguments: &Arguments, play: &mut dyn FnMut(&[u8]) -> Result<Vec<u8>, String>) -> Report {
+pub fn compare_by(arguments: &Arguments, play: &mut dyn FnMut(&[u8]) -> Output) -> Report {
     let mut reached = Reached::default();
     let (mut inputs, mut opened) = (0, 0);
     while opened < arguments.cases {

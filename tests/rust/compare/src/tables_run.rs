@@ -8,7 +8,7 @@ use crate::Report;
 use ffi::StoreLibrary;
 use model::answer::word;
 use model::{Outcome, Step};
-use words::layout::{ASKED, BADGES_BELOW, CLIENTS, CLIENT_WORDS, LINKS_OF_CLIENT, LINK_WORDS, LOST, NOTHING, STATE, WRITE_BADGE};
+use words::layout::{ASKED, BADGES_BELOW, CLIENTS, CLIENT_WORDS, LINK_WORDS, LOST, NOTHING, STATE, WRITE_BADGE};
 use words::Tables;
 
 /// In a run of so many tables each of the answers below is to occur.
@@ -18,7 +18,7 @@ const DUE: [&str; 16] = [
     "ok", "wait", "next", "write", "read",
     "no 1", "no 2", "no 3", "no 4", "no 5", "no 6", "no 7", "no 8", "no 9", "no 14", "no 15",
 ];
-/// Of tables that are not sound for a lost link, a badge that a panel keeps or a key it asks for, so many are to be there.
+/// What alone makes tables not sound: each is to occur.
 const UNSOUND: [&str; 4] = ["a lost link", "a kind beyond 3", "a kept badge", "a kept key"];
 
 /// What was compared so far.
@@ -84,7 +84,7 @@ fn compare_step(library: &dyn Subject, tables: &mut Tables, step: &Step, counts:
     if library.sound(tables) != sound {
         return Err(format!("the model finds sound: {sound}; {}", shown(tables)));
     }
-    let before = tables.clone();
+    let mut before = tables.clone();
     let mut proved = tables.clone();
     let expected = words::take(tables, step);
     let found = library.take(&mut proved, step);
@@ -97,40 +97,37 @@ fn compare_step(library: &dyn Subject, tables: &mut Tables, step: &Step, counts:
     counts.answers.count(&word(&expected));
     if sound {
         losses::names(&words::store_of(&before), step, &expected).iter().for_each(|name| counts.losses.count(name));
-    } else if let Some(name) = of_losses(&before) {
+    } else if let Some(name) = of_losses(&mut before) {
         counts.unsound.count(name);
     }
     Ok(())
 }
 
-/// Which of what losses need makes tables not sound, where nothing else does: with that word mended they are.
-fn of_losses(tables: &Tables) -> Option<&'static str> {
-    let clients = tables.counts.get(CLIENTS).map_or(0, |&clients| clients.min(16)) as usize;
-    let sound_with = |change: &dyn Fn(&mut Tables)| {
-        let mut mended = tables.clone();
-        change(&mut mended);
-        words::sound(&mended)
-    };
-    if tables.clients.len() < CLIENT_WORDS * clients || tables.links.len() < LINK_WORDS * LINKS_OF_CLIENT * clients {
-        return None;
+/// Which of what losses need makes tables not sound, where nothing else does: with one word mended they are.
+fn of_losses(tables: &mut Tables) -> Option<&'static str> {
+    let [in_clients, in_links] = [1, 2];
+    let clients = tables.counts.get(CLIENTS).map_or(0, |&clients| clients.min(16));
+    let mut mended = Vec::new();
+    for (place, &kind) in tables.links.iter().enumerate().step_by(LINK_WORDS).filter(|(_, &kind)| kind >= LOST) {
+        let name = if kind == LOST { UNSOUND[0] } else { UNSOUND[1] };
+        // A panel that waits has a link that is not empty: there a kind that is none is mended to a lost link.
+        mended.extend([(in_links, place, NOTHING, name), (in_links, place, LOST, name)]);
     }
-    for place in (0..LINKS_OF_CLIENT * clients).map(|link| LINK_WORDS * link).filter(|&place| tables.links[place] >= LOST) {
-        if sound_with(&|mended| mended.links[place] = NOTHING) {
-            return Some(if tables.links[place] == LOST { "a lost link" } else { "a kind beyond 3" });
+    for (client, row) in tables.clients.chunks_exact(CLIENT_WORDS).enumerate() {
+        let place = CLIENT_WORDS * client;
+        if row[WRITE_BADGE] >= BADGES_BELOW {
+            mended.push((in_clients, place + WRITE_BADGE, 0, UNSOUND[2]));
         }
-        // A panel that waits has a link that is not empty.
-        if tables.links[place] > LOST && sound_with(&|mended| mended.links[place] = LOST) {
-            return Some("a kind beyond 3");
-        }
+        let no_key = |word: u32| word != 0 && (!(256..65_536).contains(&word) || word % 256 >= clients);
+        let asked = (ASKED..CLIENT_WORDS).filter(|&word| row[STATE] == 4 && no_key(row[word]));
+        mended.extend(asked.map(|word| (in_clients, place + word, 0, UNSOUND[3])));
     }
-    for client in 0..clients {
-        let row = CLIENT_WORDS * client;
-        if tables.clients[row + WRITE_BADGE] >= BADGES_BELOW && sound_with(&|mended| mended.clients[row + WRITE_BADGE] = 0) {
-            return Some("a kept badge");
-        }
-        let keys = row + ASKED..row + CLIENT_WORDS;
-        if tables.clients[row + STATE] == 4 && sound_with(&|mended| mended.clients[keys.clone()].fill(0)) {
-            return Some("a kept key");
+    for (table, place, word, name) in mended {
+        let broken = std::mem::replace(&mut tables.all_mut()[table][place], word);
+        let sound = words::sound(tables);
+        tables.all_mut()[table][place] = broken;
+        if sound {
+            return Some(name);
         }
     }
     None
