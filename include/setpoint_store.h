@@ -123,6 +123,9 @@ extern "C" {
 #define SETPOINT_WRITE UINT64_C(12884901888) /* a delivered reply's answer; its tag is added */
 #define SETPOINT_READ UINT64_C(17179869184) /* a delivered reply's answer; its tag is added */
 #define SETPOINT_REFUSED(number) (UINT64_C(18446744073709551615) - (number)) /* a refusal, of the functions that return a length or parts */
+#define SETPOINT_AGREE UINT64_C(0) /* two recordings agree */
+/* two recordings differ: client, target and place of the first difference are added; what lies between the two refuses */
+#define SETPOINT_DIFFER UINT64_C(4294967296)
 
 /* Refusals: below 256, all as before. The lowest that fits is given, frames apart. */
 #define SETPOINT_REFUSAL_BAD_OPENING 1u /* method, k or p wrong; not k setpoints */
@@ -138,6 +141,8 @@ extern "C" {
 #define SETPOINT_REFUSAL_BAD_FIELD 11u /* frame field wrong; padding not zero, bytes after it; message not writable */
 #define SETPOINT_REFUSAL_NO_ROOM 12u /* lent space too small for the frame; lent space too small for a list wanted */
 #define SETPOINT_REFUSAL_UNREADABLE 13u /* line not readable */
+/* up to 4,096 frames; More frames, lengths not adding up to the bytes, or a frame that gives 10 or 11 */
+#define SETPOINT_REFUSAL_NO_RECORDING 16u
 
 /* The kinds of frames. */
 #define SETPOINT_FRAME_SET 1u
@@ -481,6 +486,11 @@ static inline uint8_t setpoint_frame_owner(setpoint_parts parts) { return (uint8
 static inline uint16_t setpoint_frame_badge(setpoint_parts parts) { return (uint16_t)(parts.head); }
 static inline uint32_t setpoint_frame_entries(setpoint_parts parts) { return (uint32_t)(parts.tail >> 32); }
 static inline uint32_t setpoint_frame_number(setpoint_parts parts) { return (uint32_t)parts.tail; }
+
+/* What recordings_compare names, from SETPOINT_DIFFER on: a link, and the place on it of the first difference. */
+static inline uint8_t setpoint_differing_client(uint64_t answer) { return (uint8_t)((answer - SETPOINT_DIFFER) / 65536 / 256); }
+static inline uint8_t setpoint_differing_target(uint64_t answer) { return (uint8_t)((answer - SETPOINT_DIFFER) / 65536 % 256); }
+static inline uint32_t setpoint_differing_place(uint64_t answer) { return (uint32_t)((answer - SETPOINT_DIFFER) % 65536); }
 
 #ifdef __cplusplus
 }

@@ -221,7 +221,7 @@ def input_of(name, given, watch=None):
     """The file of that name, or standard input where there is none. It is tried before anything is proved or built."""
     if name is None:
         if not given:
-            raise Fault("standard input is closed")
+            raise Fault("standard input is closed, or a folder")
         try:
             os.read(0, 0)
         except OSError as fault:

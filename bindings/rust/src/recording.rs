@@ -52,7 +52,7 @@ pub fn compared(number: u64) -> Result<Compared, Refused> {
 mod linked {
     use crate::recording::Recording;
 
-    // Nothing checks this declaration against crates/recording_exports/src/lib.rt.
+    // tools/c-header compares this declaration with crates/recording_exports/src/lib.rt.
     #[cfg(recording_exports)]
     #[rustfmt::skip]
     extern "C" {

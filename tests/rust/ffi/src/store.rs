@@ -4,25 +4,29 @@ use crate::{lent, lent_mut, refusal};
 use model::key::{has_server, servers_of};
 use model::{Answer, Outcome, Shown, Step};
 use setpoint_store::{accepted, Arrival, Crossing};
+use std::hint::black_box;
 use words::layout::MASK;
 use words::Tables;
 
-/// Any step by the functions of these names. An opening has one function only: it asks of no old contents. What is wanted of a reply is
-/// taken in its own arm: it is long, and is copied where it has to meet the other answers.
+/// Any step by the functions of these names. An opening has one function only: it asks of no old contents. Each arm lends the tables by
+/// itself, behind a black box: the compiler takes what all arms begin with ahead of them, and eight slices there are too many for its
+/// registers, which cost a measured reply 30 instructions.
 macro_rules! taken {
     ($library:expr, $tables:expr, $step:expr, $plain:expr, $replied:expr;
         $begin_write:ident, $begin_read:ident, $deliver_request:ident, $deliver_reply:ident, $lose:ident, $resend:ident) => {{
-        let (library, t) = ($library, lent_mut($tables));
+        let (library, t) = ($library, $tables);
         match $step {
-            Step::Open { method, servers, clients, setpoints } => $plain(library.open(t, *method, *servers, *clients, setpoints)),
-            Step::BeginWrite { client, mask, badge, setpoints } => {
-                $plain(library.$begin_write(t, *client, *mask, *badge, setpoints))
+            Step::Open { method, servers, clients, setpoints } => {
+                $plain(library.open(lent_mut(black_box(t)), *method, *servers, *clients, setpoints))
             }
-            Step::BeginRead { client, mask } => $plain(library.$begin_read(t, *client, *mask)),
-            Step::DeliverRequest { client, target } => $plain(library.$deliver_request(t, *client, *target)),
-            Step::DeliverReply { client, target } => $replied(library.$deliver_reply(t, *client, *target)),
-            Step::Lose { client, target } => $plain(library.$lose(t, *client, *target)),
-            Step::Resend { client, target } => $plain(library.$resend(t, *client, *target)),
+            Step::BeginWrite { client, mask, badge, setpoints } => {
+                $plain(library.$begin_write(lent_mut(black_box(t)), *client, *mask, *badge, setpoints))
+            }
+            Step::BeginRead { client, mask } => $plain(library.$begin_read(lent_mut(black_box(t)), *client, *mask)),
+            Step::DeliverRequest { client, target } => $plain(library.$deliver_request(lent_mut(black_box(t)), *client, *target)),
+            Step::DeliverReply { client, target } => $replied(library.$deliver_reply(lent_mut(black_box(t)), *client, *target)),
+            Step::Lose { client, target } => $plain(library.$lose(lent_mut(black_box(t)), *client, *target)),
+            Step::Resend { client, target } => $plain(library.$resend(lent_mut(black_box(t)), *client, *target)),
         }
     }};
 }
