@@ -16,7 +16,7 @@ use Rattle.tables.specs.Tables.{Tables, tablesOf}
 use Rattle.server.specs.Held.{appended}
 use Rattle.coordinator.specs.Log as log
 use Rattle.rules.specs.Begin.{begunWrite, begunRead}
-use Rattle.rules.specs.Request.{onSet, onEnter, onWhichKeys, onGet, onGetAll, onRequestIn, requestDelivered}
+use Rattle.rules.specs.Request.{onNewSet, onSet, onNewEnter, onEnter, onWhichKeys, onGet, onGetAll, onRequestIn, requestDelivered}
 use Rattle.rules.specs.Reply.{onSetDone, onEntered, onKeys, onGot, onAll, onReplyIn, replyDelivered}
 use Rattle.soundness.specs.Sound.{longEnough, pressFits, scalarsSound, keyInRange, serverSound, entrySound, logSound, stateAllowed, uses}
 use Rattle.soundness.specs.Sound.{requestSound, replySound, contentSound, linkSound, receivedSound, clientSound, writeSound, readSound}
@@ -123,6 +123,6 @@ unfolding text answers lines zeros leftByLines printOf linesOf digitOf digitHead
     store.beginRead store.deliverRequest store.deliverReply openRefusal writeRefusal readRefusal deliveryRefusal longEnough pressFits turns
     sound scalarsSound keyInRange serverSound entrySound logSound stateAllowed uses requestSound replySound contentSound linkSound
     receivedSound clientSound writeSound readSound openSound recordsSound allBelow anyBelow sumBelow linkAt putLink firstFrom lastBelow
-    appended log.entered begunWrite begunRead onSet onEnter onWhichKeys onGet onGetAll onRequestIn requestDelivered onSetDone onEntered
-    onKeys onGot onAll onReplyIn replyDelivered
+    appended log.entered begunWrite begunRead onNewSet onSet onNewEnter onEnter onWhichKeys onGet onGetAll onRequestIn requestDelivered
+    onSetDone onEntered onKeys onGot onAll onReplyIn replyDelivered
 sample-printed = refl
