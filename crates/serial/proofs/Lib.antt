@@ -9,6 +9,7 @@ pub mod HistoryOk
 pub mod HistoryKept
 pub mod Always
 pub mod Versions
+pub mod Entries
 pub mod Press
 pub mod Links
 pub mod Invariant
