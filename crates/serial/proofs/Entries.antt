@@ -10,14 +10,20 @@ use borrow.Author.Tests.{eq-eqb, ne-eqb, lt-ltb, le-ltb, ltb-true, ltb-false}
 use Rattle.ranges.specs.Tests.{by-equal, by-test}
 use Rattle.ranges.specs.FirstLaws.{First, first-found, first-is}
 use Rattle.keys.specs.declared.Key.{Key}
-use Rattle.keys.specs.Keys.{keyWord}
+use Rattle.keys.specs.Keys.{keyWord, keyAtWord}
+use Rattle.keys.specs.KeyLaws.{word-back, at-word-fits}
 use Rattle.tables.specs.Rows.{HasRow, row-same, row-other}
 use Rattle.tables.specs.Layout.{entryWidth, entryWord, putEntry}
+use Rattle.coordinator.specs.Latest.{latestKey, latestWord}
 use Rattle.coordinator.specs.Log.{entryBears, firstEntry, hasKey}
 
 -- "a head that has it answers its first tag": the first of n entries that bears a key
 unfoldable pub tagOf : List ℕ → Key → ℕ → Option ℕ
 tagOf log key n = cond (hasKey log key n) (some (firstEntry log key n)) none
+
+-- the word that a client keeps of a server's key gives that key back
+pub asked-key : (log : List ℕ) (tag i : ℕ) → keyAtWord (latestWord log tag i) ≡ latestKey log i tag
+asked-key log tag i = word-back (latestKey log i tag) (at-word-fits _)
 
 module _ (log : List ℕ) (key : Key) (n : ℕ) where
   pub tag-found : (tag : ℕ) → tagOf log key n ≡ some tag → (hasKey log key n ≡ true) × (firstEntry log key n ≡ tag)

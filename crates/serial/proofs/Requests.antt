@@ -119,7 +119,7 @@ module _ (floor : ℕ → ℕ) (p : Press) (h : History) (tied : Tied floor p h)
         (find-other (s .keys) (s .values) i (s .held i) word (carried w) keyed valued room key d)
         (λ j ne. find-before (s .keys) (s .values) i (s .held i) word (carried w) keyed valued room j (s .held j) key (λ e. absurd (ne e)) (tied .room j))
 
-    grown : (r : ℕ) → r < 16 → (r ≡ q → ⊥) → Grown r x y
+    pub grown : (r : ℕ) → r < 16 → (r ≡ q → ⊥) → Grown r x y
     grown r hr ne = record {
       servers = refl;
       tags = omega arith;
@@ -310,7 +310,7 @@ module _ (floor : ℕ → ℕ) (p : Press) (h : History) (tied : Tied floor p h)
         rw (← key-is)
         (tag-new (s .log) (s .entries) (w .key) (w .number) logged (rw key-is (b .new)))
 
-    entry-grown : (r : ℕ) → r < 16 → (r ≡ q → ⊥) → Grown r x z
+    pub entry-grown : (r : ℕ) → r < 16 → (r ≡ q → ⊥) → Grown r x z
     entry-grown r hr ne = record {
       servers = refl;
       tags = omega arith;
