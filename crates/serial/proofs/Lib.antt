@@ -17,6 +17,7 @@ pub mod Kept
 pub mod Begins
 pub mod Requests
 pub mod Replies
+pub mod Losses
 pub mod Budget
 pub mod Spending
 pub mod Fair
