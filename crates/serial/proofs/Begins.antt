@@ -124,28 +124,28 @@ module _ (floor : ℕ → ℕ) (p : Press) (h : History) (tied : Tied floor p h)
     read-a-kept zero-more state tag tags asked = (
       (idling .is, omega arith),
       rw (idling .is) (begun-tied floor p h tied q hq (clientOf row (sends mask gets)) step writes reads
-      (unmarked (sends mask gets) (no-reply gets (λ j. refl))) _ (record {
-        latest = latest′;
-        entered = entered′;
-        activity = at-getting state (record {
-          begin = h .clock;
-          deliveries = 0;
-          losses = 0;
-          is = rw masked;
-          low = omega (arith, tag);
-          high = omega (arith, tag);
-          bound = bound′;
-          count = rw masked (omega (arith, total));
-          busy = omega (arith, total);
-          tags = λ i m. tags i (rw masked at m) ∙ tied .tags (row tagField) (omega (arith, tag)) i;
-          asked = λ i m.
-              let n = rw masked at m in
-              rw (key-kept i n) (tied .value (row tagField) (omega (arith, tag)) i (bound i n));
-          links = λ i l. by-test (hasServer mask i)
-              (λ e. rw (sends-masked mask gets i e) (rw masked e, sym (key-kept i e)))
-              (λ e. rw (sends-other mask gets i e) (λ m. absurd (not-both (rw masked at m) e)));
-        });
-      })),
+          (unmarked (sends mask gets) (no-reply gets (λ j. refl))) _ (record {
+            latest = latest′;
+            entered = entered′;
+            activity = at-getting state (record {
+              begin = h .clock;
+              deliveries = 0;
+              losses = 0;
+              is = rw masked;
+              low = omega (arith, tag);
+              high = omega (arith, tag);
+              bound = bound′;
+              count = rw masked (omega (arith, total));
+              busy = omega (arith, total);
+              tags = λ i m. tags i (rw masked at m) ∙ tied .tags (row tagField) (omega (arith, tag)) i;
+              asked = λ i m.
+                  let n = rw masked at m in
+                  rw (key-kept i n) (tied .value (row tagField) (omega (arith, tag)) i (bound i n));
+              links = λ i l. by-test (hasServer mask i)
+                  (λ e. rw (sends-masked mask gets i e) (rw masked e, sym (key-kept i e)))
+                  (λ e. rw (sends-other mask gets i e) (λ m. absurd (not-both (rw masked at m) e)));
+            });
+          })),
     )
       where
         gets : ℕ → Content
@@ -165,24 +165,24 @@ module _ (floor : ℕ → ℕ) (p : Press) (h : History) (tied : Tied floor p h)
     read-b-kept two state = (
       (idling .is, omega arith),
       rw (idling .is) (begun-tied floor p h tied q hq (clientOf row (changed (old .link) coordinator ask)) step writes reads
-      (unmarked (changed (old .link) coordinator ask) (changed-all (old .link) coordinator ask (λ j l. j < targets → isReply l ≡ false)
-      (λ m. refl) (λ j ne m. ap isReply (idling .links j m)))) _ (record {
-        latest = latest′;
-        entered = entered′;
-        activity = at-keys state (record {
-          begin = h .clock;
-          deliveries = 0;
-          losses = 0;
-          is = rw masked;
-          two = two;
-          low = omega arith;
-          some = rw masked some-masked;
-          bound = bound′;
-          count = rw masked (omega (arith, two, come-changed (old .link) coordinator ask (omega arith), come-none (old .link) (idling .links), ap weight (idling .links coordinator (omega arith))));
-          others = λ i l. changed-other (old .link) coordinator ask i (λ e. omega arith) ∙ idling .links i (omega arith);
-          keys = rw (changed-same (old .link) coordinator ask) tt;
-        });
-      })),
+          (unmarked (changed (old .link) coordinator ask) (changed-all (old .link) coordinator ask (λ j l. j < targets → isReply l ≡ false)
+          (λ m. refl) (λ j ne m. ap isReply (idling .links j m)))) _ (record {
+            latest = latest′;
+            entered = entered′;
+            activity = at-keys state (record {
+              begin = h .clock;
+              deliveries = 0;
+              losses = 0;
+              is = rw masked;
+              two = two;
+              low = omega arith;
+              some = rw masked some-masked;
+              bound = bound′;
+              count = rw masked (omega (arith, two, come-changed (old .link) coordinator ask (omega arith), come-none (old .link) (idling .links), ap weight (idling .links coordinator (omega arith))));
+              others = λ i l. changed-other (old .link) coordinator ask i (λ e. omega arith) ∙ idling .links i (omega arith);
+              keys = rw (changed-same (old .link) coordinator ask) tt;
+            });
+          })),
     )
 
     -- C: all servers of the mask and the coordinator together
@@ -196,23 +196,23 @@ module _ (floor : ℕ → ℕ) (p : Press) (h : History) (tied : Tied floor p h)
         let servers : toCome (sends mask asks) ≡ 2 * serversIn mask = sends-come mask asks (λ i. refl) (no-coordinator mask (p .shared .servers) few bound) in (
           (idling .is, omega arith),
           rw (idling .is) (begun-tied floor p h tied q hq new step writes reads
-          (unmarked (new .link) (changed-all (sends mask asks) coordinator ask (λ j l. j < targets → isReply l ≡ false)
-          (λ m. refl) (λ j ne m. no-reply asks (λ k. refl) j m))) _ (record {
-            latest = latest′;
-            entered = entered′;
-            activity = at-all state (record {
-              begin = h .clock;
-              deliveries = 0;
-              losses = 0;
-              is = rw masked;
-              two = two;
-              low = omega arith;
-              bound = bound′;
-              count = rw masked (omega arith);
-              busy = omega arith;
-              links = λ i l. changed-all (sends mask asks) coordinator ask (λ j c. AllLink x (h .tags) new j c) tt (λ j ne. other j ne) i;
-            });
-          })),
+              (unmarked (new .link) (changed-all (sends mask asks) coordinator ask (λ j l. j < targets → isReply l ≡ false)
+              (λ m. refl) (λ j ne m. no-reply asks (λ k. refl) j m))) _ (record {
+                latest = latest′;
+                entered = entered′;
+                activity = at-all state (record {
+                  begin = h .clock;
+                  deliveries = 0;
+                  losses = 0;
+                  is = rw masked;
+                  two = two;
+                  low = omega arith;
+                  bound = bound′;
+                  count = rw masked (omega arith);
+                  busy = omega arith;
+                  links = λ i l. changed-all (sends mask asks) coordinator ask (λ j c. AllLink x (h .tags) new j c) tt (λ j ne. other j ne) i;
+                });
+              })),
         )
       where
         new : Client

@@ -27,6 +27,7 @@ pub mod Ready
 pub mod BeginSteps
 pub mod RequestSteps
 pub mod ReplySteps
+pub mod LossSteps
 pub mod OpeningStep
 pub mod Openings
 pub mod Machines

@@ -187,7 +187,7 @@ module _ (floor : ℕ → ℕ) (p : Press) (h : History) (tied : Tied floor p h)
     set-lost-kept state a = (
       rw (a .is) tt,
       rw (a .is) (moved-tied floor p h tied q hq (withLink c i Lost) step writes reads i false (link-marks (c .link) i Lost)
-      (write-stays i Lost state a (write-lost (a .badge) (a .setpoints) l way (rw lk at (a .links i hi))))),
+          (write-stays i Lost state a (write-lost (a .badge) (a .setpoints) l way (rw lk at (a .links i hi))))),
     )
 
     -- what the history tells of it: whether it was a reply
@@ -259,7 +259,7 @@ module _ (floor : ℕ → ℕ) (p : Press) (h : History) (tied : Tied floor p h)
         let link : (i < x .servers) × HeldOrNot x q c (sentOf (a .badge) (a .setpoints) i) i = rw lk at (a .links i hi) in (
           rw (a .is) tt,
           rw (a .is) (moved-tied floor p h tied q hq (withLink c i l) step writes reads i false (link-marks (c .link) i l)
-          (write-stays i l state a (refl, ap₂ versionOf (a .badge-kept) (a .setpoints-kept i (link .0)), link .0, link .1))),
+              (write-stays i l state a (refl, ap₂ versionOf (a .badge-kept) (a .setpoints-kept i (link .0)), link .0, link .1))),
         )
 
     -- a request has as much to bring as what was lost

@@ -107,27 +107,27 @@ module _ (floor : ℕ → ℕ) (p : Press) (h : History) (tied : Tied floor p h)
           let enter = request (keyOf (countIn c) q) (maskIn c) in (
             rw (a .is) tt,
             rw (a .is) (moved-tied floor p h tied q hq (clientOf row (changed emptied coordinator enter)) step writes reads i false
-            (last-marks (c .link) i (changed emptied coordinator enter) (all-empty emptied all) sent) (record {
-              latest = λ j n v e. omega (arith, okay .latest j n v e, count);
-              entered = λ n tag e. omega (arith, okay .entered n tag e, count);
-              activity = at-entering state (record {
-                others = λ j l. changed-other emptied coordinator enter j (λ e. omega arith) ∙ all-empty emptied all j (omega arith);
-                entry = rw (changed-same emptied coordinator enter) (
-                  rw count,
-                  rw mask,
-                  to-enter (record {
-                    badge = a .badge;
-                    setpoints = a .setpoints;
-                    begin = a .begin;
-                    is = rw mask (a .is);
-                    few = rw count (a .few);
-                    bound = λ j m. a .bound j (rw mask at m);
-                    new = rw count (a .new);
-                    all = λ j m. rw count (here j (rw mask at m));
-                  }),
-                );
-              });
-            })),
+                (last-marks (c .link) i (changed emptied coordinator enter) (all-empty emptied all) sent) (record {
+                  latest = λ j n v e. omega (arith, okay .latest j n v e, count);
+                  entered = λ n tag e. omega (arith, okay .entered n tag e, count);
+                  activity = at-entering state (record {
+                    others = λ j l. changed-other emptied coordinator enter j (λ e. omega arith) ∙ all-empty emptied all j (omega arith);
+                    entry = rw (changed-same emptied coordinator enter) (
+                      rw count,
+                      rw mask,
+                      to-enter (record {
+                        badge = a .badge;
+                        setpoints = a .setpoints;
+                        begin = a .begin;
+                        is = rw mask (a .is);
+                        few = rw count (a .few);
+                        bound = λ j m. a .bound j (rw mask at m);
+                        new = rw count (a .new);
+                        all = λ j m. rw count (here j (rw mask at m));
+                      }),
+                    );
+                  });
+                })),
           )
         where
           sent : (j : ℕ) → j < targets → isReply (changed emptied coordinator (request (keyOf (countIn c) q) (maskIn c)) j) ≡ false
@@ -417,26 +417,26 @@ module _ (floor : ℕ → ℕ) (p : Press) (h : History) (tied : Tied floor p h)
       let one : toCome (c .link) ≡ 1 = omega (arith, come coordinator (omega arith) w lk, come-none (emptied coordinator (omega arith) w lk) (λ j l. coordinator-empty j l (a .others))) in (
         rw (a .is) (omega (arith, a .count, a .some, one)),
         rw (a .is) (turned-tied floor p h tied q hq (clientOf row (sends (maskIn c) gets)) step writes reads coordinator false
-        (last-marks (c .link) coordinator (sends (maskIn c) gets) (λ j l. coordinator-empty j l (a .others)) sent) _ (record {
-          latest = λ j n v e. omega (arith, okay .latest j n v e, count);
-          entered = λ n u e. omega (arith, okay .entered n u e, count);
-          activity = at-getting state (record {
-            begin = a .begin;
-            deliveries = suc (a .deliveries);
-            losses = a .losses;
-            is = rw mask;
-            low = rw tag (omega (arith, keys .0));
-            high = rw tag high;
-            bound = λ j m. a .bound j (rw mask at m);
-            count = rw mask (omega (arith, total, a .count, one));
-            busy = omega (arith, total, a .some);
-            tags = λ j m. rw tag (tags j (rw mask at m) ∙ tied .tags (w .number - 1) high j);
-            asked = λ j m. let n = rw mask at m in rw (key-kept j n, tag) (tied .value (w .number - 1) high j (a .bound j n));
-            links = λ j l. by-test (hasServer (maskIn c) j)
-                (λ e. rw (sends-masked (maskIn c) gets j e) (rw mask e, sym (key-kept j e)))
-                (λ e. rw (sends-other (maskIn c) gets j e) (λ m. absurd (not-both (rw mask at m) e)));
-          });
-        })),
+            (last-marks (c .link) coordinator (sends (maskIn c) gets) (λ j l. coordinator-empty j l (a .others)) sent) _ (record {
+              latest = λ j n v e. omega (arith, okay .latest j n v e, count);
+              entered = λ n u e. omega (arith, okay .entered n u e, count);
+              activity = at-getting state (record {
+                begin = a .begin;
+                deliveries = suc (a .deliveries);
+                losses = a .losses;
+                is = rw mask;
+                low = rw tag (omega (arith, keys .0));
+                high = rw tag high;
+                bound = λ j m. a .bound j (rw mask at m);
+                count = rw mask (omega (arith, total, a .count, one));
+                busy = omega (arith, total, a .some);
+                tags = λ j m. rw tag (tags j (rw mask at m) ∙ tied .tags (w .number - 1) high j);
+                asked = λ j m. let n = rw mask at m in rw (key-kept j n, tag) (tied .value (w .number - 1) high j (a .bound j n));
+                links = λ j l. by-test (hasServer (maskIn c) j)
+                    (λ e. rw (sends-masked (maskIn c) gets j e) (rw mask e, sym (key-kept j e)))
+                    (λ e. rw (sends-other (maskIn c) gets j e) (λ m. absurd (not-both (rw mask at m) e)));
+              });
+            })),
       )
     where
       gets : ℕ → Content

@@ -357,14 +357,14 @@ module _ (floor : ℕ → ℕ) (p : Press) (h : History) (tied : Tied floor p h)
   enter-again-kept state a tag t = (
     rw (t .is) tt,
     rw (t .is) (moved-tied floor p h tied q hq (withLink c coordinator (reply tag)) step writes reads coordinator true
-    (link-marks (c .link) coordinator (reply tag)) (record {
-      latest = okay .latest;
-      entered = okay .entered;
-      activity = at-entering state (record {
-        others = λ i k. changed-other (c .link) coordinator (reply tag) i (λ e. omega arith) ∙ a .others i k;
-        entry = rw (changed-same (c .link) coordinator (reply tag)) (record { is = t .is; there = t .there });
-      });
-    })),
+        (link-marks (c .link) coordinator (reply tag)) (record {
+          latest = okay .latest;
+          entered = okay .entered;
+          activity = at-entering state (record {
+            others = λ i k. changed-other (c .link) coordinator (reply tag) i (λ e. omega arith) ∙ a .others i k;
+            entry = rw (changed-same (c .link) coordinator (reply tag)) (record { is = t .is; there = t .there });
+          });
+        })),
   )
 
   -- A READ's request: one delivery more, and the reply takes its place.
