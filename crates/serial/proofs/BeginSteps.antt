@@ -1,7 +1,7 @@
 -- Begins, on the tables.
 use Prim.Native.Nat.{ℕ, suc, _+_, _≤_, _<_}
 use mathlib.Core.Path.{_≡_, refl, sym, ap, _∙_, subst}
-use mathlib.Core.Bool.{true, false}
+use mathlib.Core.Bool.{true}
 use mathlib.Core.List.{List, [], _∷_}
 use native.Mathlib.Omega.{arith}
 use native.Mathlib.Numerals.{add-one}
@@ -27,7 +27,8 @@ use Rattle.rules.specs.Words.{every}
 use Rattle.rules.specs.WordsLaws.{kept-other, kept-length}
 use Rattle.rules.specs.Common.{idle, askingKeys, askingSetpoints, askingAll, coordinator, request, setRequest, begunCounts, startedClient}
 use Rattle.rules.specs.Common as rules
-use Rattle.rules.specs.Begin.{storedSetpoints, startedWriter, nextCount, begunWrite, sentGets, keptTags, keptKeys, sendAsk, sentAsks, asking}
+use Rattle.rules.specs.Begin.{storedSetpoints, startedWriter, nextCount, begunWrite, sentGets, keptTags, keptKeys, sendAsk, sentAsks}
+use Rattle.rules.specs.Begin.{asking}
 use Rattle.rules.specs.Begin.{lastTag, askingByA, askingByB, askingByC, begunReadWith, begunRead}
 use Rattle.rules.specs.declared.Answer.the-variants.{Ok}
 use Rattle.keeping.specs.Accepted.{Beginnable, Writable, Readable}
@@ -209,7 +210,8 @@ module _ (floor : ℕ → ℕ) (t : Tables) (h : History) (s : Standing floor t 
           (write-kept floor (view t) h tied (few t q ready) q (in-range t q ready) resting-state mask bound some-masked (rowOf clients′ q)
           (other-word maskField (omega arith) (λ e. omega arith) ∙ started-mask rules.writing mask (writesOf t) q (t .clients) (has-row t q ready)) step′ (writesOf t + 1) (readsOf t)
           badge setpoints begun-state
-          (counted-word countField (omega arith) ∙ word-same clientWidth firstRow q countField (nextCount t q) has-begun (omega arith) ∙ next-count)
+          (counted-word countField (omega arith) ∙ word-same clientWidth firstRow q countField (nextCount t q) has-begun (omega arith)
+          ∙ next-count)
           few-counts
           (begun-word writeBadgeField (omega arith) (λ e. omega (arith, e .1, few t q ready))
           ∙ word-same clientWidth countedRow q writeBadgeField (badgeOf badge) has-counted (omega arith))

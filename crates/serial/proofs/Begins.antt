@@ -178,7 +178,13 @@ module _ (floor : ℕ → ℕ) (p : Press) (h : History) (tied : Tied floor p h)
               low = omega arith;
               some = rw masked some-masked;
               bound = bound′;
-              count = rw masked (omega (arith, two, come-changed (old .link) coordinator ask (omega arith), come-none (old .link) (idling .links), ap weight (idling .links coordinator (omega arith))));
+              count = rw masked (omega (
+                arith,
+                two,
+                come-changed (old .link) coordinator ask (omega arith),
+                come-none (old .link) (idling .links),
+                ap weight (idling .links coordinator (omega arith)),
+              ));
               others = λ i l. changed-other (old .link) coordinator ask i (λ e. omega arith) ∙ idling .links i (omega arith);
               keys = rw (changed-same (old .link) coordinator ask) tt;
             });
@@ -210,7 +216,8 @@ module _ (floor : ℕ → ℕ) (p : Press) (h : History) (tied : Tied floor p h)
                   bound = bound′;
                   count = rw masked (omega arith);
                   busy = omega arith;
-                  links = λ i l. changed-all (sends mask asks) coordinator ask (λ j c. AllLink x (h .tags) new j c) tt (λ j ne. other j ne) i;
+                  links = λ i l. changed-all (sends mask asks) coordinator ask (λ j c. AllLink x (h .tags) new j c) tt
+                      (λ j ne. other j ne) i;
                 });
               })),
         )

@@ -75,7 +75,12 @@ module _ (p : Press) (b : Budget p) (q : ℕ) (hq : q < 16) (c : Client) (s : Sh
       Budget (pressOf s (changed (p .client) q c))
   budget-kept same stored logged = record {
     stored = λ i.
-        omega (arith, stored i, b .stored i, moved (waits (p .shared) i) (waits s i) (p .client) q c hq (λ j l d. same-waits i j (same j l d)));
+        omega (
+          arith,
+          stored i,
+          b .stored i,
+          moved (waits (p .shared) i) (waits s i) (p .client) q c hq (λ j l d. same-waits i j (same j l d)),
+        );
     logged = omega (arith, b .logged, moved (due (p .shared)) (due s) (p .client) q c hq (λ j l d. same-due j (same j l d)));
   }
     where

@@ -16,7 +16,8 @@ use Rattle.serial.specs.Steps.{Event, opened, begun-write, begun-read, r
 use Rattle.refusals.specs.Steps.{badgeOf}
 use Rattle.serial.specs.History.{Value, valueOpened, valueWritten, changed, Transaction, Doing, nothing, writing}
 use Rattle.serial.specs.History.{tagged, reading, History, historyOf, passed, turned, begun, delivered, writeOf, given, entered}
-use Rattle.serial.specs.History.{ended, wrote, showed, marked, arrived, lostOf, missed, repeated, fresh, extraOf, atCoordinator, after}
+use Rattle.serial.specs.History.{ended, wrote, showed, marked, arrived, lostOf, missed, repeated, fresh, extraOf, atCoordinator}
+use Rattle.serial.specs.History.{after}
 use Rattle.serial.specs.Claim.{EndsAt, Unfinished}
 use Rattle.serial.proofs.Places.{changed-same, changed-other, changed-all, changed-both}
 use Rattle.serial.proofs.Lists.{pairs-inserted}
@@ -308,7 +309,10 @@ after-ok tagsAt floor h ok (begun-write q mask badge setpoints Ok) owed = rw owe
       (begin-now tagsAt floor h ok (h .clock) refl),
 )
 after-ok tagsAt floor h ok (begun-write q mask badge setpoints (Refused n)) owed = (now′ tagsAt floor h ok, passed-ok tagsAt floor h ok)
-after-ok tagsAt floor h ok (begun-read q mask Ok) owed = rw (owed .0) (now′ tagsAt floor h ok, begun-ok tagsAt floor h ok q (reading mask (h .clock) 0 0) (owed .1) (begin-now tagsAt floor h ok (h .clock) refl))
+after-ok tagsAt floor h ok (begun-read q mask Ok) owed = rw (owed .0) (
+  now′ tagsAt floor h ok,
+  begun-ok tagsAt floor h ok q (reading mask (h .clock) 0 0) (owed .1) (begin-now tagsAt floor h ok (h .clock) refl),
+)
 after-ok tagsAt floor h ok (begun-read q mask (Refused n)) owed = (now′ tagsAt floor h ok, passed-ok tagsAt floor h ok)
 after-ok tagsAt floor h ok (requested q i Ok) owed =
     let r = requested-ok tagsAt floor h ok q (atCoordinator i) owed in (r .0, marked-ok (r .0) floor q i true _ (r .1))

@@ -20,7 +20,7 @@ use Rattle.rules.specs.Loss.{onLoss, linkLost, sentIn, onResend, linkResent}
 use Rattle.keeping.specs.Accepted.{Deliverable, target-below}
 use Rattle.serial.specs.Steps.{lost, resent}
 use Rattle.serial.specs.History.{changed, History}
-use Rattle.serial.proofs.Press.{renumbered, Client, Press, pressOf, stateIn, countIn, maskIn, setpointIn, writeBadgeIn, askedIn}
+use Rattle.serial.proofs.Press.{renumbered, Client, Press, pressOf, stateIn, maskIn, setpointIn, writeBadgeIn, askedIn}
 use Rattle.serial.proofs.Press.{sharedOf, view, weight, world}
 use Rattle.serial.proofs.View.{link-put, link-put-other, view-is, shared-step}
 use Rattle.serial.proofs.Ready.{Ready, few, in-range, has-link, row-at, link-at, not-empty, at-coordinator}
@@ -148,7 +148,8 @@ module _ (floor : ℕ → ℕ) (t : Tables) (h : History) (s : Standing floor t 
     lost-in (at-entering e a) = enter-lost e a
     lost-in (at-keys e a) =
         read-lost askingKeys e (λ z. omega arith) (λ z. omega arith)
-        (keys-lost-kept floor (view t) h tied q (in-range t q ready) (stepOf t + 1) (writesOf t) (readsOf t) i hi l link way e (at-head (a .others)) a)
+        (keys-lost-kept floor (view t) h tied q (in-range t q ready) (stepOf t + 1) (writesOf t) (readsOf t) i hi l link way e
+        (at-head (a .others)) a)
     lost-in (at-getting e a) =
         read-lost askingSetpoints e (λ z. omega arith) (λ z. omega arith)
         (get-lost-kept floor (view t) h tied q (in-range t q ready) (stepOf t + 1) (writesOf t) (readsOf t) i hi l link way e a)

@@ -18,7 +18,8 @@ use Rattle.serial.specs.History.{changed, reading, History, passed, mark
 use Rattle.serial.proofs.Places.{changed-same, changed-other, changed-all}
 use Rattle.serial.proofs.Versions.{versionOf, sentOf}
 use Rattle.serial.proofs.Owed.{Busy}
-use Rattle.serial.proofs.Press.{Shared, renumbered, Client, Press, pressOf, stateIn, maskIn, setpointIn, writeBadgeIn, askedIn, weight}
+use Rattle.serial.proofs.Press.{Shared, renumbered, Client, Press, pressOf, stateIn, maskIn, setpointIn, writeBadgeIn, askedIn}
+use Rattle.serial.proofs.Press.{weight}
 use Rattle.serial.proofs.Press.{isReply, toCome, World, world}
 use Rattle.serial.proofs.Links.{come-changed, come-some}
 use Rattle.serial.proofs.Invariant.{own, HeldOrNot, WriteLink, Writing, AtHead, to-enter, has-entered, EnterLink, Entering, KeysLink}
@@ -222,9 +223,11 @@ module _ (floor : ℕ → ℕ) (p : Press) (h : History) (tied : Tied floor p h)
 
     pub all-lost-kept : stateIn c ≡ askingAll → AskingAll (h .extra) x (floor q) q c (h .doing q) → Lostly
     all-lost-kept state a =
-        read-lost (maskIn c) (a .begin) (a .deliveries) (a .losses) (a .is) (all-stays i Lost _ state hi (omega arith) a (come (a .losses)) tt)
+        read-lost (maskIn c) (a .begin) (a .deliveries) (a .losses) (a .is)
+        (all-stays i Lost _ state hi (omega arith) a (come (a .losses)) tt)
 
-  enter-lost : (l : Content) → OnItsWay l → EnterLink (h .extra) x (floor q) q c (h .doing q) l → AtHead (h .extra) x (floor q) q c (h .doing q)
+  enter-lost : (l : Content) → OnItsWay l → EnterLink (h .extra) x (floor q) q c (h .doing q) l →
+      AtHead (h .extra) x (floor q) q c (h .doing q)
   enter-lost Nothing o a = absurd o
   enter-lost (Request w) o a = a .2
   enter-lost (Reply w) o a = has-entered (w .number) a
@@ -243,7 +246,8 @@ module _ (floor : ℕ → ℕ) (p : Press) (h : History) (tied : Tied floor p h)
   enter-lost-kept l lk way state a =
       let head = enter-lost l way (rw lk at (a .entry)) in
       let t = head-passes coordinator (withLink c coordinator Lost) head
-      (moved-tied floor p h tied q hq (withLink c coordinator Lost) step writes reads coordinator false (link-marks (c .link) coordinator Lost)
+      (moved-tied floor p h tied q hq (withLink c coordinator Lost) step writes reads coordinator false
+      (link-marks (c .link) coordinator Lost)
       (enter-stays Lost state a (head-stays Lost head))) in
       (t .0, t .1)
 
@@ -270,7 +274,8 @@ module _ (floor : ℕ → ℕ) (p : Press) (h : History) (tied : Tied floor p h)
         ClientOk (h .extra) x (floor q) q (withLink c i (Request w)) (reading mask begin deliveries losses) → Again (Request w)
     read-resent w mask begin deliveries losses is ok = (
       rw is tt,
-      rw is (moved-tied floor p h tied q hq (withLink c i (Request w)) step writes reads i false (link-marks (c .link) i (Request w)) (rw is ok)),
+      rw is (moved-tied floor p h tied q hq (withLink c i (Request w)) step writes reads i false (link-marks (c .link) i (Request w))
+          (rw is ok)),
     )
 
     pub keys-resent-kept : stateIn c ≡ askingKeys → i ≡ coordinator → AskingKeys (h .extra) x (floor q) q c (h .doing q) →

@@ -25,7 +25,7 @@ use Rattle.rules.specs.Common as rules
 use Rattle.rules.specs.Choice.{hasVersion, serves, qualifies, chosenTag, chosenPlace, chosenSetpoint, chosenBadge}
 use Rattle.rules.specs.declared.Arrival.the-variants as arrival
 use Rattle.serial.specs.Steps.{replied}
-use Rattle.serial.specs.History.{Value, changed, nothing, writing, tagged, History, ended}
+use Rattle.serial.specs.History.{Value, changed, nothing, writing, History, ended}
 use Rattle.serial.proofs.Places.{changed-same, changed-other, changed-all, changed-both}
 use Rattle.serial.proofs.Owed.{valueAt}
 use Rattle.serial.proofs.HistoryKept.{value-ended}
@@ -33,7 +33,8 @@ use Rattle.serial.specs.Fields.{value-same}
 use Rattle.serial.proofs.Versions.{Version, versionAt, sentOf, found-place, place-found, found-more}
 use Rattle.serial.proofs.Entries.{asked-key}
 use Rattle.serial.proofs.Press.{Shared, renumbered, Client, clientOf, Press, pressOf, stateIn, countIn, maskIn, tagIn, setpointIn}
-use Rattle.serial.proofs.Press.{badgeIn, keptTagIn, receivedIn, askedIn, weight, isReply, toCome, sends, World, worldOf, keptAt, carried, storedIn, world}
+use Rattle.serial.proofs.Press.{badgeIn, keptTagIn, receivedIn, askedIn, weight, isReply, toCome, sends, World, worldOf, keptAt}
+use Rattle.serial.proofs.Press.{carried, storedIn, world}
 use Rattle.serial.proofs.Links.{come-changed, come-none, all-empty, no-coordinator, sends-masked, sends-other, sends-come}
 use Rattle.serial.proofs.Invariant.{Holds, WriteLink, Writing, to-enter, HasTag, Entering, AskingKeys, GetLink, Getting, Snapshot}
 use Rattle.serial.proofs.Invariant.{AllLink, AskingAll, at-rest, at-writing, at-entering, at-getting, at-all, ClientOk, Tied, Grown}
@@ -412,9 +413,14 @@ module _ (floor : ℕ → ℕ) (p : Press) (h : History) (tied : Tied floor p h)
   keys-kept w lk a row state count mask tag tags asked =
       let keys : (floor q < w .number) × (w .number ≤ suc (h .tags)) = rw lk at (a .keys) in
       let high : w .number - 1 ≤ h .tags = omega (arith, keys .1) in
-      let total : toCome (sends (maskIn c) gets) ≡ 2 * serversIn (maskIn c) = sends-come (maskIn c) gets (λ i. refl) (no-coordinator (maskIn c) (s .servers) few (a .bound)) in
+      let total : toCome (sends (maskIn c) gets) ≡ 2 * serversIn (maskIn c) = sends-come (maskIn c) gets (λ i. refl)
+      (no-coordinator (maskIn c) (s .servers) few (a .bound)) in
       -- nothing else was on the links
-      let one : toCome (c .link) ≡ 1 = omega (arith, come coordinator (omega arith) w lk, come-none (emptied coordinator (omega arith) w lk) (λ j l. coordinator-empty j l (a .others))) in (
+      let one : toCome (c .link) ≡ 1 = omega (
+        arith,
+        come coordinator (omega arith) w lk,
+        come-none (emptied coordinator (omega arith) w lk) (λ j l. coordinator-empty j l (a .others)),
+      ) in (
         rw (a .is) (omega (arith, a .count, a .some, one)),
         rw (a .is) (turned-tied floor p h tied q hq (clientOf row (sends (maskIn c) gets)) step writes reads coordinator false
             (last-marks (c .link) coordinator (sends (maskIn c) gets) (λ j l. coordinator-empty j l (a .others)) sent) _ (record {

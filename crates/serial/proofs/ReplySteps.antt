@@ -5,7 +5,7 @@ use mathlib.Core.Bool.{Bool, true, false}
 use mathlib.Core.List.{List}
 use native.Mathlib.Omega.{arith}
 use native.Mathlib.Numerals.{add-one}
-use lib.ListN.{getD, length}
+use lib.ListN.{getD}
 use Rattle.ranges.specs.Tests.{by-equal, by-test}
 use Rattle.keys.specs.Keys.{keyOf, FitsByte}
 use Rattle.keys.specs.KeyLaws.{at-word-fits}
@@ -41,7 +41,8 @@ use Rattle.serial.specs.Consequences.{numberOfArrival, countedArrival}
 use Rattle.serial.proofs.Places.{changed-same, changed-other}
 use Rattle.keeping.specs.Links.{link-asks, reply-kind}
 use Rattle.keeping.specs.States.{masked-server, uses-setpoints}
-use Rattle.serial.proofs.Press.{within, renumbered, Client, clientOf, Press, pressOf, stateIn, countIn, maskIn, tagIn, rowOf, linksOf, sharedOf, view, weight, toCome, sends}
+use Rattle.serial.proofs.Press.{within, renumbered, Client, clientOf, Press, pressOf, stateIn, countIn, maskIn, tagIn, rowOf}
+use Rattle.serial.proofs.Press.{linksOf, sharedOf, view, toCome, sends}
 use Rattle.serial.proofs.View.{within-at, row-put, row-put-other, link-put, link-put-other, view-is, shared-step}
 use Rattle.serial.proofs.Budget.{Budget}
 use Rattle.serial.proofs.Spending.{further, write-link-budget, last-budget}
@@ -162,7 +163,8 @@ module _ (floor : ℕ → ℕ) (t : Tables) (h : History) (s : Standing floor t 
         (λ r d. link-put-other (emptied q i t) q coordinator enter (omega arith) r d ∙ gone-others r d) (λ z. omega arith) refl
         (done-next-kept floor (view t) h tied (few t q ready) q (in-range t q ready) (stepOf t + 1) (writesOf t) (readsOf t) i hi w link a (none-left b) (changed (c .row) stateField entering)
         (changed-same (c .row) stateField entering) (changed-other (c .row) stateField entering countField (λ e. omega arith)) (changed-other (c .row) stateField entering maskField (λ e. omega arith)))
-        (last-budget (view t) budget q (in-range t q ready) (clientOf (changed (c .row) stateField entering) (changed gone coordinator (request (keyOf (countIn c) q) (maskIn c)))) (changed-same (c .row) stateField entering) state)
+        (last-budget (view t) budget q (in-range t q ready) (clientOf (changed (c .row) stateField entering)
+        (changed gone coordinator (request (keyOf (countIn c) q) (maskIn c)))) (changed-same (c .row) stateField entering) state)
         ))
       where
         enter : Content
@@ -183,7 +185,8 @@ module _ (floor : ℕ → ℕ) (t : Tables) (h : History) (s : Standing floor t 
         (two-words tagField (w .number) stateField idle (omega arith) (omega arith)) (two-others tagField (w .number) stateField idle (omega arith) (omega arith)) gone-links gone-others (λ z. omega arith) refl
         (rw at (entered-kept floor (view t) h tied (few t q ready) q (in-range t q ready) (stepOf t + 1) (writesOf t) (readsOf t) w there a (changed (changed (c .row) tagField (w .number)) stateField idle)
         (changed-same (changed (c .row) tagField (w .number)) stateField idle) (left-by tagField (w .number) stateField idle countField (λ e. omega arith) (λ e. omega arith))))
-        (gone-budget (changed (changed (c .row) tagField (w .number)) stateField idle) idle (changed-same (changed (c .row) tagField (w .number)) stateField idle) (λ e. omega arith) (λ e. omega arith))
+        (gone-budget (changed (changed (c .row) tagField (w .number)) stateField idle) idle
+        (changed-same (changed (c .row) tagField (w .number)) stateField idle) (λ e. omega arith) (λ e. omega arith))
 
     mask-at : maskIn c ≡ maskOf t q
     mask-at = row-at t q maskField (omega arith)
@@ -393,7 +396,8 @@ module _ (floor : ℕ → ℕ) (t : Tables) (h : History) (s : Standing floor t 
         (told-end-kept floor (view t) h tied (few t q ready) q (in-range t q ready) (stepOf t + 1) (writesOf t) (readsOf t) i hi w link a row (other-word maskField (λ e. omega arith)) new old
         (none-left b) (receivedIn told q) same (rowOf (putClientWord (concluded tag told q t) q stateField idle) q) ended-state ended-count
         (shownSetpoints (concluded tag told q t) q (maskOf t q)) shows from comes (shownBadges (concluded tag told q t) q (maskOf t q)) by)
-        (gone-budget (rowOf (putClientWord (concluded tag told q t) q stateField idle) q) idle ended-state (λ e. omega arith) (λ e. omega arith))
+        (gone-budget (rowOf (putClientWord (concluded tag told q t) q stateField idle) q) idle ended-state (λ e. omega arith)
+        (λ e. omega arith))
         ))
       where
         told : List ℕ

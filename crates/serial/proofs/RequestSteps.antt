@@ -26,7 +26,8 @@ use Rattle.coordinator.specs.Log as log
 use Rattle.rules.specs.Answers.{Left, left}
 use Rattle.rules.specs.Common.{entering, askingKeys, askingSetpoints, askingAll, coordinator, gotReply, taggedRecord}
 use Rattle.rules.specs.Common as rules
-use Rattle.rules.specs.Request.{refused, answered, onSet, onNewSet, onEnter, onNewEnter, onWhichKeys, onGet, onGetAll, onRequestIn, onRequest}
+use Rattle.rules.specs.Request.{refused, answered, onSet, onNewSet, onEnter, onNewEnter, onWhichKeys, onGet, onGetAll, onRequestIn}
+use Rattle.rules.specs.Request.{onRequest}
 use Rattle.rules.specs.Request.{requestDelivered}
 use Rattle.rules.specs.declared.Answer.the-variants.{Ok}
 use Rattle.keeping.specs.Accepted.{Deliverable, target-below}
@@ -34,16 +35,19 @@ use Rattle.soundness.specs.Room.{server-fits, keys-row, values-row, next-entry}
 use Rattle.serial.specs.Steps.{requested}
 use Rattle.serial.specs.History.{changed, History}
 use Rattle.serial.specs.Claim.{IsReply}
-use Rattle.serial.proofs.Press.{Shared, renumbered, Client, Press, pressOf, stateIn, maskIn, askedIn, sharedOf, view, keptAt, carried}
+use Rattle.serial.proofs.Press.{Shared, renumbered, Client, Press, pressOf, stateIn, maskIn, askedIn, sharedOf, view, keptAt}
+use Rattle.serial.proofs.Press.{carried}
 use Rattle.serial.proofs.Press.{world}
 use Rattle.serial.proofs.View.{link-put, link-put-other, view-is, sharedIn, shared-step, shared-held, shared-entries}
 use Rattle.serial.proofs.Versions.{Version, sentOf, found-place, not-held}
 use Rattle.serial.proofs.Entries.{tag-found, tag-none}
 use Rattle.serial.proofs.Ready.{Ready, few, in-range, has-link, row-at, link-at, not-empty, at-coordinator}
-use Rattle.serial.proofs.Invariant.{own, Fits, HeldOrNot, Writing, Stored, HasTag, AtHead, to-enter, has-entered, Entering, AskingKeys}
-use Rattle.serial.proofs.Invariant.{Getting, AskingAll, Activity, at-rest, at-writing, at-entering, at-keys, at-getting, at-all, Tied}
+use Rattle.serial.proofs.Invariant.{own, Fits, HeldOrNot, Writing, Stored, AtHead, to-enter, has-entered, Entering}
+use Rattle.serial.proofs.Invariant.{AskingKeys}
+use Rattle.serial.proofs.Invariant.{Getting, AskingAll, Activity, at-rest, at-writing, at-entering, at-keys, at-getting, at-all}
+use Rattle.serial.proofs.Invariant.{Tied}
 use Rattle.serial.proofs.Kept.{Kept, Does, passed-tied}
-use Rattle.serial.proofs.Budget.{heldIn, entryIn, waits, due, Budget, waiting-room, entry-room}
+use Rattle.serial.proofs.Budget.{heldIn, waits, due, Budget, waiting-room, entry-room}
 use Rattle.serial.proofs.Spending.{further, write-link-budget, enter-link-budget, set-budget, enter-budget}
 use Rattle.serial.proofs.Fair.{Standing, Fair}
 use Rattle.serial.proofs.Requests.{versionMore, entryMore, withLink, grown, kept-there, set-kept, set-again-kept, entry-grown}
@@ -145,12 +149,15 @@ module _ (floor : ℕ → ℕ) (t : Tables) (h : History) (s : Standing floor t 
         (rw (length-set (t .counts) (heldField + i) (heldOf t i + 1)) counts-long) (getD-set-other (t .counts) (heldField + i) stepField (heldOf t i + 1) 0 (λ e. omega arith))
         (versionMore (sharedOf t) i (keyWord (w .key)) (carried w))
         (shared-held (t .counts) (heldOf t i + 1) _ _ _ counts-long i (server-fits t (ready .sound) i l) ∙ rw (add-one (heldOf t i)))
-        (set-kept floor (view t) h tied (few t q ready) q (in-range t q ready) (stepOf t + 1) (writesOf t) (readsOf t) i w link hi state a keyed valued room unheld)
+        (set-kept floor (view t) h tied (few t q ready) q (in-range t q ready) (stepOf t + 1) (writesOf t)
+        (readsOf t) i w link hi state a keyed valued room unheld)
         (set-budget (view t) budget q (in-range t q ready) i w link state (keyWord (w .key)) (carried w) unheld
         (λ r m ne.
-        let g = grown floor (view t) h tied (few t q ready) q (in-range t q ready) (stepOf t + 1) (writesOf t) (readsOf t) i w link hi state a keyed valued room unheld r m ne in
+        let g = grown floor (view t) h tied (few t q ready) q (in-range t q ready) (stepOf t + 1) (writesOf t)
+        (readsOf t) i w link hi state a keyed valued room unheld r m ne in
         record { held = g .own; entry = g .entry })
-        (kept-there floor (view t) h tied (few t q ready) q (in-range t q ready) (stepOf t + 1) (writesOf t) (readsOf t) i w link hi state a keyed valued room unheld)))
+        (kept-there floor (view t) h tied (few t q ready) q (in-range t q ready) (stepOf t + 1) (writesOf t)
+        (readsOf t) i w link hi state a keyed valued room unheld)))
 
     -- one of a key that it holds is acknowledged
     set-fair : stateIn c ≡ rules.writing → Does floor (view t) h q Writing → Okay (onSet w q i t)
@@ -170,7 +177,8 @@ module _ (floor : ℕ → ℕ) (t : Tables) (h : History) (s : Standing floor t 
             let there = found-place (t .keys) (t .values) i (own q c) (heldOf t i) v e in
             rw (parts .0, lt-ltb _ _ (there .0))
             (replied-fair (t .counts) (t .keys) (t .values) (t .log) (t .writes) 0 0 counts-long refl (sharedOf t) refl
-            (set-again-kept floor (view t) h tied (few t q ready) q (in-range t q ready) (stepOf t + 1) (writesOf t) (readsOf t) i w link hi state a (e ∙ ap some f))
+            (set-again-kept floor (view t) h tied (few t q ready) q (in-range t q ready) (stepOf t + 1) (writesOf t)
+            (readsOf t) i w link hi state a (e ∙ ap some f))
             (write-link-budget (view t) budget q (in-range t q ready) i (gotReply 0 0) state (omega arith)))
 
     -- an entry that the log does not have finds room
@@ -188,10 +196,12 @@ module _ (floor : ℕ → ℕ) (t : Tables) (h : History) (s : Standing floor t 
         (rw (length-set (t .counts) entriesField (entriesOf t + 1)) counts-long) (getD-set-other (t .counts) entriesField stepField (entriesOf t + 1) 0 (λ e. omega arith))
         (entryMore (sharedOf t) (w .key) (w .number))
         (shared-entries (t .counts) (entriesOf t + 1) _ _ _ counts-long ∙ rw (add-one (entriesOf t)))
-        (rw at (enter-kept floor (view t) h tied (few t q ready) q (in-range t q ready) (stepOf t + 1) (writesOf t) (readsOf t) w state a key mask b logged))
+        (rw at (enter-kept floor (view t) h tied (few t q ready) q (in-range t q ready) (stepOf t + 1) (writesOf t)
+        (readsOf t) w state a key mask b logged))
         (rw at (enter-budget (view t) budget q (in-range t q ready) w there state (w .key) (w .number) (entriesOf t) (b .new)
         (λ r m ne.
-        let g = entry-grown floor (view t) h tied (few t q ready) q (in-range t q ready) (stepOf t + 1) (writesOf t) (readsOf t) w state a key mask b logged r m ne in
+        let g = entry-grown floor (view t) h tied (few t q ready) q (in-range t q ready) (stepOf t + 1) (writesOf t)
+        (readsOf t) w state a key mask b logged r m ne in
         record { held = g .own; entry = g .entry }))))
 
     -- one that it has is answered with its first tag
@@ -213,7 +223,8 @@ module _ (floor : ℕ → ℕ) (t : Tables) (h : History) (s : Standing floor t 
             let f = tag-found (t .log) (own q c) (entriesOf t) tag (b .there) in
             rw (parts .0, f .0, f .1)
             (replied-fair (t .counts) (t .keys) (t .values) (t .log) (t .writes) 0 tag counts-long refl (sharedOf t) refl
-            (rw at (enter-again-kept floor (view t) h tied (few t q ready) q (in-range t q ready) (stepOf t + 1) (writesOf t) (readsOf t) state a tag b))
+            (rw at (enter-again-kept floor (view t) h tied (few t q ready) q (in-range t q ready) (stepOf t + 1) (writesOf t)
+            (readsOf t) state a tag b))
             (rw at (enter-link-budget (view t) budget q (in-range t q ready) (gotReply 0 tag) state (omega arith))))
 
     -- the coordinator or a server tells how much it holds

@@ -168,7 +168,8 @@ module _ (floor : ℕ → ℕ) (p : Press) (h : History) (tied : Tied floor p h)
         badge-kept = a .badge-kept;
         setpoints-kept = a .setpoints-kept;
         new = a .new;
-        links = λ j l. changed-all (c .link) i (reply 0) (λ j l. j < targets → WriteLink y q c (a .badge) (a .setpoints) j l) (λ k. (link .2, here)) (λ j ne k. write-link j ne (c .link j) (a .links j k)) j l;
+        links = λ j l. changed-all (c .link) i (reply 0) (λ j l. j < targets → WriteLink y q c (a .badge) (a .setpoints) j l)
+            (λ k. (link .2, here)) (λ j ne k. write-link j ne (c .link j) (a .links j k)) j l;
       });
     }
 
@@ -196,23 +197,24 @@ module _ (floor : ℕ → ℕ) (p : Press) (h : History) (tied : Tied floor p h)
       let l : i < s .servers = rw lk at (a .links i hi) .2 in
       let quiet : atCoordinator i ≡ false = ne-eqb i coordinator (λ e. omega arith) in (
         rw (a .is) tt,
-        rw (quiet, a .is) (moved-tied floor p h tied q hq (withLink c i (reply 0)) step writes reads i true (link-marks (c .link) i (reply 0)) (record {
-          latest = okay .latest;
-          entered = okay .entered;
-          activity = at-writing state (record {
-            badge = a .badge;
-            setpoints = a .setpoints;
-            begin = a .begin;
-            is = a .is;
-            few = a .few;
-            bound = a .bound;
-            badge-kept = a .badge-kept;
-            setpoints-kept = a .setpoints-kept;
-            new = a .new;
-            links = λ j m. changed-all (c .link) i (reply 0) (λ j k. j < targets → WriteLink x q c (a .badge) (a .setpoints) j k)
-                (λ k. (l, held)) (λ j ne k. a .links j k) j m;
-          });
-        })),
+        rw (quiet, a .is) (moved-tied floor p h tied q hq (withLink c i (reply 0)) step writes reads i true
+            (link-marks (c .link) i (reply 0)) (record {
+              latest = okay .latest;
+              entered = okay .entered;
+              activity = at-writing state (record {
+                badge = a .badge;
+                setpoints = a .setpoints;
+                begin = a .begin;
+                is = a .is;
+                few = a .few;
+                bound = a .bound;
+                badge-kept = a .badge-kept;
+                setpoints-kept = a .setpoints-kept;
+                new = a .new;
+                links = λ j m. changed-all (c .link) i (reply 0) (λ j k. j < targets → WriteLink x q c (a .badge) (a .setpoints) j k)
+                    (λ k. (l, held)) (λ j ne k. a .links j k) j m;
+              });
+            })),
       )
 
   -- An entry: the WRITE has its tag, and each key at that tag is held with the value behind it.
@@ -341,7 +343,8 @@ module _ (floor : ℕ → ℕ) (p : Press) (h : History) (tied : Tied floor p h)
                   (λ y. okay .entered n tag (sym (other-entry (keyOf n q) (λ d. y (omega (arith, entered-word)))) ∙ e));
               activity = at-entering state (record {
                 others = λ i k. changed-other (c .link) coordinator (reply (s .entries)) i (λ e. omega arith) ∙ a .others i k;
-                entry = rw (changed-same (c .link) coordinator (reply (s .entries))) (record { is = rw (tied .entries); there = own-entry });
+                entry = rw (changed-same (c .link) coordinator (reply (s .entries)))
+                    (record { is = rw (tied .entries); there = own-entry });
               });
             })
             (λ j ne l. client-frame (h .extra) (floor j) j x z (entry-grown j l ne) (p .client j) (h .doing j) (tied .clients j l));
@@ -353,7 +356,8 @@ module _ (floor : ℕ → ℕ) (p : Press) (h : History) (tied : Tied floor p h)
   -- An entry that the log has: its first tag is answered, and nothing is entered.
   pub enter-again-kept : stateIn c ≡ entering → Entering (h .extra) x (floor q) q c (h .doing q) →
       (tag : ℕ) → HasTag (h .extra) x (floor q) q c (h .doing q) tag →
-      Kept floor h (requested q coordinator Ok) (pressOf (renumbered step writes reads s) (changed (p .client) q (withLink c coordinator (reply tag))))
+      Kept floor h (requested q coordinator Ok) (pressOf (renumbered step writes reads s)
+      (changed (p .client) q (withLink c coordinator (reply tag))))
   enter-again-kept state a tag t = (
     rw (t .is) tt,
     rw (t .is) (moved-tied floor p h tied q hq (withLink c coordinator (reply tag)) step writes reads coordinator true
@@ -379,7 +383,8 @@ module _ (floor : ℕ → ℕ) (p : Press) (h : History) (tied : Tied floor p h)
         Kept floor h (requested q i Ok) (pressOf (renumbered step writes reads s) (changed (p .client) q (withLink c i answer)))
     read-kept more ok =
         let marks = rw reply-is at (link-marks (c .link) i answer) in
-        let t = turned-tied floor p h tied q hq (withLink c i answer) step writes reads i true marks (reading mask begin (suc deliveries) losses) ok in (
+        let t = turned-tied floor p h tied q hq (withLink c i answer) step writes reads i true marks
+        (reading mask begin (suc deliveries) losses) ok in (
           rw is more,
           by-test (atCoordinator i) (λ e. rw (e, is) t) (λ e. rw (e, is) t),
         )
@@ -388,7 +393,8 @@ module _ (floor : ℕ → ℕ) (p : Press) (h : History) (tied : Tied floor p h)
   pub which-keys-kept : (w : Contents) → c .link coordinator ≡ Request w → stateIn c ≡ askingKeys → AskingKeys (h .extra) x (floor q) q c (h .doing q) →
       Kept floor h (requested q coordinator Ok) (pressOf (renumbered step writes reads s) (changed (p .client) q (withLink c coordinator (reply (s .entries)))))
   which-keys-kept w lk state a =
-      let come = replied-come coordinator (omega arith) w lk (reply (s .entries)) refl refl (maskIn c) (a .begin) (a .deliveries) (a .losses) (a .is) in
+      let come = replied-come coordinator (omega arith) w lk (reply (s .entries)) refl refl (maskIn c) (a .begin) (a .deliveries)
+      (a .losses) (a .is) in
       read-kept coordinator (omega arith) w lk (reply (s .entries)) refl refl (maskIn c) (a .begin) (a .deliveries) (a .losses) (a .is)
       (omega (arith, a .count, a .some, come)) (record {
         latest = okay .latest;
@@ -404,7 +410,8 @@ module _ (floor : ℕ → ℕ) (p : Press) (h : History) (tied : Tied floor p h)
           bound = a .bound;
           count = omega (arith, a .count, come);
           others = λ i k. changed-other (c .link) coordinator (reply (s .entries)) i (λ e. omega arith) ∙ a .others i k;
-          keys = rw (changed-same (c .link) coordinator (reply (s .entries))) (omega (arith, a .low, tied .entries), omega (arith, tied .entries));
+          keys = rw (changed-same (c .link) coordinator (reply (s .entries)))
+              (omega (arith, a .low, tied .entries), omega (arith, tied .entries));
         });
       })
 
@@ -419,7 +426,8 @@ module _ (floor : ℕ → ℕ) (p : Press) (h : History) (tied : Tied floor p h)
       let come = replied-come i hi w lk answer refl refl (maskIn c) (a .begin) (a .deliveries) (a .losses) (a .is) in
       let left = come-some (withLink c i answer .link) i hi (rw (changed-same (c .link) i answer) (omega arith)) in
       let masked = rw lk at (a .links i hi) .0 in
-      read-kept i hi w lk answer refl refl (maskIn c) (a .begin) (a .deliveries) (a .losses) (a .is) (omega (arith, a .count, come, left)) (record {
+      read-kept i hi w lk answer refl refl (maskIn c) (a .begin) (a .deliveries) (a .losses) (a .is) (omega (arith, a .count, come, left))
+      (record {
         latest = okay .latest;
         entered = okay .entered;
         activity = at-getting state (record {
@@ -434,7 +442,8 @@ module _ (floor : ℕ → ℕ) (p : Press) (h : History) (tied : Tied floor p h)
           busy = left;
           tags = a .tags;
           asked = a .asked;
-          links = λ j l. changed-all (c .link) i answer (λ j k. j < targets → GetLink x c j k) (λ m. (masked, refl)) (λ j ne m. a .links j m) j l;
+          links = λ j l. changed-all (c .link) i answer (λ j k. j < targets → GetLink x c j k) (λ m. (masked, refl))
+              (λ j ne m. a .links j m) j l;
         });
       })
 
@@ -448,7 +457,8 @@ module _ (floor : ℕ → ℕ) (p : Press) (h : History) (tied : Tied floor p h)
       let n = holding i in
       let come = replied-come i hi w lk (reply n) refl refl (maskIn c) (a .begin) (a .deliveries) (a .losses) (a .is) in
       let left = come-some (withLink c i (reply n) .link) i hi (rw (changed-same (c .link) i (reply n)) (omega arith)) in
-      read-kept i hi w lk (reply n) refl refl (maskIn c) (a .begin) (a .deliveries) (a .losses) (a .is) (omega (arith, a .count, come, left)) (record {
+      read-kept i hi w lk (reply n) refl refl (maskIn c) (a .begin) (a .deliveries) (a .losses) (a .is)
+      (omega (arith, a .count, come, left)) (record {
         latest = okay .latest;
         entered = okay .entered;
         activity = at-all state (record {

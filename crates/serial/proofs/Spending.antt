@@ -1,12 +1,12 @@
 -- Each step keeps the budget: what it takes was paid for, or its begin pays.
 use Prim.Native.Nat.{ℕ, suc, _+_, _≤_, _<_}
-use mathlib.Core.Path.{_≡_, refl, ap}
+use mathlib.Core.Path.{_≡_, refl}
 use mathlib.Core.Option.{none}
 use native.Mathlib.Omega.{arith}
 use Rattle.ranges.specs.Tests.{by-equal}
 use Rattle.tables.specs.declared.links.Contents.{Contents}
 use Rattle.tables.specs.declared.links.Content.{Content}
-use Rattle.tables.specs.declared.links.Content.the-variants.{Nothing, Request, Reply}
+use Rattle.tables.specs.declared.links.Content.the-variants.{Request}
 use Rattle.keys.specs.declared.Key.{Key}
 use Rattle.rules.specs.Common.{writing, entering, coordinator, reply}
 use Rattle.serial.specs.History.{changed}

@@ -60,8 +60,8 @@ unfolding zeros start sample changed inserted readsOf rowTo store.open′ store.
     store.deliverReply openRefusal writeRefusal readRefusal deliveryRefusal longEnough pressFits turns sound scalarsSound keyInRange
     serverSound entrySound logSound stateAllowed uses requestSound replySound contentSound linkSound receivedSound clientSound
     writeSound readSound openSound recordsSound allBelow anyBelow sumBelow linkAt putLink firstFrom lastBelow appended log.entered
-    begunWrite begunRead onSet onNewSet onEnter onNewEnter onWhichKeys onGet onGetAll onRequestIn requestDelivered onSetDone onEntered onKeys onGot onAll
-    onReplyIn replyDelivered
+    begunWrite begunRead onSet onNewSet onEnter onNewEnter onWhichKeys onGet onGetAll onRequestIn requestDelivered onSetDone onEntered
+    onKeys onGot onAll onReplyIn replyDelivered
 sample-row = refl
 
 -- "A READ now shows with each setpoint the tag of the WRITE that put it there, 0 for the opening": one WRITE of server 0 alone, from its

@@ -270,7 +270,10 @@ pub passes : Computed [] play 1 thenReadByA ×
 passes = (tested .right-by-A, tested .right-by-B, tested .right-by-C, tested .right-of-one, tested .right-of-two, tested .right-then-write)
 
 -- and with every request and every reply lost once
-pub passes-lossy : Computed [] play 1 lossyByA × Computed [] play 2 lossyByB × Computed [] play 3 lossyByC × Computed [] play 3 enteredBetween
+pub passes-lossy : Computed [] play 1 lossyByA ×
+    Computed [] play 2 lossyByB ×
+    Computed [] play 3 lossyByC ×
+    Computed [] play 3 enteredBetween
 passes-lossy = (tested .right-lossy-by-A, tested .right-lossy-by-B, tested .right-lossy-by-C, tested .right-between)
 
 -- ---- the wrong stores, by field
