@@ -35,6 +35,14 @@ pub record Ran (start : Tables) (played : List Played) (h : History) (n : ℕ) :
   pub consequences : Consequences start played n
 
 module _ {S : Type 0} (machine : Machine S) (m : FairMachine machine) where
+  -- a step leaves tables that stand as those that it found
+  pub stands : (step : S) (floor : ℕ → ℕ) (t : Tables) (h : History) → Standing floor t h →
+      let x = machine step t in
+      Standing (floorAfter (x .event) h floor) (x .tables) (after (x .event) h)
+  stands step floor t h s =
+      let fair = m .fair step floor t h s in
+      record { sound = m .sound step t (s .sound); tied = fair .kept .1; budget = fair .budget }
+
   run-ok : (steps : List S) (tagsAt floor : ℕ → ℕ) (t : Tables) (h : History) → Standing floor t h → HistoryOk tagsAt floor h →
       Ran t (run machine steps t) (history (run machine steps t) h) (stepOf t)
   run-ok [] tagsAt floor t h s ok = record {
@@ -47,10 +55,8 @@ module _ {S : Type 0} (machine : Machine S) (m : FairMachine machine) where
   run-ok (step ∷ steps) tagsAt floor t h s ok =
       let x = machine step t in
       let fair = m .fair step floor t h s in
-      let sound = m .sound step t (s .sound) in
       let next = after-ok tagsAt floor h ok (x .event) (fair .kept .0) in
-      let standing : Standing (floorAfter (x .event) h floor) (x .tables) (after (x .event) h)
-      = record { sound = sound; tied = fair .kept .1; budget = fair .budget } in
+      let standing = stands step floor t h s in
       let rest = run-ok steps (next .0) (floorAfter (x .event) h floor) (x .tables) (after (x .event) h) standing (next .1) in
       record {
         tagsAt = rest .tagsAt;
@@ -60,7 +66,7 @@ module _ {S : Type 0} (machine : Machine S) (m : FairMachine machine) where
         consequences = record {
           room = (fair .room, rest .consequences .room);
           counted = rw (fair .step) at (rest .consequences .counted);
-          sound = (facts-sound (x .tables) sound, rest .consequences .sound);
+          sound = (facts-sound (x .tables) (standing .sound), rest .consequences .sound);
         };
       }
 
