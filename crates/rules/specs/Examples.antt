@@ -58,12 +58,12 @@ placed = tablesOf (replicate countWords 0) (rising clientWidth 0) [] [] [] [] []
 abbrev setting : ℕ → Tables
 setting count = onSet (record { key = keyOf count 0; number = 45; badge = 5 }) 0 0 two .tables
 
--- client 0 enters a mask with the key of a count, in a log of three entries that has the key of count 1 twice
+-- client 0, whose record is at place 7, enters a mask with the key of a count, in a log of three entries that has the key of count 1 twice
 abbrev twice : List ℕ
 twice = 0 ∷ 3 ∷ 256 ∷ 1 ∷ 256 ∷ 2 ∷ []
 
 abbrev three : Tables
-three = tablesOf (replicate entriesField 0 ++ (3 ∷ [])) row (replicate (linkWidth * targets) 0) [] [] twice (replicate recordWidth 7) []
+three = tablesOf (replicate entriesField 0 ++ (3 ∷ [])) row (replicate (linkWidth * targets) 0) [] [] twice (replicate (recordWidth * 8) 7) []
 
 abbrev entering : ℕ → Tables
 entering count = onEnter (record { key = keyOf count 0; number = 2; badge = 0 }) 0 coordinator three .tables
@@ -93,7 +93,7 @@ pub record Examples : Type 0 where
   -- "a head that has it answers its first tag", and log and record stay
   pub first : contentAt (entering 1) 0 coordinator ≡ reply 1
   pub same : entering 1 .log ≡ twice
-  pub unrecorded : entering 1 .writes ≡ replicate recordWidth 7
+  pub unrecorded : entering 1 .writes ≡ replicate (recordWidth * 8) 7
   -- a panel's row gives what is sent again: to station 2 its own setpoint, and the key that it asks that station for
   pub sentSet : sentIn 1 0 2 placed ≡ setRequest (keyOf countField 0) writeBadgeField (setpointsField + 2)
   pub sentEnter : sentIn 2 0 coordinator placed ≡ request (keyOf countField 0) maskField
