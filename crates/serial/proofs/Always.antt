@@ -196,7 +196,7 @@ after-timely (requested q i answer.Ok) h ok =
     (either Timely (atCoordinator i) (entered-timely h ok (h .doing q) q refl) (delivered-timely h ok (h .doing q) q))
 after-timely (requested q i (answer.Refused n)) h ok = stays h ok (h .astray)
 after-timely (replied q i d) h ok = arrived-timely h ok (d .arrival) d q i
-after-timely (lost q i answer.Ok) h ok = marked-timely q i false _ (missed-timely h ok (h .answered q i) (h .doing q) q)
+after-timely (lost q i answer.Ok) h ok = marked-timely q i false _ (missed-timely h ok _ (h .doing q) q)
 after-timely (lost q i (answer.Refused n)) h ok = stays h ok (h .astray)
 after-timely (resent q i answer.Ok) h ok = marked-timely q i false _ (repeated-timely h ok (h .doing q))
 after-timely (resent q i (answer.Refused n)) h ok = stays h ok (h .astray)

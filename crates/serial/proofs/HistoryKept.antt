@@ -320,7 +320,7 @@ after-ok tagsAt floor h ok (requested q i (Refused n)) owed = (now′ tagsAt flo
 after-ok tagsAt floor h ok (replied q i d) owed = (now′ tagsAt floor h ok, arrived-ok tagsAt floor h ok q i (d .arrival) d owed)
 after-ok tagsAt floor h ok (lost q i Ok) owed = (
   now′ tagsAt floor h ok,
-  marked-ok (now′ tagsAt floor h ok) floor q i false _ (missed-ok tagsAt floor h ok q (h .answered q i) (h .doing q) refl owed),
+  marked-ok (now′ tagsAt floor h ok) floor q i false _ (missed-ok tagsAt floor h ok q _ (h .doing q) refl owed),
 )
 after-ok tagsAt floor h ok (lost q i (Refused n)) owed = (now′ tagsAt floor h ok, passed-ok tagsAt floor h ok)
 after-ok tagsAt floor h ok (resent q i Ok) owed =

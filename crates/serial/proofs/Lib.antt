@@ -1,6 +1,6 @@
 -- The proof of demand 3; `Theorem` has it in one declaration. In order: what the history needs of any method (Owed to HistoryKept), and
 -- what it has of any machine (Always); what ties tables and history, client by client (Versions to Kept); each step on that view (Begins to
--- Replies); the budget of room and steps (Budget, Spending); what a step must keep (Fair); each step on the tables themselves, by facts
+-- Losses); the budget of room (Budget, Spending); what a step must keep (Fair); each step on the tables themselves, by facts
 -- (View to OpeningStep); any machine of fair steps, over a whole list (Openings, Machines); the store's (Numbers, Theorem).
 pub mod Places
 pub mod Lists

@@ -264,7 +264,7 @@ module _ (j : ℕ) where
       either Idle (atCoordinator i) (entered-idle h idle q other (h .doing q)) (delivered-idle h idle q other (h .doing q))
   after-idle (requested q i (answer.Refused n)) h idle l = idle
   after-idle (replied q i d) h idle l = arrived-idle h idle q (λ e. omega arith) (d .arrival) d i
-  after-idle (lost q i answer.Ok) h idle l = missed-idle h idle q (λ e. omega arith) (h .answered q i) (h .doing q)
+  after-idle (lost q i answer.Ok) h idle l = missed-idle h idle q (λ e. omega arith) _ (h .doing q)
   after-idle (lost q i (answer.Refused n)) h idle l = idle
   after-idle (resent q i answer.Ok) h idle l = repeated-idle h idle q (λ e. omega arith) (h .doing q)
   after-idle (resent q i (answer.Refused n)) h idle l = idle
