@@ -123,9 +123,9 @@ mod linked {
         [counts mut, clients mut, links mut, keys ptr, values ptr, log ptr, writes mut, reads mut]
         (client: u32, target: u32) -> Crossing);
     exported!(store_exports store_lose, store_lose_unchecked: LentMut,
-        [counts mut, clients ptr, links mut, keys mut, values mut, log mut, writes mut, reads ptr]
+        [counts mut, clients ptr, links mut, keys ptr, values ptr, log ptr, writes ptr, reads ptr]
         (client: u32, target: u32) -> u32);
     exported!(store_exports store_resend, store_resend_unchecked: LentMut,
-        [counts mut, clients ptr, links mut, keys mut, values mut, log mut, writes mut, reads ptr]
+        [counts mut, clients ptr, links mut, keys ptr, values ptr, log ptr, writes ptr, reads ptr]
         (client: u32, target: u32) -> u32);
 }
