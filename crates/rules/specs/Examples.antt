@@ -17,7 +17,7 @@ use Rattle.tables.specs.Tables.{Tables, tablesOf, heldOf, contentAt}
 use Rattle.tables.specs.declared.links.Content.{Content}
 use Rattle.rules.specs.Common.{coordinator, request, setRequest, reply, gotReply}
 use Rattle.rules.specs.Begin.{keptTags}
-use Rattle.rules.specs.Request.{onNewSet, onSet, onNewEnter, onEnter, onGet}
+use Rattle.rules.specs.Request.{onNewSet, onSet, onNewEnter, onEnter, onWhichKeys, onGet}
 use Rattle.rules.specs.Loss.{sentIn}
 use Rattle.rules.specs.Reply.{gotValue, endedByC, shownTags, chosenTags}
 
@@ -94,6 +94,8 @@ pub record Examples : Type 0 where
   pub first : contentAt (entering 1) 0 coordinator ≡ reply 1
   pub same : entering 1 .log ≡ twice
   pub unrecorded : entering 1 .writes ≡ replicate (recordWidth * 8) 7
+  -- "READ requests are answered as new": a head with three entries answers three, however often it is asked
+  pub anew : contentAt (onWhichKeys 0 coordinator three .tables) 0 coordinator ≡ reply 3
   -- a panel's row gives what is sent again: to station 2 its own setpoint, and the key that it asks that station for
   pub sentSet : sentIn 1 0 2 placed ≡ setRequest (keyOf countField 0) writeBadgeField (setpointsField + 2)
   pub sentEnter : sentIn 2 0 coordinator placed ≡ request (keyOf countField 0) maskField
@@ -101,7 +103,7 @@ pub record Examples : Type 0 where
   pub sentAsk : sentIn 5 0 2 placed ≡ request opening 0
 
 pub examples : Examples
-unfolding turns lastBelow firstFrom linkAt putLink onGet onSet onNewSet onEnter onNewEnter appended entered sentIn
+unfolding turns lastBelow firstFrom linkAt putLink onGet onSet onNewSet onEnter onNewEnter onWhichKeys appended entered sentIn
 examples =
     record {
       got = refl;
@@ -119,6 +121,7 @@ examples =
       first = refl;
       same = refl;
       unrecorded = refl;
+      anew = refl;
       sentSet = refl;
       sentEnter = refl;
       sentGet = refl;
