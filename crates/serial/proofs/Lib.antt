@@ -9,6 +9,7 @@ pub mod HistoryOk
 pub mod HistoryKept
 pub mod Always
 pub mod Versions
+pub mod Entries
 pub mod Press
 pub mod Links
 pub mod Invariant
@@ -16,6 +17,7 @@ pub mod Kept
 pub mod Begins
 pub mod Requests
 pub mod Replies
+pub mod Losses
 pub mod Budget
 pub mod Spending
 pub mod Fair
@@ -25,6 +27,7 @@ pub mod Ready
 pub mod BeginSteps
 pub mod RequestSteps
 pub mod ReplySteps
+pub mod LossSteps
 pub mod OpeningStep
 pub mod Openings
 pub mod Machines
