@@ -20,7 +20,7 @@ use Rattle.rules.specs.declared.Arrival.the-variants as arrival
 use Rattle.rules.specs.declared.Delivered.{Delivered}
 use Rattle.rules.specs.Begin.{begunWrite, begunRead}
 use Rattle.rules.specs.Choice.{chosenTag}
-use Rattle.rules.specs.Request.{onSet, onEnter, onWhichKeys, onGet, onGetAll, onRequestIn, requestDelivered}
+use Rattle.rules.specs.Request.{onNewSet, onSet, onNewEnter, onEnter, onWhichKeys, onGet, onGetAll, onRequestIn, requestDelivered}
 use Rattle.rules.specs.Reply.{onSetDone, onEntered, onKeys, onGot, onAll, onReplyIn, replyDelivered}
 use Rattle.soundness.specs.Sound.{longEnough, pressFits, scalarsSound, keyInRange, serverSound, entrySound, logSound, stateAllowed, uses, requestSound, replySound, contentSound, linkSound, receivedSound, clientSound, writeSound, readSound, openSound, recordsSound, sound}
 use Rattle.refusals.specs.Refusals.{openRefusal, writeRefusal, readRefusal, deliveryRefusal}
@@ -82,7 +82,11 @@ pub record Cards : Type 0 where
   pub swapped-choice : chosenTag heldWithoutA logOfTwo 1 (λ i. 2) 2 3 ≡ 2
 
 pub cards : Cards
-unfolding blank opened after busy overtaken swapped open′ beginWrite beginRead deliverRequest deliverReply openRefusal writeRefusal readRefusal deliveryRefusal longEnough pressFits turns sound scalarsSound keyInRange serverSound entrySound logSound stateAllowed uses requestSound replySound contentSound linkSound receivedSound clientSound writeSound readSound openSound recordsSound allBelow anyBelow sumBelow linkAt putLink firstFrom lastBelow appended entered begunWrite begunRead onSet onEnter onWhichKeys onGet onGetAll onRequestIn requestDelivered onSetDone onEntered onKeys onGot onAll onReplyIn replyDelivered
+unfolding blank opened after busy overtaken swapped open′ beginWrite beginRead deliverRequest deliverReply openRefusal writeRefusal
+    readRefusal deliveryRefusal longEnough pressFits turns sound scalarsSound keyInRange serverSound entrySound logSound stateAllowed uses
+    requestSound replySound contentSound linkSound receivedSound clientSound writeSound readSound openSound recordsSound allBelow anyBelow
+    sumBelow linkAt putLink firstFrom lastBelow appended entered begunWrite begunRead onNewSet onSet onNewEnter onEnter onWhichKeys onGet
+    onGetAll onRequestIn requestDelivered onSetDone onEntered onKeys onGot onAll onReplyIn replyDelivered
 cards =
     record {
       frame-written = frame.cards .written;
