@@ -9,7 +9,8 @@ use Rattle.keys.specs.Keys.{keyOf}
 use Rattle.tables.specs.Layout.{writesField, readsField}
 use Rattle.tables.specs.Tables.{Tables, tablesOf, methodOf, serversOf, writesOf, countOf}
 use Rattle.rules.specs.Common.{begunCounts, begunRecords}
-use Rattle.rules.specs.Begin.{storedSetpoints, sentSets, startedWriter, begunWrite, Asking, asking, askingByA, askingByB, askingByC, askingBy}
+use Rattle.rules.specs.Begin.{storedSetpoints, sentSets, startedWriter, begunWrite, Asking, asking, askingByA, askingByB, askingByC}
+use Rattle.rules.specs.Begin.{askingBy}
 use Rattle.rules.specs.Begin.{begunRead}
 
 -- what a WRITE leaves in the client's row

@@ -20,7 +20,8 @@ use Rattle.rules.specs.declared.Answer.{Answer}
 use Rattle.rules.specs.declared.Answer.the-variants.{Ok, Refused}
 use Rattle.rules.specs.Answers.{Left, left}
 use Rattle.rules.specs.Common.{writing, entering, askingKeys, askingSetpoints, coordinator, reply, gotReply, counted, taggedRecord}
-use Rattle.rules.specs.Request.{refused, onNewSet, onSet, onNewEnter, onEnter, onWhichKeys, onGet, onGetAll, onRequestIn, onRequest, requestDelivered}
+use Rattle.rules.specs.Request.{refused, onNewSet, onSet, onNewEnter, onEnter, onWhichKeys, onGet, onGetAll, onRequestIn, onRequest}
+use Rattle.rules.specs.Request.{requestDelivered}
 
 -- what `answeredBy` leaves
 pub record Answered (counts links : List ℕ) (q i : ℕ) (content : Content) (answer : Answer) (counts′ links′ : List ℕ) : Type 0 where
@@ -42,7 +43,8 @@ module _ (w : Contents) (q i : ℕ) (t : Tables) {done : Bool} {counts keys valu
   unfolding onNewSet
   set-stored d a = rw (← e, d, a .fine, a .counted′, a .linked)
 
-  pub set-full : done ≡ false → left (Refused 8) (tablesOf counts (t .clients) (t .links) keys values (t .log) (t .writes) (t .reads)) ≡ onNewSet w q i t
+  pub set-full : done ≡ false → left (Refused 8) (tablesOf counts (t .clients) (t .links) keys values (t .log) (t .writes) (t .reads))
+      ≡ onNewSet w q i t
   unfolding onNewSet
   set-full d =
       let k : appendLeft done counts keys values ≡ appendLeft false (t .counts) (t .keys) (t .values) =
@@ -65,7 +67,8 @@ module _ (w : Contents) (q i : ℕ) (t : Tables) {done : Bool} {counts log : Lis
   unfolding onNewEnter
   enter-entered c p d f a = rw (← e, d, f, a .fine, a .counted′, a .linked, c, p)
 
-  pub enter-full : done ≡ false → left (Refused 8) (tablesOf counts (t .clients) (t .links) (t .keys) (t .values) log (t .writes) (t .reads)) ≡ onNewEnter w q i t
+  pub enter-full : done ≡ false → left (Refused 8) (tablesOf counts (t .clients) (t .links) (t .keys) (t .values) log (t .writes)
+      (t .reads)) ≡ onNewEnter w q i t
   unfolding onNewEnter
   enter-full d =
       let k : enterLeft done counts log ≡ enterLeft false (t .counts) (t .log) = e ∙ enter-kept (t .counts) (t .log) (w .key) (w .number) (ap (λ (a : Entered). a .done) (sym e) ∙ d) in

@@ -73,7 +73,8 @@ fn set_new(
     requires { ⌜ AtServer (now counts) (now keys) (now values) target ⌝ }
     ensures { λ r. ⌜ ((clients log writes reads : List ℕ) →
         left r (tablesOf (now (counts .exit)) clients (now (links .exit)) (now (keys .exit)) (now (values .exit)) log writes reads)
-        ≡ onNewSet contents client target (tablesOf (now (counts .entry)) clients (now (links .entry)) (now (keys .entry)) (now (values .entry)) log writes reads)) ⌝ }
+        ≡ onNewSet contents client target (tablesOf (now (counts .entry)) clients (now (links .entry)) (now (keys .entry))
+        (now (values .entry)) log writes reads)) ⌝ }
 {
     let key = contents.key;
     if server::append(
@@ -104,7 +105,8 @@ fn set(
     requires { ⌜ AtServer (now counts) (now keys) (now values) target ⌝ }
     ensures { λ r. ⌜ ((clients log writes reads : List ℕ) →
         left r (tablesOf (now (counts .exit)) clients (now (links .exit)) (now (keys .exit)) (now (values .exit)) log writes reads)
-        ≡ onSet contents client target (tablesOf (now (counts .entry)) clients (now (links .entry)) (now (keys .entry)) (now (values .entry)) log writes reads)) ⌝ }
+        ≡ onSet contents client target (tablesOf (now (counts .entry)) clients (now (links .entry)) (now (keys .entry))
+        (now (values .entry)) log writes reads)) ⌝ }
 {
     let held = counts::count_at(counts, counts::HELD + target) as usize;
     let key = contents.key;
@@ -129,7 +131,8 @@ fn enter_new(
     requires { ⌜ Enterable (now counts) (now clients) (now log) (now writes) client ⌝ }
     ensures { λ r. ⌜ ((keys values reads : List ℕ) →
         left r (tablesOf (now (counts .exit)) (now (clients .entry)) (now (links .exit)) keys values (now (log .exit)) (now (writes .exit)) reads)
-        ≡ onNewEnter contents client target (tablesOf (now (counts .entry)) (now (clients .entry)) (now (links .entry)) keys values (now (log .entry)) (now (writes .entry)) reads)) ⌝ }
+        ≡ onNewEnter contents client target (tablesOf (now (counts .entry)) (now (clients .entry)) (now (links .entry)) keys values
+        (now (log .entry)) (now (writes .entry)) reads)) ⌝ }
 {
     let tag = counts::count_at(counts, counts::ENTRIES);
     let key = contents.key;
@@ -155,8 +158,10 @@ fn enter(
     requires { ⌜ Fillable (now counts) (now links) client target ⌝ }
     requires { ⌜ Enterable (now counts) (now clients) (now log) (now writes) client ⌝ }
     ensures { λ r. ⌜ ((keys values reads : List ℕ) →
-        left r (tablesOf (now (counts .exit)) (now (clients .entry)) (now (links .exit)) keys values (now (log .exit)) (now (writes .exit)) reads)
-        ≡ onEnter contents client target (tablesOf (now (counts .entry)) (now (clients .entry)) (now (links .entry)) keys values (now (log .entry)) (now (writes .entry)) reads)) ⌝ }
+        left r (tablesOf (now (counts .exit)) (now (clients .entry)) (now (links .exit)) keys values (now (log .exit))
+        (now (writes .exit)) reads)
+        ≡ onEnter contents client target (tablesOf (now (counts .entry)) (now (clients .entry)) (now (links .entry)) keys values
+        (now (log .entry)) (now (writes .entry)) reads)) ⌝ }
 {
     let entries = counts::count_at(counts, counts::ENTRIES) as usize;
     let key = contents.key;

@@ -63,7 +63,8 @@ abbrev twice : List ℕ
 twice = 0 ∷ 3 ∷ 256 ∷ 1 ∷ 256 ∷ 2 ∷ []
 
 abbrev three : Tables
-three = tablesOf (replicate entriesField 0 ++ (3 ∷ [])) row (replicate (linkWidth * targets) 0) [] [] twice (replicate (recordWidth * 8) 7) []
+three = tablesOf (replicate entriesField 0 ++ (3 ∷ [])) row (replicate (linkWidth * targets) 0) [] [] twice
+    (replicate (recordWidth * 8) 7) []
 
 abbrev entering : ℕ → Tables
 entering count = onEnter (record { key = keyOf count 0; number = 2; badge = 0 }) 0 coordinator three .tables

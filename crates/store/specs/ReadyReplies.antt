@@ -106,4 +106,10 @@ module _ (t : Tables) (s : Sound t) where
         }
 
   pub reply-ready : (q i : ℕ) → Deliverable q i t → ReplyReady (t .counts) (t .clients) (t .links) (t .keys) (t .values) (t .log) (t .writes) (t .reads) q i
-  reply-ready q i d = record { fillable = fillable t s q i d; row = client-row t s q (d .client); linked = client-links t s q (d .client); brings = λ w e. brings q i d w e }
+  reply-ready q i d = record {
+    fillable = fillable t s q i d;
+    row = client-row t s q (d .client);
+    linked = client-links t s q
+        (d .client);
+    brings = λ w e. brings q i d w e;
+  }

@@ -429,7 +429,8 @@ pub fn deliver_reply(
     )
 }
 
-// Loses what a link holds, on tables known to be sound: refused by 3, 7 or 14. What no loss changes is lent all the same: its soundness is asked.
+// Loses what a link holds, on tables known to be sound: refused by 3, 7 or 14. What no loss changes is lent all the same: its soundness
+// is asked.
 pub fn lose_sound(
     counts: &mut [u32],
     clients: &[u32],
@@ -443,9 +444,11 @@ pub fn lose_sound(
     target: u32,
 ) -> Answer
     requires { ⌜ Sound (tablesOf (now counts) (now clients) (now links) (now keys) (now values) (now log) (now writes) (now reads)) ⌝ }
-    ensures { λ r. ⌜ left r (tablesOf (now (counts .exit)) (now (clients .entry)) (now (links .exit)) (now (keys .entry)) (now (values .entry)) (now (log .entry))
+    ensures { λ r. ⌜ left r (tablesOf (now (counts .exit)) (now (clients .entry)) (now (links .exit)) (now (keys .entry))
+        (now (values .entry)) (now (log .entry))
         (now (writes .entry)) (now (reads .entry)))
-        ≡ lose client target (tablesOf (now (counts .entry)) (now (clients .entry)) (now (links .entry)) (now (keys .entry)) (now (values .entry)) (now (log .entry))
+        ≡ lose client target (tablesOf (now (counts .entry)) (now (clients .entry)) (now (links .entry)) (now (keys .entry))
+        (now (values .entry)) (now (log .entry))
         (now (writes .entry)) (now (reads .entry))) ⌝ }
 {
     let fault = refusals::delivery_fault(&*counts, client, target);
@@ -468,9 +471,11 @@ pub fn lose(
     client: u32,
     target: u32,
 ) -> Answer
-    ensures { λ r. ⌜ left r (tablesOf (now (counts .exit)) (now (clients .entry)) (now (links .exit)) (now (keys .entry)) (now (values .entry)) (now (log .entry))
+    ensures { λ r. ⌜ left r (tablesOf (now (counts .exit)) (now (clients .entry)) (now (links .exit)) (now (keys .entry))
+        (now (values .entry)) (now (log .entry))
         (now (writes .entry)) (now (reads .entry)))
-        ≡ lose client target (tablesOf (now (counts .entry)) (now (clients .entry)) (now (links .entry)) (now (keys .entry)) (now (values .entry)) (now (log .entry))
+        ≡ lose client target (tablesOf (now (counts .entry)) (now (clients .entry)) (now (links .entry)) (now (keys .entry))
+        (now (values .entry)) (now (log .entry))
         (now (writes .entry)) (now (reads .entry))) ⌝ }
 {
     if !soundness::sound(&*counts, clients, &*links, keys, values, log, writes, reads) {
@@ -504,9 +509,11 @@ pub fn resend_sound(
     target: u32,
 ) -> Answer
     requires { ⌜ Sound (tablesOf (now counts) (now clients) (now links) (now keys) (now values) (now log) (now writes) (now reads)) ⌝ }
-    ensures { λ r. ⌜ left r (tablesOf (now (counts .exit)) (now (clients .entry)) (now (links .exit)) (now (keys .entry)) (now (values .entry)) (now (log .entry))
+    ensures { λ r. ⌜ left r (tablesOf (now (counts .exit)) (now (clients .entry)) (now (links .exit)) (now (keys .entry))
+        (now (values .entry)) (now (log .entry))
         (now (writes .entry)) (now (reads .entry)))
-        ≡ resend client target (tablesOf (now (counts .entry)) (now (clients .entry)) (now (links .entry)) (now (keys .entry)) (now (values .entry)) (now (log .entry))
+        ≡ resend client target (tablesOf (now (counts .entry)) (now (clients .entry)) (now (links .entry)) (now (keys .entry))
+        (now (values .entry)) (now (log .entry))
         (now (writes .entry)) (now (reads .entry))) ⌝ }
 {
     let fault = refusals::delivery_fault(&*counts, client, target);
@@ -529,9 +536,11 @@ pub fn resend(
     client: u32,
     target: u32,
 ) -> Answer
-    ensures { λ r. ⌜ left r (tablesOf (now (counts .exit)) (now (clients .entry)) (now (links .exit)) (now (keys .entry)) (now (values .entry)) (now (log .entry))
+    ensures { λ r. ⌜ left r (tablesOf (now (counts .exit)) (now (clients .entry)) (now (links .exit)) (now (keys .entry))
+        (now (values .entry)) (now (log .entry))
         (now (writes .entry)) (now (reads .entry)))
-        ≡ resend client target (tablesOf (now (counts .entry)) (now (clients .entry)) (now (links .entry)) (now (keys .entry)) (now (values .entry)) (now (log .entry))
+        ≡ resend client target (tablesOf (now (counts .entry)) (now (clients .entry)) (now (links .entry)) (now (keys .entry))
+        (now (values .entry)) (now (log .entry))
         (now (writes .entry)) (now (reads .entry))) ⌝ }
 {
     if !soundness::sound(&*counts, clients, &*links, keys, values, log, writes, reads) {

@@ -258,9 +258,11 @@ pub extern "C" fn store_lose(
     client: u32,
     target: u32,
 ) -> u32
-    ensures { λ r. ⌜ numbered r (tablesOf (now (counts .exit)) (now (clients .entry)) (now (links .exit)) (now (keys .entry)) (now (values .entry)) (now (log .entry))
+    ensures { λ r. ⌜ numbered r (tablesOf (now (counts .exit)) (now (clients .entry)) (now (links .exit)) (now (keys .entry))
+        (now (values .entry)) (now (log .entry))
         (now (writes .entry)) (now (reads .entry)))
-        ≡ inNumbers (lose client target (tablesOf (now (counts .entry)) (now (clients .entry)) (now (links .entry)) (now (keys .entry)) (now (values .entry)) (now (log .entry))
+        ≡ inNumbers (lose client target (tablesOf (now (counts .entry)) (now (clients .entry)) (now (links .entry)) (now (keys .entry))
+        (now (values .entry)) (now (log .entry))
         (now (writes .entry)) (now (reads .entry)))) ⌝ }
 {
     let answer = store::lose(
@@ -292,9 +294,11 @@ pub extern "C" fn store_resend(
     client: u32,
     target: u32,
 ) -> u32
-    ensures { λ r. ⌜ numbered r (tablesOf (now (counts .exit)) (now (clients .entry)) (now (links .exit)) (now (keys .entry)) (now (values .entry)) (now (log .entry))
+    ensures { λ r. ⌜ numbered r (tablesOf (now (counts .exit)) (now (clients .entry)) (now (links .exit)) (now (keys .entry))
+        (now (values .entry)) (now (log .entry))
         (now (writes .entry)) (now (reads .entry)))
-        ≡ inNumbers (resend client target (tablesOf (now (counts .entry)) (now (clients .entry)) (now (links .entry)) (now (keys .entry)) (now (values .entry)) (now (log .entry))
+        ≡ inNumbers (resend client target (tablesOf (now (counts .entry)) (now (clients .entry)) (now (links .entry)) (now (keys .entry))
+        (now (values .entry)) (now (log .entry))
         (now (writes .entry)) (now (reads .entry)))) ⌝ }
 {
     let answer = store::resend(
@@ -463,9 +467,11 @@ pub extern "C" fn store_lose_unchecked(
     target: u32,
 ) -> u32
     requires { ⌜ Sound (tablesOf (now counts) (now clients) (now links) (now keys) (now values) (now log) (now writes) (now reads)) ⌝ }
-    ensures { λ r. ⌜ numbered r (tablesOf (now (counts .exit)) (now (clients .entry)) (now (links .exit)) (now (keys .entry)) (now (values .entry)) (now (log .entry))
+    ensures { λ r. ⌜ numbered r (tablesOf (now (counts .exit)) (now (clients .entry)) (now (links .exit)) (now (keys .entry))
+        (now (values .entry)) (now (log .entry))
         (now (writes .entry)) (now (reads .entry)))
-        ≡ inNumbers (lose client target (tablesOf (now (counts .entry)) (now (clients .entry)) (now (links .entry)) (now (keys .entry)) (now (values .entry)) (now (log .entry))
+        ≡ inNumbers (lose client target (tablesOf (now (counts .entry)) (now (clients .entry)) (now (links .entry)) (now (keys .entry))
+        (now (values .entry)) (now (log .entry))
         (now (writes .entry)) (now (reads .entry)))) ⌝ }
 {
     let answer = store::lose_sound(
@@ -498,9 +504,11 @@ pub extern "C" fn store_resend_unchecked(
     target: u32,
 ) -> u32
     requires { ⌜ Sound (tablesOf (now counts) (now clients) (now links) (now keys) (now values) (now log) (now writes) (now reads)) ⌝ }
-    ensures { λ r. ⌜ numbered r (tablesOf (now (counts .exit)) (now (clients .entry)) (now (links .exit)) (now (keys .entry)) (now (values .entry)) (now (log .entry))
+    ensures { λ r. ⌜ numbered r (tablesOf (now (counts .exit)) (now (clients .entry)) (now (links .exit)) (now (keys .entry))
+        (now (values .entry)) (now (log .entry))
         (now (writes .entry)) (now (reads .entry)))
-        ≡ inNumbers (resend client target (tablesOf (now (counts .entry)) (now (clients .entry)) (now (links .entry)) (now (keys .entry)) (now (values .entry)) (now (log .entry))
+        ≡ inNumbers (resend client target (tablesOf (now (counts .entry)) (now (clients .entry)) (now (links .entry)) (now (keys .entry))
+        (now (values .entry)) (now (log .entry))
         (now (writes .entry)) (now (reads .entry)))) ⌝ }
 {
     let answer = store::resend_sound(

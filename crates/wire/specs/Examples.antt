@@ -107,7 +107,8 @@ pub record Examples : Type 0 where
 
 pub examples : Examples
 unfolding blank opened writeBegun keysAnswered bothStored writeEntered keysArrived readBegun writtenBehind allAnswered onLink requestIn
-    replyIn sentFrom turns anyBelow firstFrom lastBelow linkAt putLink appended entered begunWrite begunRead onNewSet onSet onNewEnter onEnter onWhichKeys
+    replyIn sentFrom turns anyBelow firstFrom lastBelow linkAt putLink appended entered begunWrite begunRead onNewSet onSet onNewEnter
+    onEnter onWhichKeys
     onGet onGetAll onRequestIn requestDelivered onSetDone onEntered onKeys onGot onAll onReplyIn replyDelivered linkLost built bitOf withBit
     setBit putField size lay frame sortAt bitsOf entriesIn hasBadges leftAfter placeAfter nextOf entries fixed format entryValue
     valuesOf frameOf fits

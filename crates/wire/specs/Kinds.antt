@@ -104,7 +104,8 @@ pub record Kinds : Type 0 where
 
 pub kinds : Kinds
 unfolding blank opened setting stored entering logged reading keysTold getting allTold onLink requestIn replyIn turns anyBelow firstFrom
-    lastBelow linkAt putLink appended entered begunWrite begunRead onNewSet onSet onNewEnter onEnter onWhichKeys onGet onGetAll onRequestIn requestDelivered
+    lastBelow linkAt putLink appended entered begunWrite begunRead onNewSet onSet onNewEnter onEnter onWhichKeys onGet onGetAll
+    onRequestIn requestDelivered
     onSetDone onEntered onKeys onGot onAll onReplyIn replyDelivered built bitOf withBit setBit putField size lay frame sortAt bitsOf
     entriesIn hasBadges leftAfter placeAfter nextOf entries fixed format entryValue valuesOf frameOf
 kinds =

@@ -15,7 +15,8 @@ use Rattle.frames.specs.declared.Message.{Message}
 use Rattle.frames.specs.declared.Message.the-variants.{Set, SetDone, Enter, Entered, WhichKeys, Keys, Get, Got, GetAll, All, GetLog, Log}
 use Rattle.ranges.specs.Laid.{built}
 
--- what crosses on a link: nothing, also where it is lost, or a message with the keys of its entries, as words, their badges, none where the kind has none, and their
+-- what crosses on a link: nothing, also where it is lost, or a message with the keys of its entries, as words, their badges, none where
+-- the kind has none, and their
 -- tags, setpoints or masks
 pub data OnLink : Type 0 where
   empty : OnLink

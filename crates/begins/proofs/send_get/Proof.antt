@@ -15,7 +15,11 @@ returns c =
     let wanted = sym (at-if1 .before .has-server .ensures) ∙ at-if1 .if1 .taken in
     let latest = at-latest-entry .latest-entry .ensures in (
       rw wanted
-          (at-put-client-word2 .put-client-word2 .ensures ∙ rw (at-word .word .ensures, at-put-client-word .put-client-word .ensures, latest)),
+          (at-put-client-word2 .put-client-word2 .ensures ∙ rw (
+            at-word .word .ensures,
+            at-put-client-word .put-client-word .ensures,
+            latest,
+          )),
       rw wanted (at-send .send .ensures ∙ rw latest),
     )
 
@@ -25,5 +29,6 @@ returns-2 c = let passed = sym (c .before .has-server .ensures) ∙ c .if1 .left
 pub send-get-spec : {M : Type 1} → statement M
 send-get-spec =
     tie.close
-    (tie.spec (λ c κs. search needs) (λ c κs. search needs) (λ c. search needs) (λ c κs. search needs) (λ c. search needs) (λ c κs. search needs)
+    (tie.spec (λ c κs. search needs) (λ c κs. search needs) (λ c. search needs) (λ c κs. search needs) (λ c. search needs)
+    (λ c κs. search needs)
     (λ c κs. search needs) (λ c κs. search needs) (λ c. search needs) (λ c. search needs) returns returns-2)

@@ -58,7 +58,8 @@ loop-again c =
       search needs,
       (
         search needs,
-        kept-both-more tagsField askedField (hasServer (a .mask)) (latestTagAt (a .log .now) (a .tag)) (latestWord (a .log .now) (a .tag)) (a .client) n _
+        kept-both-more tagsField askedField (hasServer (a .mask)) (latestTagAt (a .log .now) (a .tag))
+            (latestWord (a .log .now) (a .tag)) (a .client) n _
             (omega arith) (v .1 .1) (f .0),
       ),
       (search needs, turns-more (sending (a .log .now) (a .client) (a .mask) (a .tag)) n _ (v .2 .1) (f .1)),

@@ -25,14 +25,16 @@ returns-3 c =
     let a = c .before .before .before .before .before .before .before .before .before .before .before .before .before .args in
     λ clients keys values log writes reads.
     request-lost (a .client) (a .target) (tablesOf (a .counts .now) clients (a .links .now) keys values log writes reads)
-    (c .before .before .before .before .before .before .before .before .before .link-at .ensures) (c .before .before .before .before .fill .ensures) (c .before .before .before .before .before .before .before .enum-told3 .given .1)
+    (c .before .before .before .before .before .before .before .before .before .link-at .ensures)
+    (c .before .before .before .before .fill .ensures) (c .before .before .before .before .before .before .before .enum-told3 .given .1)
 
 returns-4 : tie.Need-returns-4
 returns-4 c =
     let a = c .before .before .before .before .before .before .before .before .before .before .before .before .before .args in
     λ clients keys values log writes reads.
     reply-lost (a .client) (a .target) (tablesOf (a .counts .now) clients (a .links .now) keys values log writes reads)
-    (c .before .before .before .before .before .before .before .before .before .link-at .ensures) (c .before .before .before .before .fill2 .ensures) (c .before .before .before .before .before .before .before .enum-told4 .given .1)
+    (c .before .before .before .before .before .before .before .before .before .link-at .ensures)
+    (c .before .before .before .before .fill2 .ensures) (c .before .before .before .before .before .before .before .enum-told4 .given .1)
 
 pub lose-spec : {M : Type 1} → statement M
 lose-spec =

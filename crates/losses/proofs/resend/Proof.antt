@@ -10,7 +10,8 @@ use Rattle.losses.proofs.resend.Reads as reads
 
 sent-requires : tie.Need-sent-requires
 sent-requires c κs =
-    c .before .before .before .before .before .before .before .pre .sends (ap (λ (k : Link). k .content) (sym (c .before .before .link-at .ensures)) ∙ c .enum-told4 .given .1)
+    c .before .before .before .before .before .before .before .pre .sends
+    (ap (λ (k : Link). k .content) (sym (c .before .before .link-at .ensures)) ∙ c .enum-told4 .given .1)
 
 returns : tie.Need-returns
 returns c =
@@ -35,10 +36,14 @@ returns-3 c =
 
 returns-4 : tie.Need-returns-4
 returns-4 c =
-    let a = c .before .before .before .before .before .before .before .before .before .before .before .before .before .before .before .args in
+    let at-fill = c .before .before .before .before in
+    let at-sent = at-fill .before .before .before in
+    let at-link-at = at-sent .before .before .before in
+    let a = at-link-at .before .before .before .before .before .args in
     λ keys values log writes reads.
     let t = tablesOf (a .counts .now) (a .clients .now) (a .links .now) keys values log writes reads in
-    lost-resent (a .client) (a .target) t (c .before .before .before .before .before .before .before .before .before .before .link-at .ensures) (c .before .before .before .before .before .before .before .before .enum-told4 .given .1) (c .before .before .before .before .before .before .before .sent .ensures t) (c .before .before .before .before .fill .ensures)
+    lost-resent (a .client) (a .target) t (at-link-at .link-at .ensures) (at-sent .before .enum-told4 .given .1) (at-sent .sent .ensures t)
+    (at-fill .fill .ensures)
 
 pub resend-spec : {M : Type 1} → statement M
 resend-spec =

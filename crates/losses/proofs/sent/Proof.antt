@@ -12,7 +12,8 @@ returns c =
     let at-new = c .before .before .before .before in
     let a = at-new .before .before .before .before .args in
     λ t.
-    sends-set (a .client) (a .target) (withClients (a .clients .now) t) (at-new .before .before .client-word .ensures) (c .before .before .before .if1 .taken)
+    sends-set (a .client) (a .target) (withClients (a .clients .now) t) (at-new .before .before .client-word .ensures)
+    (c .before .before .before .if1 .taken)
     (at-new .before .client-word2 .ensures) (at-new .new .ensures)
     (c .before .before .client-word3 .ensures) (c .before .client-word4 .ensures) (c .requesting .ensures)
 
@@ -21,12 +22,14 @@ returns-2 c =
     let at-new = c .before .before .before .before in
     let a = at-new .before .before .before .before .args in
     λ t.
-    sends-enter (a .client) (a .target) (withClients (a .clients .now) t) (at-new .before .before .client-word .ensures) (c .before .before .before .if1 .left) (c .before .before .if2 .taken)
+    sends-enter (a .client) (a .target) (withClients (a .clients .now) t) (at-new .before .before .client-word .ensures)
+    (c .before .before .before .if1 .left) (c .before .before .if2 .taken)
     (at-new .before .client-word2 .ensures) (at-new .new .ensures) (c .before .client-word5 .ensures) (c .requesting2 .ensures)
 
 client-word-requires-6 : tie.Need-client-word-requires-6
 client-word-requires-6 c κs =
-    let server = c .before .before .before .before .before .before .before .pre .server (sym (c .before .before .before .before .before .client-word .ensures) ∙ c .if3 .taken) in
+    let server = c .before .before .before .before .before .before .before .pre .server
+    (sym (c .before .before .before .before .before .client-word .ensures) ∙ c .if3 .taken) in
     (c .before .before .before .before .before .before .before .pre .row, omega arith)
 
 returns-3 : tie.Need-returns-3
@@ -34,15 +37,18 @@ returns-3 c =
     let at-new = c .before .before .before .before .before .before in
     let a = at-new .before .before .before .before .args in
     λ t.
-    sends-get (a .client) (a .target) (withClients (a .clients .now) t) (at-new .before .before .client-word .ensures) (c .before .before .before .before .before .if1 .left) (c .before .before .before .before .if2 .left)
-    (c .before .before .before .if3 .taken) (c .before .before .client-word6 .ensures) (c .before .at-word .ensures) (c .requesting3 .ensures)
+    sends-get (a .client) (a .target) (withClients (a .clients .now) t) (at-new .before .before .client-word .ensures)
+    (c .before .before .before .before .before .if1 .left) (c .before .before .before .before .if2 .left)
+    (c .before .before .before .if3 .taken) (c .before .before .client-word6 .ensures) (c .before .at-word .ensures)
+    (c .requesting3 .ensures)
 
 returns-4 : tie.Need-returns-4
 returns-4 c =
     let at-new = c .before .before .before .before in
     let a = at-new .before .before .before .before .args in
     λ t.
-    sends-ask (a .client) (a .target) (withClients (a .clients .now) t) (at-new .before .before .client-word .ensures) (c .before .before .before .if1 .left) (c .before .before .if2 .left)
+    sends-ask (a .client) (a .target) (withClients (a .clients .now) t) (at-new .before .before .client-word .ensures)
+    (c .before .before .before .if1 .left) (c .before .before .if2 .left)
     (c .before .if3 .left) (c .requesting4 .ensures)
 
 pub sent-spec : {M : Type 1} → statement M

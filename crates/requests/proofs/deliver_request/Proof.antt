@@ -13,8 +13,14 @@ answer-in-state-requires c κs =
     let at-content = c .before .before .before .before .before .before .before in
     let at-link-at = at-content .before .before in
     let start = at-link-at .before .before .before .before .before .before .before .before .before in
-    let p = start .pre in
-    (p .fillable, ((p .row, p .target), p .asks _ (ap (λ (k : Link). k .content) (sym (at-link-at .link-at .ensures)) ∙ at-content .content .given .1)))
+    let p = start .pre in (
+      p .fillable,
+      (
+        (p .row, p .target),
+        p .asks _ (ap (λ (k : Link). k .content) (sym (at-link-at .link-at .ensures))
+            ∙ at-content .content .given .1),
+      ),
+    )
 
 returns : tie.Need-returns
 returns c =

@@ -12,7 +12,8 @@ answer-requires c κs =
     let start = at-enter .before .before .before .before .before .before .before .before .before .before .before in
     let a = start .args in
     let p = start .pre .0 in
-    let n = enter-step (a .contents) (a .client) (a .target) (tablesOf (a .counts .now) (a .clients .now) (a .links .now) (a .counts .now) (a .counts .now) (a .log .now) (a .writes .now) (a .counts .now)) (at-enter .enter .ensures) in
+    let n = enter-step (a .contents) (a .client) (a .target) (tablesOf (a .counts .now) (a .clients .now) (a .links .now)
+    (a .counts .now) (a .counts .now) (a .log .now) (a .writes .now) (a .counts .now)) (at-enter .enter .ensures) in
     record { counted = search needs; stepped = rw n (p .stepped); linked = p .linked }
 
 returns : tie.Need-returns
@@ -26,13 +27,19 @@ returns c =
     let start = at-count-at .before .before .before .before .before .before .before in
     let a = start .args in
     λ keys values reads.
-    enter-entered (a .contents) (a .client) (a .target) (tablesOf (a .counts .now) (a .clients .now) (a .links .now) keys values (a .log .now) (a .writes .now) reads) (at-enter .enter .ensures) (at-count-at .count-at .ensures) (at-client-word .client-word .ensures) (at-if1 .if1 .taken) (at-put-record-word .put-record-word .ensures) (at-answer .answer .ensures)
+    enter-entered (a .contents) (a .client) (a .target) (tablesOf (a .counts .now) (a .clients .now) (a .links .now) keys values
+    (a .log .now) (a .writes .now) reads) (at-enter .enter .ensures) (at-count-at .count-at .ensures)
+    (at-client-word .client-word .ensures) (at-if1 .if1 .taken) (at-put-record-word .put-record-word .ensures) (at-answer .answer .ensures)
 
 returns-2 : tie.Need-returns-2
-returns-2 c = let a = c .before .before .before .before .before .before .before .before .before .before .before .before .before .before .before .before .args in λ keys values reads.
-    enter-full (a .contents) (a .client) (a .target) (tablesOf (a .counts .now) (a .clients .now) (a .links .now) keys values (a .log .now) (a .writes .now) reads) (c .before .before .before .before .before .enter .ensures) (c .if1 .left)
+returns-2 c = let a = c .before .before .before .before .before .before .before .before .before .before .before .before .before .before
+    .before .before .args in λ keys values reads.
+    enter-full (a .contents) (a .client) (a .target) (tablesOf (a .counts .now) (a .clients .now) (a .links .now) keys values
+    (a .log .now) (a .writes .now) reads) (c .before .before .before .before .before .enter .ensures) (c .if1 .left)
 
 pub enter-new-spec : {M : Type 1} → statement M
 enter-new-spec =
     tie.close
-    (tie.spec (λ c κs. search needs) (λ c κs. search needs) (λ c κs. search needs) (λ c. search needs) (λ c κs. search needs) answer-requires (λ c. search needs) (λ c. search needs) (λ c. search needs) (λ c. search needs) returns (λ c. search needs) (λ c. search needs) returns-2)
+    (tie.spec (λ c κs. search needs) (λ c κs. search needs) (λ c κs. search needs) (λ c. search needs)
+    (λ c κs. search needs) answer-requires (λ c. search needs) (λ c. search needs) (λ c. search needs) (λ c. search needs) returns
+    (λ c. search needs) (λ c. search needs) returns-2)

@@ -2,7 +2,8 @@
 use mathlib.Core.Path.{_≡_, sym, _∙_}
 use Rattle.tables.specs.Tables.{Tables, tablesOf}
 use Rattle.refusals.specs.Refusals.{deliveryFault}
-use Rattle.replies.specs.Cases.{by-nothing, by-request, by-lost, by-arrival, by-waiting, by-row, by-set-done, by-entered, by-keys, by-got, by-all}
+use Rattle.replies.specs.Cases.{by-nothing, by-request, by-lost, by-arrival, by-waiting, by-row, by-set-done, by-entered, by-keys, by-got}
+use Rattle.replies.specs.Cases.{by-all}
 use Rattle.store.specs.Cases.{reply-refused}
 use Rattle.store.specs.Replies.{Taking, taking, brings, taken}
 use borrow.Author.Needs.{needs}

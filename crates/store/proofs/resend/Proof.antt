@@ -12,14 +12,16 @@ returns : tie.Need-returns
 returns c =
     let a = c .before .before .before .before .before .before .before .before .before .before .before .before .args in
     unsound-resend
-    (tablesOf (a .counts .now) (a .clients .now) (a .links .now) (a .keys .now) (a .values .now) (a .log .now) (a .writes .now) (a .reads .now))
+    (tablesOf (a .counts .now) (a .clients .now) (a .links .now) (a .keys .now) (a .values .now) (a .log .now) (a .writes .now)
+    (a .reads .now))
     (c .before .sound .ensures) (c .if1 .taken) (a .client) (a .target)
 
 resend-sound-requires : tie.Need-resend-sound-requires
 resend-sound-requires c κs =
     let a = c .before .before .before .before .before .before .before .before .before .before .before .before .before .before .args in
     sound-facts
-    (tablesOf (a .counts .now) (a .clients .now) (a .links .now) (a .keys .now) (a .values .now) (a .log .now) (a .writes .now) (a .reads .now))
+    (tablesOf (a .counts .now) (a .clients .now) (a .links .now) (a .keys .now) (a .values .now) (a .log .now) (a .writes .now)
+    (a .reads .now))
     (sym (c .before .before .before .sound .ensures) ∙ not-false _ (c .before .before .if1 .left))
 
 pub resend-spec : {M : Type 1} → statement M
