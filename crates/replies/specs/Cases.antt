@@ -1,6 +1,6 @@
 -- The cases of a reply's delivery, as the code meets them.
 use Prim.Native.Nat.{ℕ, _-_}
-use mathlib.Core.Path.{_≡_, sym, _∙_, ap}
+use mathlib.Core.Path.{_≡_, refl, sym, _∙_, ap}
 use mathlib.Core.Bool.{Bool, true, false, cond}
 use mathlib.Core.List.{List}
 use native.Mathlib.Omega.{arith}
@@ -133,14 +133,16 @@ module _ (q i : ℕ) (t : Tables) {l : Link} (d : l ≡ linkAt (t .links) q i) w
   by-content e f = f ∙ ap (λ (c : Content). onReply c q i t) (sym e ∙ ap (λ (k : Link). k .content) d)
 
   -- no reply is there
-  pub by-nothing : {x : Delivered} → l .content ≡ Nothing → x ≡ nothingShown (Refused 9) → arrived x t ≡ replyDelivered q i t
-  by-nothing e f = by-content e (rw f)
+  none-of : (c : Content) {x : Delivered} → l .content ≡ c → ((w : Contents) → c ≡ Reply w → ⊥) → x ≡ nothingShown (Refused 9) →
+      arrived x t ≡ replyDelivered q i t
+  none-of Nothing e n f = by-content e (rw f)
+  none-of (Request w) e n f = by-content e (rw f)
+  none-of (Reply w) e n f = absurd (n w refl)
+  none-of Lost e n f = by-content e (rw f)
 
-  pub by-request : {x : Delivered} {w : Contents} → l .content ≡ Request w → x ≡ nothingShown (Refused 9) → arrived x t ≡ replyDelivered q i t
-  by-request e f = by-content e (rw f)
-
-  pub by-lost : {x : Delivered} → l .content ≡ Lost → x ≡ nothingShown (Refused 9) → arrived x t ≡ replyDelivered q i t
-  by-lost e f = by-content e (rw f)
+  pub by-none : {x : Delivered} → ((w : Contents) → l .content ≡ Reply w → ⊥) → x ≡ nothingShown (Refused 9) →
+      arrived x t ≡ replyDelivered q i t
+  by-none n f = none-of (l .content) refl n f
 
   pub by-reply : {w : Contents} {x : Arrived} → l .content ≡ Reply w → x ≡ onReplyIn (stateOf t q) w q i t → x ≡ replyDelivered q i t
   by-reply e f = by-content e f

@@ -329,17 +329,8 @@ pub fn deliver_reply_sound(
     let target = target as usize;
     let link = links::link_at(&*links, client, target);
     let content = link.content;
-    let contents = match content {
-        links::Content::Nothing => {
-            return rules::showing_nothing(Arrival::Refused(9));
-        }
-        links::Content::Request(_) => {
-            return rules::showing_nothing(Arrival::Refused(9));
-        }
-        links::Content::Lost => {
-            return rules::showing_nothing(Arrival::Refused(9));
-        }
-        links::Content::Reply(contents) => contents,
+    let links::Content::Reply(contents) = content else {
+        return rules::showing_nothing(Arrival::Refused(9));
     };
     let state = clients::client_word(clients, client, clients::STATE);
     if state == states::WRITING {
