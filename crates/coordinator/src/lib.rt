@@ -1,9 +1,10 @@
 // The head's part: the log, and the key of a station at a tag. The head is the coordinator here, a station a server.
 ghost use mathlib.Core.Path.{_≡_};
-ghost use Prim.Native.Nat.{_≤_, _<_};
+ghost use Prim.Native.Nat.{_*_, _≤_, _<_};
 ghost use lib.ListN.{length};
 ghost use Rattle.ranges.specs.Laid.{laid};
-ghost use Rattle.coordinator.specs.Log.{LogRoom, HasEntry, enterLeft, entered};
+ghost use Rattle.tables.specs.Layout.{entryWidth};
+ghost use Rattle.coordinator.specs.Log.{LogRoom, HasEntry, enterLeft, entered, firstEntry};
 ghost use Rattle.coordinator.specs.Latest.{entryAt, latestOf, latestWord, latestTagAt};
 use keys::Key;
 use tables::counts;
@@ -21,6 +22,22 @@ pub fn enter(counts: &mut [u32], log: &mut [u32], key: Key, mask: u32) -> bool
     log::put_entry(log, entries as usize, key, mask);
     counts::put_count(counts, counts::ENTRIES, entries + 1);
     true
+}
+
+// The first of the log's n first entries that bears a key, and n where none does.
+pub fn find(log: &[u32], n: usize, key: Key) -> usize
+    requires { ⌜ entryWidth * n ≤ length (now log) ⌝ }
+    ensures { λ r. ⌜ r ≡ firstEntry (now (log .entry)) key n ⌝ }
+{
+    let word = key.word();
+    let mut tag = 0;
+    while tag < n {
+        if log::key_word(log, tag) == word {
+            return tag;
+        }
+        tag += 1;
+    }
+    tag
 }
 
 // What the search back finds for a server: the key of the latest entry that wrote it, and the tag of that entry.

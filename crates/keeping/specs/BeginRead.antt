@@ -21,10 +21,10 @@ use Rattle.tables.specs.Tables.{Tables, methodOf, serversOf, clientsOf, stepOf,
 use Rattle.tables.specs.Tables.{recordOf, receivedOf}
 use Rattle.tables.specs.declared.links.Content.{Content}
 use Rattle.rules.specs.Common.{writing, askingKeys, askingSetpoints, askingAll, coordinator, request}
-use Rattle.rules.specs.Begin.{lastTag, sentGets, keptTags, sendAsk, sentAsks, asking, begunReadWith, begunRead}
+use Rattle.rules.specs.Begin.{lastTag, sentGets, keptAsking, sendAsk, sentAsks, asking, begunReadWith, begunRead}
 use Rattle.soundness.specs.Sound.{isWriting, isReading, uses}
 use Rattle.soundness.specs.Facts.{KeptFacts, ClientFacts, ReadFacts, RecordsFacts, Sound}
-use Rattle.soundness.specs.Room.{few-servers, client-row, client-links, link-row, next-read}
+use Rattle.soundness.specs.Room.{few-servers, client-links, link-row, next-read}
 use Rattle.keeping.specs.Accepted.{neither, Beginnable, Readable}
 use Rattle.keeping.specs.Links.{badgeOn, linkWord, put-same, put-other, put-beside}
 use Rattle.keeping.specs.States.{masked-below, not-all, received-none, allowed-by-A, allowed-by-B, allowed-by-C, uses-keys}
@@ -33,12 +33,13 @@ use Rattle.keeping.specs.Frame.{Kept, write-kept, read-kept, kept-in}
 use Rattle.keeping.specs.Moves.{Moves, moves-numbers, same-entries, moved-kept}
 use Rattle.keeping.specs.Records.{begun-word, begun-here, begun-places, records-begun, records-idle}
 use Rattle.keeping.specs.Rows.{put, Put, putAll, lastPut}
-use Rattle.keeping.specs.Asked.{Asked, asked-puts, asked-tags}
+use Rattle.keeping.specs.Asked.{Asked, asked-puts, asked-keys}
 use Rattle.keeping.specs.Rounds.{Sent, sent-client, idle-empty, sent-there, sent-not, sent-others, sent-length}
 use Rattle.keeping.specs.Gets.{gets-sent}
 use Rattle.keeping.specs.Begins.{begun-other, begun-more, begun-step, begun-length}
 
--- A begin of a READ, whatever links it leaves. It puts words into the row, below the setpoints, and no count; by A it keeps tags too.
+-- A begin of a READ, whatever links it leaves. It puts words into the row, below the setpoints, and no count; by A it
+-- keeps tags and keys too.
 module _ (q mask : ℕ) (puts : List Put) (clients′ links′ : List ℕ) (t : Tables) (s : Sound t) (b : Beginnable q mask t) (few : readsOf t < recordPlaces)
     (asked : Asked q puts t clients′) where
   abbrev after : Tables
@@ -162,7 +163,7 @@ module _ (q mask : ℕ) (t : Tables) (s : Sound t) (b : Beginnable q mask t) (fe
     get i = request (latestKey (t .log) i (lastTag t)) 0
 
     abbrev rowA : List ℕ
-    rowA = keptTags q mask (t .log) (lastTag t) k (putAll putsA q (t .clients))
+    rowA = keptAsking q mask (t .log) (lastTag t) k (putAll putsA q (t .clients))
 
     abbrev afterA : Tables
     afterA = begunReadWith q mask (asking rowA linksA) t
@@ -171,7 +172,7 @@ module _ (q mask : ℕ) (t : Tables) (s : Sound t) (b : Beginnable q mask t) (fe
     last-within = omega (arith, s .scalars .entries .least)
 
     row-askedA : Asked q putsA t rowA
-    row-askedA = asked-tags q putsA t (client-row t s q (b .client)) refl refl (c .kept) (few-servers t s) mask (lastTag t) last-within
+    row-askedA = asked-keys q putsA t s (b .client) refl refl mask (lastTag t) last-within refl
 
     wordA : (g : ℕ) → g < setpointsField → clientWord (afterA .clients) q g ≡ lastPut putsA (clientWord (t .clients) q g) g
     wordA = row-askedA .word
@@ -188,6 +189,7 @@ module _ (q mask : ℕ) (t : Tables) (s : Sound t) (b : Beginnable q mask t) (fe
         (allowed-by-A (methodOf t) q part reader)
         (rw (wordA countField (omega arith)) counted)
         (rw (wordA tagField (omega arith), same-entries q t afterA movesA) last-within)
+        (rw (row-askedA .badge) (c .badge))
         (kept-within q mask putsA rowA linksA t s b few row-askedA movesA)
         (none-received q mask putsA rowA linksA t s b few row-askedA)
 
@@ -210,7 +212,7 @@ module _ (q mask : ℕ) (t : Tables) (s : Sound t) (b : Beginnable q mask t) (fe
     afterB = begunReadWith q mask (asking rowB linksB) t
 
     row-askedB : Asked q putsB t rowB
-    row-askedB = asked-puts q putsB t (client-row t s q (b .client)) refl refl (c .kept)
+    row-askedB = asked-puts q putsB t s (b .client) refl refl (λ e. omega arith)
 
     wordB : (g : ℕ) → g < setpointsField → clientWord (afterB .clients) q g ≡ lastPut putsB (clientWord (t .clients) q g) g
     wordB = row-askedB .word
@@ -232,6 +234,7 @@ module _ (q mask : ℕ) (t : Tables) (s : Sound t) (b : Beginnable q mask t) (fe
           count = rw (state, wordB countField (omega arith)) (record { least = omega arith; most = counted });
           mask = rw (masked, n .servers) (b .masked);
           tag = rw (wordB tagField (omega arith), same-entries q t afterB movesB) (c .tag);
+          badge = rw (row-askedB .badge) (c .badge);
           kept = kept-within q mask putsB rowB linksB t s b few row-askedB movesB;
           some = (coordinator, omega arith, used coordinator);
           asked = λ i h u. let e = eqb-true i coordinator (sym (used i) ∙ u) in rw e (put-same (t .links) q coordinator ask 0 (link-row t s q (b .client) coordinator (omega arith)) (omega arith));
@@ -263,7 +266,7 @@ module _ (q mask : ℕ) (t : Tables) (s : Sound t) (b : Beginnable q mask t) (fe
     afterC = begunReadWith q mask (asking rowC linksC) t
 
     row-askedC : Asked q putsC t rowC
-    row-askedC = asked-puts q putsC t (client-row t s q (b .client)) refl refl (c .kept)
+    row-askedC = asked-puts q putsC t s (b .client) refl refl (λ e. omega arith)
 
     wordC : (g : ℕ) → g < setpointsField → clientWord (afterC .clients) q g ≡ lastPut putsC (clientWord (t .clients) q g) g
     wordC = row-askedC .word
@@ -303,6 +306,7 @@ module _ (q mask : ℕ) (t : Tables) (s : Sound t) (b : Beginnable q mask t) (fe
           count = rw (state, wordC countField (omega arith)) (record { least = omega arith; most = counted });
           mask = rw (masked, n .servers) (b .masked);
           tag = rw (wordC tagField (omega arith), same-entries q t afterC movesC) (c .tag);
+          badge = rw (row-askedC .badge) (c .badge);
           kept = kept-within q mask putsC rowC linksC t s b few row-askedC movesC;
           some = (coordinator, omega arith, used coordinator ∙ or-true (hasServer mask coordinator));
           asked = λ i h u. askedC i (sym (used i) ∙ u);

@@ -1,5 +1,5 @@
 -- An accepted begin of a WRITE keeps sound tables sound: the client sends a round, and its record stands in the next place.
-use Prim.Native.Nat.{ℕ, _+_, _*_, _≤_, _<_}
+use Prim.Native.Nat.{ℕ, _+_, _≤_, _<_}
 use mathlib.Core.Path.{_≡_, refl, sym, _∙_}
 use mathlib.Core.Bool.{true, false, _&&_}
 use mathlib.Core.List.{List, [], _∷_}
@@ -15,10 +15,11 @@ use Rattle.keys.specs.MaskLaws.{some-server}
 use Rattle.tables.specs.Rows.{HasRow}
 use Rattle.tables.specs.Layout.{writesField, readsField, clientWidth, clientWord, recordPlaces, recordWidth, clientOfRecord, countField}
 use Rattle.tables.specs.Layout.{maskField, numberOfRecord, receivedField, recordField, setpointsField, stateField, tagField, tagOfRecord}
-use Rattle.tables.specs.Layout.{badgeOfRecord}
+use Rattle.tables.specs.Layout.{badgeOfRecord, writeBadgeField}
 use Rattle.tables.specs.Links.{targets, HasLinks, linkWidth, contentWords}
 use Rattle.tables.specs.declared.links.Content.{Content}
-use Rattle.tables.specs.Tables.{Tables, tablesOf, methodOf, serversOf, clientsOf, stepOf, writesOf, readsOf, stateOf, countOf, maskOf, recordOf, receivedOf}
+use Rattle.tables.specs.Tables.{Tables, tablesOf, methodOf, serversOf, clientsOf, stepOf, writesOf, readsOf, stateOf, countOf, maskOf}
+use Rattle.tables.specs.Tables.{recordOf, receivedOf, writeBadgeOf}
 use Rattle.rules.specs.Words.{every}
 use Rattle.rules.specs.WordsLaws.{kept-other, kept-length}
 use Rattle.rules.specs.Common.{writing, setRequest, begunCounts, begunRecords}
@@ -28,12 +29,12 @@ use Rattle.soundness.specs.Facts.{ClientFacts, WriteFacts, RecordsFacts, Sound}
 use Rattle.soundness.specs.Room.{few-servers, client-fits, client-row, client-links, next-write}
 use Rattle.keeping.specs.Accepted.{Beginnable, Writable}
 use Rattle.keeping.specs.Links.{linkWord}
-use Rattle.keeping.specs.States.{masked-below, key-own, not-all, received-none, allowed-writing, uses-writing, request-writing}
-use Rattle.keeping.specs.States.{carried-badge}
+use Rattle.keeping.specs.States.{masked-below, not-all, received-none, allowed-writing, uses-writing, request-writing}
+use Rattle.keeping.specs.States.{carried-badge, asks-none, own-count}
 use Rattle.keeping.specs.Frame.{Kept, write-kept, read-kept, kept-stay}
 use Rattle.keeping.specs.Moves.{Moves, moves-numbers, same-entries, moved-kept}
 use Rattle.keeping.specs.Records.{begun-word, begun-here, begun-places, records-begun, records-idle}
-use Rattle.keeping.specs.Rows.{put, Put, putAll, lastPut, put-read, put-before, put-elsewhere, put-length}
+use Rattle.keeping.specs.Rows.{put, Put, putAll, lastPut, put-read, put-skip, put-elsewhere, put-length}
 use Rattle.keeping.specs.Rounds.{Sent, sent-client, idle-empty, sent-there, sent-not, sent-others, sent-length}
 use Rattle.keeping.specs.Begins.{begun-other, begun-more, begun-step, begun-length}
 
@@ -105,7 +106,13 @@ module _ (q mask badge : ℕ) (clients′ links′ : List ℕ) (t : Tables) (s :
 module _ (q mask badge : ℕ) (setpoints : List ℕ) (t : Tables) (s : Sound t) (b : Beginnable q mask t) (few : writesOf t < recordPlaces)
     (part : (eqb (methodOf t) 1 && eqb q 0) ≡ false) (fits : badge < 65536) where
   abbrev puts : List Put
-  puts = put stateField writing ∷ put maskField mask ∷ put recordField (writesOf t) ∷ put countField (nextCount t q) ∷ []
+  puts =
+      put stateField writing
+      ∷ put maskField mask
+      ∷ put recordField (writesOf t)
+      ∷ put countField (nextCount t q)
+      ∷ put writeBadgeField badge
+      ∷ []
 
   abbrev after : Tables
   after =
@@ -131,11 +138,17 @@ module _ (q mask badge : ℕ) (setpoints : List ℕ) (t : Tables) (s : Sound t) 
   word : (g : ℕ) → g < setpointsField → clientWord (after .clients) q g ≡ lastPut puts (clientWord (t .clients) q g) g
   word g h = spared q g (omega arith) (λ y. omega (arith, y .1)) ∙ put-read q puts (t .clients) g (clientWord (t .clients) q g) (client-row t s q (b .client)) refl (omega arith) refl
 
+  -- from the setpoints on, only the badge is put
+  unput : (g : ℕ) → setpointsField ≤ g → (g ≡ writeBadgeField → ⊥) →
+      clientWord (putAll puts q (t .clients)) q g ≡ clientWord (t .clients) q g
+  unput g h d = put-skip q puts (t .clients) g (λ e. omega arith, (λ e. omega arith, (λ e. omega arith, (λ e. omega arith, (d, tt)))))
+
   none-received : (i : ℕ) → i < targets → receivedOf after q i ≡ 0
   none-received i h =
       let c = s .client q (b .client) in
       spared q (receivedField + i) (omega arith) (λ y. omega (arith, y .2, setpoints-room))
-      ∙ (put-before q puts (t .clients) setpointsField (receivedField + i) refl (omega arith) ∙ received-none t q i (not-all t q i (λ e. omega (arith, b .free))) (c .received i h))
+      ∙ (unput (receivedField + i) (omega arith) (λ e. omega arith)
+      ∙ received-none t q i (not-all t q i (λ e. omega (arith, b .free))) (c .received i h))
 
   -- the request to a server: the key, the badge and its setpoint
   abbrev set : ℕ → Content
@@ -186,16 +199,17 @@ module _ (q mask badge : ℕ) (setpoints : List ℕ) (t : Tables) (s : Sound t) 
         count = rw (state, word countField (omega arith)) (record { least = omega arith; most = small });
         mask = rw (masked, n .servers) (b .masked);
         tag = rw (word tagField (omega arith), same-entries q t after begun-moves) (c .tag);
+        badge = rw (spared q writeBadgeField (omega arith) (λ y. omega (arith, y .2, setpoints-room))
+            ∙ put-read q puts (t .clients) writeBadgeField (writeBadgeOf t q) (client-row t s q (b .client)) refl (omega arith) refl) fits;
         kept = kept-stay t after n q (few-servers t s)
-            (λ f g h. spared q f h (λ y. omega (arith, y .2, setpoints-room)) ∙ put-before q puts (t .clients) setpointsField f refl (omega arith))
-            (c .kept);
+            (λ f g h d. spared q f h (λ y. omega (arith, y .2, setpoints-room)) ∙ unput f (omega arith) d)
+            (λ i. asks-none after q i (λ e. omega (arith, state))) (c .kept);
         some = let x = some-server mask (serversOf t) (b .masked) in (x .0, omega (arith, x .1, servers-few), has (x .0) ∙ x .2);
         asked = λ i h u. let e = sym (has i) ∙ u in sent i 0 (omega arith) (below i e) e;
         good = λ i h u.
             let e = sym (has i) ∙ u in
             rw (state, sent i 1 (omega arith) (below i e) e, request-writing)
-            (key-own (clientsOf t) q (nextCount t q * 256 + q) (record { least = omega arith; most = omega (arith, small, low) })
-            (omega (arith, low)));
+            (own-count q (nextCount t q) (record { least = omega arith; most = small }) (omega (arith, low)));
         badged = λ i h u. let e = sym (has i) ∙ u in rw (sent i 3 (omega arith) (below i e) e) (carried-badge writing (stateOf after q) badge fits);
         rest = λ i h u. unsent i 0 (omega arith) (sym (has i) ∙ u) ∙ idle-empty t q i c (b .free) h;
         received = none-received;

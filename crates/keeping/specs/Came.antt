@@ -11,20 +11,21 @@ use Rattle.ranges.specs.Tests.{by-equal}
 use Rattle.keys.specs.Masks.{Within}
 use Rattle.tables.specs.Rows.{HasRow}
 use Rattle.tables.specs.Layout.{lastStep, clientWidth, clientWord, countField, maskField, recordField, stateField, tagField, setpointsField}
+use Rattle.tables.specs.Layout.{writeBadgeField}
 use Rattle.tables.specs.Links.{targets, linkWidth}
 use Rattle.tables.specs.LinkLaws.{link-length}
-use Rattle.tables.specs.Tables.{Tables, serversOf, clientsOf, stepOf, stateOf, maskOf, receivedOf, withClients}
+use Rattle.tables.specs.Tables.{Tables, serversOf, clientsOf, stepOf, stateOf, maskOf, receivedOf, writeBadgeOf, withClients}
 use Rattle.tables.specs.declared.links.Content.the-variants.{Nothing}
 use Rattle.rules.specs.Common.{idle, askingAll, coordinator, pending}
 use Rattle.rules.specs.Reply.{emptied, receivedIn}
 use Rattle.soundness.specs.Sound.{uses, receivedSound}
 use Rattle.soundness.specs.Facts.{KeptFacts, ClientFacts, Sound}
 use Rattle.soundness.specs.Room.{client-row, link-row}
-use Rattle.keeping.specs.Links.{linkWord, kindOn, LinkAsks, link-asks, put-same, put-other, put-beside}
+use Rattle.keeping.specs.Links.{linkWord, kindOn, LinkAsks, link-asks, link-empty, put-same, put-other, put-beside}
 use Rattle.keeping.specs.States.{received-none, not-all}
 use Rattle.keeping.specs.Frame.{Kept, link-kept, received-kept, kept-in}
 use Rattle.keeping.specs.Moves.{Moves, moves-numbers, same-entries}
-use Rattle.keeping.specs.Rounds.{link-empty, unused-empty}
+use Rattle.keeping.specs.Rounds.{unused-empty}
 use Rattle.keeping.specs.Replied.{repliedTables, Moving, going-moves, going-kept}
 
 -- A reply stands on link (q, i), of a client and a target that are there.
@@ -60,7 +61,7 @@ module _ {q i : ℕ} {t : Tables} (a : Came q i t) where
   pub beside : (j f : ℕ) → (j ≡ i → ⊥) → f < linkWidth → linkWord rest q j f ≡ linkWord (t .links) q j f
   beside j f e g = put-beside (t .links) q i Nothing j f e g
 
-  pub kinds : (j : ℕ) → j < targets → linkWord rest q j 0 ≤ 2
+  pub kinds : (j : ℕ) → j < targets → linkWord rest q j 0 ≤ 3
   kinds j h = by-equal j i (λ e. rw (e, gone) (omega arith)) (λ e. rw (beside j 0 e (omega arith)) (facts .link j h .kind))
 
   pub elsewhere : (p j f : ℕ) → (p ≡ q → ⊥) → j < targets → f < linkWidth → linkWord rest p j f ≡ linkWord (t .links) p j f
@@ -83,6 +84,7 @@ module _ {q i : ℕ} {t : Tables} (a : Came q i t) where
 
   -- "wait": replies are still to come. The row stays but for a setpoint and its badge, or an n.
   module _ (clients′ : List ℕ) (v : Moving q clients′ rest t) (same : (f : ℕ) → f < setpointsField → clientWord clients′ q f ≡ clientWord (t .clients) q f)
+      (badge : clientWord clients′ q writeBadgeField ≡ writeBadgeOf t q)
       (kept : (j : ℕ) → j < serversOf t → KeptFacts (withClients clients′ t) q j)
       (received : (j : ℕ) → j < targets → (j ≡ i → ⊥) → receivedIn clients′ q j ≡ receivedOf t q j) (more : pending rest q ≡ true) where
     abbrev waiting : Tables
@@ -103,6 +105,7 @@ module _ {q i : ℕ} {t : Tables} (a : Came q i t) where
           mask = rw (n .servers, mask) (c .mask);
           masked = λ e. rw mask (c .masked (λ z. e (state ∙ z)));
           tag = rw (same tagField (omega arith), same-entries q t waiting waiting-moves) (c .tag);
+          badge = rw badge (c .badge);
           kept = kept-in t waiting n q kept;
           link = λ j h. by-equal j i (λ e. rw e (link-empty waiting q i gone)) (λ e. link-kept t waiting n q j h state mask (λ f g. beside j f e g) (c .link j h));
           received = λ j h. by-equal j i (λ e. rw e here) (λ e. received-kept t waiting n q j h state mask (λ f g. beside j f e g) (received j h e) (c .received j h));

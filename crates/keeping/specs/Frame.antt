@@ -3,6 +3,7 @@
 use Prim.Native.Nat.{ℕ, _+_, _≤_, _<_}
 use mathlib.Core.Path.{_≡_, refl, sym, _∙_}
 use mathlib.Core.Bool.{Bool, true, false, cond, _&&_, _||_}
+use mathlib.Core.List.{List}
 use native.Mathlib.Omega.{arith}
 use lib.ListN.{length}
 use lib.Dec.{eqb, leb, ltb}
@@ -13,12 +14,12 @@ use Rattle.tables.specs.Rows.{wordAt}
 use Rattle.tables.specs.Layout.{lastStep, clientWidth, clientWord, serverPlaces, logPlaces, recordPlaces, entryWidth, versionWord}
 use Rattle.tables.specs.Layout.{versionBadge}
 use Rattle.tables.specs.Layout.{valueWidth, valueRow, recordWord, clientOfRecord, numberOfRecord, tagOfRecord, badgeOfRecord}
-use Rattle.tables.specs.Layout.{countField, maskField, stateField, tagField, tagsField, badgesField}
+use Rattle.tables.specs.Layout.{countField, maskField, stateField, tagField, tagsField, badgesField, writeBadgeField, askedField}
 use Rattle.tables.specs.Links.{targets, linkWidth, isEmpty}
 use Rattle.tables.specs.Tables.{Tables, withClients, methodOf, serversOf, clientsOf, stepOf, entriesOf, writesOf, readsOf, heldOf}
 use Rattle.tables.specs.Tables.{stateOf, countOf, maskOf, tagOf, receivedOf, contentAt}
 use Rattle.rules.specs.Common.{entering, askingKeys, askingAll, coordinator}
-use Rattle.soundness.specs.Sound.{between, uses, holding, keyInRange, requestSound, replySound, receivedSound}
+use Rattle.soundness.specs.Sound.{between, uses, holding, keyInRange, requestSound, replySound, receivedSound, asks}
 use Rattle.soundness.specs.Facts.{Between, between-facts, facts-between, Long, Press, ServerFacts, EntryFacts, LogFacts, LinkFacts}
 use Rattle.soundness.specs.Facts.{KeptFacts, ClientFacts, WriteFacts, ReadFacts, RecordsFacts, Sound}
 use Rattle.soundness.specs.Room.{server-fits, few-servers}
@@ -42,6 +43,18 @@ reply-more false false number n n′ h h′ g l e = refl
 received-more : (b : Bool) (r h h′ : ℕ) → h ≤ h′ → cond b (between 1 r h) (eqb r 0) ≡ true → cond b (between 1 r h′) (eqb r 0) ≡ true
 received-more true r h h′ l e = let f = between-facts 1 r h e in facts-between 1 r h′ (record { least = f .least; most = omega (arith, f .most) })
 received-more false r h h′ l e = e
+
+-- what a client keeps of each server, tag, badge and key asked for, where the row's words for them stay and it asks for no key more
+pub kept-row : (t : Tables) (clients′ : List ℕ) (q : ℕ) → serversOf t ≤ 16 →
+    ((f : ℕ) → tagsField ≤ f → f < clientWidth → (f ≡ writeBadgeField → ⊥) → clientWord clients′ q f ≡ clientWord (t .clients) q f) →
+    ((i : ℕ) → asks (withClients clients′ t) q i ≡ true → asks t q i ≡ true) →
+    ((i : ℕ) → i < serversOf t → KeptFacts t q i) → (i : ℕ) → i < serversOf t → KeptFacts (withClients clients′ t) q i
+kept-row t clients′ q few same fewer c i h =
+    record {
+      tag = rw (same (tagsField + i) (omega arith) (omega arith) (λ e. omega arith)) (c i h .tag);
+      badge = rw (same (badgesField + i) (omega arith) (omega arith) (λ e. omega arith)) (c i h .badge);
+      asked = λ e. rw (same (askedField + i) (omega arith) (omega arith) (λ z. omega arith)) (c i h .asked (fewer i e));
+    }
 
 module _ (t t′ : Tables) (n : Numbers t t′) where
   pub holding-more : (i : ℕ) → i < targets → holding t i ≤ holding t′ i
@@ -76,19 +89,18 @@ module _ (t t′ : Tables) (n : Numbers t t′) where
         rw (state, mask, r, empty-same-words (t .links) (t′ .links) q i words)
         (received-more (eqb (stateOf t q) askingAll && (uses (stateOf t q) (maskOf t q) i && isEmpty (contentAt t q i))) (receivedOf t q i) (holding t i) (holding t′ i) (holding-more i h) e)
 
-  -- the tags and badges that a client keeps: those of the row that it has now, and where its words stay
+  -- what a client keeps: that of the row that it has now, and where its words stay
   pub kept-in : (q : ℕ) → ((i : ℕ) → i < serversOf t → KeptFacts (withClients (t′ .clients) t) q i) → (i : ℕ) → i < serversOf t′ →
       KeptFacts t′ q i
-  kept-in q c i h = let f = c i (rw (n .servers) at h) in record { tag = omega (arith, f .tag, n .entries); badge = f .badge }
+  kept-in q c i h =
+      let f = c i (rw (n .servers) at h) in
+      record { tag = omega (arith, f .tag, n .entries); badge = f .badge; asked = λ e. rw (n .clients) (f .asked e) }
 
   pub kept-stay : (q : ℕ) → serversOf t ≤ 16 →
-      ((f : ℕ) → tagsField ≤ f → f < clientWidth → clientWord (t′ .clients) q f ≡ clientWord (t .clients) q f) →
+      ((f : ℕ) → tagsField ≤ f → f < clientWidth → (f ≡ writeBadgeField → ⊥) → clientWord (t′ .clients) q f ≡ clientWord (t .clients) q f) →
+      ((i : ℕ) → asks t′ q i ≡ true → asks t q i ≡ true) →
       ((i : ℕ) → i < serversOf t → KeptFacts t q i) → (i : ℕ) → i < serversOf t′ → KeptFacts t′ q i
-  kept-stay q few same c =
-      kept-in q (λ i h. record {
-        tag = rw (same (tagsField + i) (omega arith) (omega arith)) (c i h .tag);
-        badge = rw (same (badgesField + i) (omega arith) (omega arith)) (c i h .badge);
-      })
+  kept-stay q few same fewer c = kept-in q (kept-row t (t′ .clients) q few same fewer c)
 
   -- a client whose row and links stay
   pub client-kept : (q : ℕ) → serversOf t ≤ 16 → ((f : ℕ) → f < clientWidth → clientWord (t′ .clients) q f ≡ clientWord (t .clients) q f) →
@@ -104,7 +116,8 @@ module _ (t t′ : Tables) (n : Numbers t t′) where
         mask = rw (n .servers, mask) (c .mask);
         masked = λ d. rw mask (c .masked (λ e. d (state ∙ e)));
         tag = omega (arith, c .tag, n .entries);
-        kept = kept-stay q few (λ f g h. row f h) (c .kept);
+        badge = rw (row writeBadgeField (omega arith)) (c .badge);
+        kept = kept-stay q few (λ f g h e. row f h) (λ i e. rw (state, mask) at e) (c .kept);
         link = λ i h. link-kept q i h state mask (λ f g. words i f h g) (c .link i h);
         received = λ i h. received-kept q i h state mask (λ f g. words i f h g) (row _ (omega arith)) (c .received i h);
         busy = λ d. rw (pending-same (t .links) (t′ .links) q words) (c .busy (λ e. d (state ∙ e)));

@@ -6,32 +6,23 @@ use mathlib.Core.List.{List, [], _∷_}
 use native.Mathlib.Omega.{arith}
 use lib.ListN.{getD}
 use Rattle.keys.specs.Keys.{keyWord}
-use Rattle.keys.specs.KeyLaws.{key-back}
 use Rattle.keys.specs.Masks.{hasServer, Within}
 use Rattle.keys.specs.MaskLaws.{some-server}
-use Rattle.coordinator.specs.Latest.{latestKey, latestTag}
-use Rattle.coordinator.specs.LatestLaws.{latest-within}
-use Rattle.tables.specs.Rows.{wordAt}
-use Rattle.tables.specs.Layout.{entryWidth}
+use Rattle.coordinator.specs.Latest.{latestKey}
 use Rattle.tables.specs.Links.{targets, HasLinks, linkWidth}
-use Rattle.tables.specs.Tables.{Tables, methodOf, serversOf, clientsOf, entriesOf, stateOf, countOf, maskOf, tagOf, receivedOf}
+use Rattle.tables.specs.Tables.{Tables, methodOf, serversOf, clientsOf, entriesOf, stateOf, countOf, maskOf, tagOf}
+use Rattle.tables.specs.Tables.{receivedOf, writeBadgeOf}
 use Rattle.tables.specs.declared.links.Content.{Content}
 use Rattle.rules.specs.Common.{writing, askingSetpoints, request}
 use Rattle.rules.specs.Begin.{sentGets}
-use Rattle.soundness.specs.Sound.{keyInRange, uses, stateAllowed}
+use Rattle.soundness.specs.Sound.{uses, stateAllowed}
 use Rattle.soundness.specs.Facts.{KeptFacts, Sound}
 use Rattle.soundness.specs.Room.{few-servers}
 use Rattle.keeping.specs.Links.{linkWord, badgeOn}
-use Rattle.keeping.specs.States.{masked-below, range-below, uses-setpoints, request-setpoints, no-badge}
+use Rattle.keeping.specs.States.{masked-below, uses-setpoints, request-setpoints, no-badge}
 use Rattle.keeping.specs.Frame.{Numbers}
+use Rattle.keeping.specs.Asked.{latest-in-range}
 use Rattle.keeping.specs.Rounds.{Sent, sent-there, sent-not}
-
--- the key of a server at a tag of the log is in range
-pub latest-in-range : (t : Tables) (i tag : ℕ) → Sound t → tag < entriesOf t → keyInRange (clientsOf t) (keyWord (latestKey (t .log) i tag)) ≡ true
-latest-in-range t i tag s h =
-    let at = latestTag (t .log) i tag in
-    let good = s .log .entry at (omega (arith, latest-within (t .log) i tag)) .key in
-    rw (key-back (wordAt entryWidth (t .log) at 0) (range-below (clientsOf t) (wordAt entryWidth (t .log) at 0) good)) good
 
 -- the links of the client before held nothing; t′ has the links sent, the state and the mask
 module _ (q mask tag : ℕ) (links : List ℕ) (t t′ : Tables) (s : Sound t) (n : Numbers t t′) (client : q < clientsOf t) (within : tag < entriesOf t) (masked : Within mask (serversOf t))
@@ -55,13 +46,15 @@ module _ (q mask tag : ℕ) (links : List ℕ) (t t′ : Tables) (s : Sound t) (
   got i f g e = ap (λ (xs : List ℕ). linkWord xs q i f) sends ∙ sent-there q (serversOf t) (hasServer mask) get links few long f g i (below i e) e
 
   pub gets-sent : stateAllowed (methodOf t) q askingSetpoints ≡ true → countOf t′ q ≤ 255 → tagOf t′ q < entriesOf t′ →
+      writeBadgeOf t′ q < 65536 →
       ((i : ℕ) → i < serversOf t′ → KeptFacts t′ q i) → ((i : ℕ) → i < targets → receivedOf t′ q i ≡ 0) → Sent t′ q
-  gets-sent allowed count tagged kept received =
+  gets-sent allowed count tagged badge kept received =
       record {
         allowed = rw (n .method, state) allowed;
         count = rw state (record { least = omega arith; most = count });
         mask = rw (mask′, n .servers) masked;
         tag = tagged;
+        badge = badge;
         kept = kept;
         some = let x = some-server mask (serversOf t) masked in (x .0, omega (arith, x .1, few), has (x .0) ∙ x .2);
         asked = λ i h u. got i 0 (omega arith) (sym (has i) ∙ u);

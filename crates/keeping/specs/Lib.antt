@@ -3,17 +3,18 @@
 pub mod Accepted
 pub mod Links
 pub mod Rows
-pub mod Asked
 pub mod Records
 pub mod States
 pub mod Rounds
 pub mod Frame
+pub mod Asked
 pub mod Moves
 pub mod Opening
 pub mod Begins
 pub mod BeginWrite
 pub mod Gets
 pub mod BeginRead
+pub mod Placed
 pub mod Appends
 pub mod Requests
 pub mod Replied
@@ -25,4 +26,5 @@ pub mod OnKeys
 pub mod OnGot
 pub mod OnAll
 pub mod Replies
+pub mod Losses
 pub mod Steps

@@ -12,7 +12,7 @@ use Rattle.ranges.specs.LastLaws.{last-below}
 use Rattle.keys.specs.Masks.{hasServer}
 use Rattle.tables.specs.Rows.{HasRow, word-same}
 use Rattle.tables.specs.Layout.{clientWidth, clientWord, setpointsField, receivedField, countField, maskField, stateField, tagField}
-use Rattle.tables.specs.Layout.{tagsField, badgesField}
+use Rattle.tables.specs.Layout.{tagsField, badgesField, writeBadgeField}
 use Rattle.tables.specs.Links.{targets, isEmpty, contentsOf}
 use Rattle.tables.specs.Tables.{Tables, serversOf, entriesOf, stateOf, maskOf, receivedOf, contentAt, withClients}
 use Rattle.tables.specs.declared.links.Contents.{Contents}
@@ -25,8 +25,8 @@ use Rattle.soundness.specs.Sound.{uses, holding, keyOn}
 use Rattle.soundness.specs.Facts.{Between, KeptFacts}
 use Rattle.soundness.specs.Room.{few-servers}
 use Rattle.keeping.specs.Links.{numberOn, contentsOn, kind-empty, none-pending}
-use Rattle.keeping.specs.States.{holding-log, arrived, received-some, some-received, uses-all, all-told}
-use Rattle.keeping.specs.Frame.{Kept, kept-in}
+use Rattle.keeping.specs.States.{asks-none, holding-log, arrived, received-some, some-received, uses-all, all-told}
+use Rattle.keeping.specs.Frame.{Kept, kept-in, kept-row}
 use Rattle.keeping.specs.Moves.{moves-numbers, same-entries, same-holding}
 use Rattle.keeping.specs.Rows.{put, Put, putAll, lastPut, put-read, put-before, put-skip, put-elsewhere, put-length}
 use Rattle.keeping.specs.Told.{chosen-within, chosen-held}
@@ -70,11 +70,9 @@ module _ (q i : ℕ) (t : Tables) (a : Came q i t) (state : stateOf t q ≡ aski
   n-behind f h = put-before q gotN (t .clients) tagsField f (rw (lt-ltb (receivedField + i) tagsField (omega (arith, a .target)))) h
 
   n-kept : (j : ℕ) → j < serversOf t → KeptFacts (withClients row t) q j
-  n-kept j h =
-      record {
-        tag = rw (n-behind (tagsField + j) (omega arith)) (facts a .kept j h .tag);
-        badge = rw (n-behind (badgesField + j) (omega arith)) (facts a .kept j h .badge);
-      }
+  n-kept =
+      kept-row t row q (few-servers t (a .sound)) (λ f h l d. n-behind f h)
+      (λ j. asks-none (withClients row t) q j (λ e. omega (arith, n-low stateField (omega arith), state))) (facts a .kept)
 
   n-moving : Moving q row rest t
   n-moving = record { row = λ p f e h. put-elsewhere q gotN (t .clients) p f (rw n-inside) h e; link = elsewhere a; clients = put-length q gotN (t .clients); links = rest-long a }
@@ -88,7 +86,8 @@ module _ (q i : ℕ) (t : Tables) (a : Came q i t) (state : stateOf t q ≡ aski
       (eq-eqb (stateOf after q) askingAll (n-low stateField (omega arith) ∙ state))
       (both (uses (stateOf after q) (maskOf after q) i) (isEmpty (contentAt after q i)) (rw (n-low stateField (omega arith), n-low maskField (omega arith)) (used a)) (kind-empty rest q i (gone a))) in
       let held : holding after i ≡ holding t i = same-holding q t after m i in
-      waiting-kept a row n-moving (λ f h. n-low f (omega arith)) n-kept (λ j h e. n-beside j e) more
+      waiting-kept a row n-moving (λ f h. n-low f (omega arith)) (n-behind writeBadgeField (omega arith))
+      n-kept (λ j h e. n-beside j e) more
       (some-received after q i here (rw (n-here, held) n-between))
 
   -- all replies are in: a tag is chosen, and a version of each masked server
@@ -195,6 +194,7 @@ module _ (q i : ℕ) (t : Tables) (a : Came q i t) (state : stateOf t q ≡ aski
               (λ e. rw (kept-there badgesField has (badgeAt chosen row q t) q (serversOf t) badges-room shown j room h e) (badge-fits j h e))
               (λ e. rw (kept-not badgesField has (badgeAt chosen row q t) q (serversOf t) badges-room shown j room e
               ∙ unbadged (badgesField + j) (omega arith) (omega arith)) (facts a .kept j h .badge)));
+          asked = asks-none (withClients endRow t) q j (λ e. omega (arith, end-word stateField (omega arith)));
         }
 
     all-ends : Kept q t (endedByC chosen row q rest t .tables)
@@ -208,6 +208,9 @@ module _ (q i : ℕ) (t : Tables) (a : Came q i t) (state : stateOf t q ≡ aski
           count = rw count (facts a .count .most);
           mask = rw (end-word maskField (omega arith) ∙ low-word maskField (omega arith), moves-numbers q t _ m .servers) (facts a .mask);
           tag = rw (end-word tagField (omega arith), same-entries q t _ m) within;
+          badge = rw (behind writeBadgeField (omega arith) (omega arith)
+              ∙ (badged-other q writeBadgeField (omega arith) (λ z. omega (arith, z .2, few-servers t (a .sound)))
+              ∙ unbadged writeBadgeField (omega arith) (omega arith))) (facts a .badge);
           kept = kept-in t _ (moves-numbers q t _ m) q end-kept;
           link = λ j h. none-pending rest q j h (kinds a j h) none;
           received = end-received;

@@ -4,6 +4,7 @@ use mathlib.Core.Path.{_≡_, refl, _∙_}
 use mathlib.Core.List.{List, [], _∷_}
 use native.Mathlib.Omega.{arith}
 use Rattle.tables.specs.Layout.{clientWidth, clientWord, countField, maskField, receivedField, setpointsField, stateField, tagField, tagsField}
+use Rattle.tables.specs.Layout.{writeBadgeField}
 use Rattle.tables.specs.Links.{contentsOf}
 use Rattle.tables.specs.Tables.{Tables, entriesOf, stateOf, maskOf}
 use Rattle.tables.specs.declared.links.Contents.{Contents}
@@ -12,7 +13,7 @@ use Rattle.rules.specs.Reply.{emptied, onEntered}
 use Rattle.soundness.specs.Sound.{keyOn}
 use Rattle.soundness.specs.Room.{few-servers}
 use Rattle.keeping.specs.Links.{numberOn, contentsOn}
-use Rattle.keeping.specs.States.{uses-entering, entered-tag}
+use Rattle.keeping.specs.States.{uses-entering, entered-tag, asks-none}
 use Rattle.keeping.specs.Frame.{Kept, kept-stay}
 use Rattle.keeping.specs.Moves.{moves-numbers, same-entries}
 use Rattle.keeping.specs.Rows.{put, Put, putAll, lastPut, put-read, put-before, put-elsewhere, put-length}
@@ -56,9 +57,11 @@ module _ (q i : ℕ) (t : Tables) (a : Came q i t) (state : stateOf t q ≡ ente
         count = rw (entered-word countField (omega arith)) (facts a .count .most);
         mask = rw (entered-word maskField (omega arith), n .servers) (facts a .mask);
         tag = rw (entered-word tagField (omega arith), same-entries q t after m) tag-within;
+        badge = rw (entered-word writeBadgeField (omega arith)) (facts a .badge);
         kept =
             kept-stay t after n q (few-servers t (a .sound))
-            (λ f g h. put-before q putsEntered (t .clients) setpointsField f refl (omega arith)) (facts a .kept);
+            (λ f g h d. put-before q putsEntered (t .clients) setpointsField f refl (omega arith))
+            (λ j. asks-none after q j (λ e. omega (arith, entered-word stateField (omega arith)))) (facts a .kept);
         link = none-beside a (λ j. rw state (uses-entering (maskOf t q) j));
         received = λ j h. put-before q putsEntered (t .clients) setpointsField (receivedField + j) refl (omega arith) ∙ received-zero a not-five j h;
       }))

@@ -8,7 +8,7 @@ use lib.Dec.{ltb}
 use borrow.Author.Tests.{lt-ltb, eq-eqb}
 use Rattle.ranges.specs.Tests.{by-test, by-equal}
 use Rattle.tables.specs.Layout.{clientWidth, clientWord, setpointsField, receivedField, countField, maskField, stateField, tagField}
-use Rattle.tables.specs.Layout.{tagsField, badgesField}
+use Rattle.tables.specs.Layout.{tagsField, badgesField, writeBadgeField, askedField}
 use Rattle.tables.specs.Links.{targets}
 use Rattle.tables.specs.Tables.{Tables, serversOf, stateOf, tagOf, receivedOf, keptBadgeOf, withClients}
 use Rattle.tables.specs.declared.links.Contents.{Contents}
@@ -17,7 +17,7 @@ use Rattle.rules.specs.Reply.{emptied, receivedIn, onGot}
 use Rattle.soundness.specs.Facts.{KeptFacts}
 use Rattle.soundness.specs.Room.{server-fits, few-servers}
 use Rattle.keeping.specs.Links.{numberOn, badgeOn, contentsOn, none-pending}
-use Rattle.keeping.specs.States.{badge-carried, masked-server, none-received, not-all, uses-setpoints}
+use Rattle.keeping.specs.States.{asks-none, badge-carried, masked-server, none-received, not-all, uses-setpoints}
 use Rattle.keeping.specs.Frame.{Kept, kept-in}
 use Rattle.keeping.specs.Moves.{moves-numbers, same-entries}
 use Rattle.keeping.specs.Rows.{Avoids, put, Put, putAll, put-read, put-before, put-skip, put-elsewhere, put-length}
@@ -70,6 +70,13 @@ module _ (q i : ℕ) (t : Tables) (a : Came q i t) (state : stateOf t q ≡ aski
   between-skips : (f : ℕ) → receivedField ≤ f → f < badgesField → Avoids got f
   between-skips f h l = (λ e. omega (arith, place), (λ e. omega arith, tt))
 
+  -- nor behind the badges
+  beyond-skips : (f : ℕ) → writeBadgeField ≤ f → clientWord (putAll got q (t .clients)) q f ≡ clientWord (t .clients) q f
+  beyond-skips f h = put-skip q got (t .clients) f (λ e. omega (arith, place), (λ e. omega (arith, place), tt))
+
+  got-low : (f : ℕ) → f < setpointsField → clientWord (putAll got q (t .clients)) q f ≡ clientWord (t .clients) q f
+  got-low f h = put-skip q got (t .clients) f (λ e. omega arith, (λ e. omega arith, tt))
+
   -- the badge is the one that came, those of the other servers stay
   got-kept : (j : ℕ) → j < serversOf t → KeptFacts (withClients (putAll got q (t .clients)) t) q j
   got-kept j h =
@@ -81,17 +88,20 @@ module _ (q i : ℕ) (t : Tables) (a : Came q i t) (state : stateOf t q ≡ aski
         badge = by-equal j i
             (λ e. rw (e, put-read q got (t .clients) (badgesField + i) (keptBadgeOf t q i) (row-room a) (rw (got-inside, badge-inside)) (omega (arith, place)) refl, eq-eqb (badgesField + i) (badgesField + i) refl) badge-fits)
             (λ d. rw (put-skip q got (t .clients) (badgesField + j) (λ e. omega (arith, place), (λ e. d (omega arith), tt))) (facts a .kept j h .badge));
+        asked = λ e.
+            rw (beyond-skips (askedField + j) (omega arith))
+            (facts a .kept j h .asked (rw (got-low stateField (omega arith), got-low maskField (omega arith)) at e));
       }
 
   got-waits : pending rest q ≡ true → Kept q t (repliedTables (putAll got q (t .clients)) rest (t .writes) (t .reads) t)
   got-waits more =
       let after = repliedTables (putAll got q (t .clients)) rest (t .writes) (t .reads) t in
-      let same : (f : ℕ) → f < setpointsField → clientWord (putAll got q (t .clients)) q f ≡ clientWord (t .clients) q f =
-      λ f h. put-skip q got (t .clients) f (λ e. omega arith, (λ e. omega arith, tt)) in
       let received : (j : ℕ) → j < targets → receivedIn (putAll got q (t .clients)) q j ≡ receivedOf t q j =
       λ j h. put-skip q got (t .clients) (receivedField + j) (between-skips (receivedField + j) (omega arith) (omega arith)) in
-      waiting-kept a (putAll got q (t .clients)) got-moving same got-kept (λ j h e. received j h) more
-      (none-received after q i (not-all after q i (λ e. not-all-state (sym (same stateField (omega arith)) ∙ e))) (received i (a .target) ∙ received-zero a not-all-state i (a .target)))
+      waiting-kept a (putAll got q (t .clients)) got-moving got-low (beyond-skips writeBadgeField (omega arith)) got-kept
+      (λ j h e. received j h) more
+      (none-received after q i (not-all after q i (λ e. not-all-state (sym (got-low stateField (omega arith)) ∙ e)))
+      (received i (a .target) ∙ received-zero a not-all-state i (a .target)))
 
   last-moving : Moving q (putAll gotLast q (t .clients)) rest t
   last-moving = record { row = λ p f e h. put-elsewhere q gotLast (t .clients) p f (rw (got-inside, badge-inside)) h e; link = elsewhere a; clients = put-length q gotLast (t .clients); links = rest-long a }
@@ -103,15 +113,16 @@ module _ (q i : ℕ) (t : Tables) (a : Came q i t) (state : stateOf t q ≡ aski
   state-behind : (f : ℕ) → setpointsField ≤ f → clientWord (putAll gotLast q (t .clients)) q f ≡ clientWord (putAll got q (t .clients)) q f
   state-behind f h = put-before q (put stateField idle ∷ []) (putAll got q (t .clients)) setpointsField f refl h
 
+  last-state : clientWord (putAll gotLast q (t .clients)) q 0 ≡ idle
+  last-state = put-read q gotLast (t .clients) 0 (stateOf t q) (row-room a) (rw (got-inside, badge-inside)) (omega arith) refl
+
   last-kept : (j : ℕ) → j < serversOf t → KeptFacts (withClients (putAll gotLast q (t .clients)) t) q j
   last-kept j h =
       record {
         tag = rw (state-behind (tagsField + j) (omega arith)) (got-kept j h .tag);
         badge = rw (state-behind (badgesField + j) (omega arith)) (got-kept j h .badge);
+        asked = asks-none (withClients (putAll gotLast q (t .clients)) t) q j (λ e. omega (arith, last-state));
       }
-
-  last-state : clientWord (putAll gotLast q (t .clients)) q 0 ≡ idle
-  last-state = put-read q gotLast (t .clients) 0 (stateOf t q) (row-room a) (rw (got-inside, badge-inside)) (omega arith) refl
 
   last-received : (j : ℕ) → j < targets → receivedIn (putAll gotLast q (t .clients)) q j ≡ 0
   last-received j h =
@@ -133,6 +144,7 @@ module _ (q i : ℕ) (t : Tables) (a : Came q i t) (state : stateOf t q ≡ aski
         count = rw (last-word countField (omega arith) (λ e. omega arith)) (facts a .count .most);
         mask = rw (last-word maskField (omega arith) (λ e. omega arith), moves-numbers q t _ m .servers) (facts a .mask);
         tag = rw (last-word tagField (omega arith) (λ e. omega arith), same-entries q t _ m) (facts a .tag);
+        badge = rw (state-behind writeBadgeField (omega arith) ∙ beyond-skips writeBadgeField (omega arith)) (facts a .badge);
         kept = kept-in t _ (moves-numbers q t _ m) q last-kept;
         link = λ j h. none-pending rest q j h (kinds a j h) b;
         received = last-received;

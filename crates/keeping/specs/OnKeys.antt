@@ -11,7 +11,7 @@ use Rattle.tables.specs.Tables.{Tables, methodOf, serversOf, entriesOf, stateOf
 use Rattle.tables.specs.declared.links.Contents.{Contents}
 use Rattle.tables.specs.declared.links.Content.{Content}
 use Rattle.rules.specs.Common.{askingKeys, askingSetpoints, request}
-use Rattle.rules.specs.Begin.{sentGets, keptTags}
+use Rattle.rules.specs.Begin.{sentGets, keptAsking}
 use Rattle.rules.specs.Reply.{emptied, onKeys}
 use Rattle.soundness.specs.Sound.{keyOn}
 use Rattle.soundness.specs.Room.{few-servers, client-links}
@@ -20,11 +20,11 @@ use Rattle.keeping.specs.States.{uses-keys, keys-target, holding-log, ke
 use Rattle.keeping.specs.Frame.{Kept, kept-in}
 use Rattle.keeping.specs.Moves.{moves-numbers, same-entries}
 use Rattle.keeping.specs.Rows.{put, Put, putAll, lastPut}
-use Rattle.keeping.specs.Asked.{Asked, asked-tags}
+use Rattle.keeping.specs.Asked.{Asked, asked-keys}
 use Rattle.keeping.specs.Rounds.{sent-client, sent-others, sent-length}
 use Rattle.keeping.specs.Gets.{gets-sent}
 use Rattle.keeping.specs.Replied.{Moving, going-moves, going-kept}
-use Rattle.keeping.specs.Came.{Came, facts, asks, used, row-room, busy, elsewhere, rest-long, received-zero, none-beside}
+use Rattle.keeping.specs.Came.{Came, facts, asks, used, busy, elsewhere, rest-long, received-zero, none-beside}
 
 module _ (q i : ℕ) (t : Tables) (a : Came q i t) (state : stateOf t q ≡ askingKeys) where
   abbrev w : Contents
@@ -42,9 +42,9 @@ module _ (q i : ℕ) (t : Tables) (a : Came q i t) (state : stateOf t q ≡ aski
   abbrev putsKeys : List Put
   putsKeys = put tagField lastKnown ∷ put stateField askingSetpoints ∷ []
 
-  -- the row as the words put and the tags kept leave it
+  -- the row as the words put, the tags and the keys kept leave it
   abbrev row : List ℕ
-  row = keptTags q (maskOf t q) (t .log) lastKnown (serversOf t) (putAll putsKeys q (t .clients))
+  row = keptAsking q (maskOf t q) (t .log) lastKnown (serversOf t) (putAll putsKeys q (t .clients))
 
   abbrev get : ℕ → Content
   get j = request (latestKey (t .log) j lastKnown) 0
@@ -66,7 +66,7 @@ module _ (q i : ℕ) (t : Tables) (a : Came q i t) (state : stateOf t q ≡ aski
 
   row-asked : Asked q putsKeys t row
   row-asked =
-      asked-tags q putsKeys t (row-room a) refl refl (facts a .kept) (few-servers t (a .sound)) (maskOf t q) lastKnown known-within
+      asked-keys q putsKeys t (a .sound) (a .client) refl refl (maskOf t q) lastKnown known-within refl
 
   keys-moving : Moving q row gets t
   keys-moving =
@@ -92,5 +92,6 @@ module _ (q i : ℕ) (t : Tables) (a : Came q i t) (state : stateOf t q ≡ aski
       (allowed-setpoints (methodOf t) q (rw state at (facts a .allowed)))
       (rw (keys-word countField (omega arith)) (facts a .count .most))
       (rw (keys-word tagField (omega arith), same-entries q t after m) known-within)
+      (rw (row-asked .badge) (facts a .badge))
       (kept-in t after n q (row-asked .kept))
       (λ j h. row-asked .beyond (receivedField + j) (omega arith) (omega arith) ∙ received-zero a (λ e. omega (arith, state)) j h)))

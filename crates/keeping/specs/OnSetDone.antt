@@ -12,9 +12,10 @@ use Rattle.keys.specs.Keys.{keyOf, keyWord}
 use Rattle.keys.specs.Masks.{maskWithin}
 use Rattle.keys.specs.MaskLaws.{within-test}
 use Rattle.tables.specs.Layout.{clientWidth, clientWord, countField, maskField, receivedField, recordField, setpointsField, stateField, tagField, tagsField}
+use Rattle.tables.specs.Layout.{writeBadgeField}
 use Rattle.tables.specs.Links.{linkWidth, putLink, contentsOf}
 use Rattle.tables.specs.LinkLaws.{link-length}
-use Rattle.tables.specs.Tables.{Tables, methodOf, serversOf, clientsOf, stateOf, countOf, maskOf}
+use Rattle.tables.specs.Tables.{Tables, methodOf, serversOf, stateOf, countOf, maskOf}
 use Rattle.tables.specs.declared.links.Contents.{Contents}
 use Rattle.tables.specs.declared.links.Content.{Content}
 use Rattle.rules.specs.Common.{writing, entering, askingAll, coordinator, request, pending}
@@ -23,7 +24,8 @@ use Rattle.soundness.specs.Sound.{uses, keyOn, ownKey}
 use Rattle.soundness.specs.Facts.{Between}
 use Rattle.soundness.specs.Room.{client-fits, link-row, few-servers}
 use Rattle.keeping.specs.Links.{linkWord, contentsOn, badgeOn, none-pending, put-same, put-other, put-beside}
-use Rattle.keeping.specs.States.{no-badge, key-own, none-received, not-all, uses-entering, request-entering, allowed-entering}
+use Rattle.keeping.specs.States.{no-badge, own-count, asks-none, none-received, not-all, uses-entering, request-entering}
+use Rattle.keeping.specs.States.{allowed-entering}
 use Rattle.keeping.specs.Frame.{Kept, kept-stay}
 use Rattle.keeping.specs.Moves.{Moves, moves-numbers, same-entries}
 use Rattle.keeping.specs.Rows.{put, Put, putAll, lastPut, put-read, put-before, put-elsewhere, put-length}
@@ -46,7 +48,7 @@ module _ (q i : ℕ) (t : Tables) (a : Came q i t) (state : stateOf t q ≡ writ
 
   set-waits : pending rest q ≡ true → Kept q t (repliedTables (t .clients) rest (t .writes) (t .reads) t)
   set-waits more =
-      waiting-kept a (t .clients) stays (λ f h. refl) (facts a .kept) (λ j h e. refl) more
+      waiting-kept a (t .clients) stays (λ f h. refl) refl (facts a .kept) (λ j h e. refl) more
       (none-received (repliedTables (t .clients) rest (t .writes) (t .reads) t) q i (not-all (repliedTables (t .clients) rest (t .writes) (t .reads) t) q i not-five) (received-zero a not-five i (a .target)))
 
   -- "key and mask go to the head"
@@ -90,16 +92,18 @@ module _ (q i : ℕ) (t : Tables) (a : Came q i t) (state : stateOf t q ≡ writ
       let only : (j : ℕ) → uses (stateOf next q) (maskOf next q) j ≡ eqb j coordinator = λ j. rw (st, mask) (uses-entering (maskOf t q) j) in
       let fits = client-fits t (a .sound) q (a .client) in
       let word = countOf t q * 256 + q in
-      let key : ownKey q word ≡ true = key-own (clientsOf t) q word (record { least = omega (arith, count .least); most = omega (arith, count .most) }) (omega arith) in
+      let key : ownKey q word ≡ true = own-count q (countOf t q) count (omega arith) in
       let masked = busy a (λ e. omega (arith, state)) in
       record {
         allowed = rw (n .method, st) (allowed-entering (methodOf t) q (rw state at (facts a .allowed)));
         count = rw (st, next-word countField (omega arith)) count;
         mask = rw (mask, n .servers) masked;
         tag = rw (next-word tagField (omega arith), same-entries q t next next-moves) (facts a .tag);
+        badge = rw (next-word writeBadgeField (omega arith)) (facts a .badge);
         kept =
             kept-stay t next n q (few-servers t (a .sound))
-            (λ f g h. put-before q putsNext (t .clients) setpointsField f refl (omega arith)) (facts a .kept);
+            (λ f g h d. put-before q putsNext (t .clients) setpointsField f refl (omega arith))
+            (λ j. asks-none next q j (λ e. omega (arith, st))) (facts a .kept);
         some = (coordinator, omega arith, only coordinator);
         asked = λ j h u. rw (eqb-true j coordinator (sym (only j) ∙ u)) (enter-word 0 (omega arith));
         good = λ j h u.

@@ -19,7 +19,7 @@ use Rattle.tables.specs.Layout.{versionBadge}
 use Rattle.tables.specs.Layout.{versionSetpoint, heldField, entryWidth, entryMask, clientsField, countField, entriesField, maskField}
 use Rattle.tables.specs.Layout.{methodField}
 use Rattle.tables.specs.Layout.{readsField, receivedField, serversField, stateField, stepField, tagField, writesField, tagsField}
-use Rattle.tables.specs.Layout.{badgesField}
+use Rattle.tables.specs.Layout.{badgesField, writeBadgeField}
 use Rattle.tables.specs.Values.{value-other, value-length}
 use Rattle.tables.specs.Tables.{Tables, methodOf, serversOf, clientsOf, stepOf, entriesOf, writesOf, readsOf, heldOf, countOf}
 use Rattle.tables.specs.Links.{linkWidth, linkRow}
@@ -28,6 +28,7 @@ use Rattle.soundness.specs.Sound.{keyInRange, isOpen}
 use Rattle.soundness.specs.Facts.{Long, Press, ServerFacts, LogFacts, ClientFacts, facts-none, Sound}
 use Rattle.keeping.specs.Accepted.{Openable}
 use Rattle.keeping.specs.Links.{linkWord}
+use Rattle.keeping.specs.States.{asks-none}
 use Rattle.keeping.specs.Rounds.{idle-client}
 
 -- a cleared table has its length
@@ -182,7 +183,12 @@ module _ (m k p : ℕ) (setpoints : List ℕ) (t : Tables) (press : Press m k p)
         count = rw (o .word q countField) (omega arith);
         mask = rw (o .word q maskField, o .servers) (omega (arith, two));
         tag = rw (o .word q tagField, o .entries) (omega arith);
-        kept = λ i h. record { tag = rw (o .word q (tagsField + i), o .entries) (omega arith); badge = rw (o .word q (badgesField + i)) (omega arith) };
+        badge = rw (o .word q writeBadgeField) (omega arith);
+        kept = λ i h. record {
+          tag = rw (o .word q (tagsField + i), o .entries) (omega arith);
+          badge = rw (o .word q (badgesField + i)) (omega arith);
+          asked = asks-none t q i (λ e. omega (arith, o .word q stateField));
+        };
         link = λ i h. o .link q i 0;
         received = λ i h. o .word q (receivedField + i);
       })

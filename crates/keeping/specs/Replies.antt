@@ -5,7 +5,7 @@ use Rattle.tables.specs.Links.{contentsOf}
 use Rattle.tables.specs.Tables.{Tables, stateOf, maskOf, contentAt}
 use Rattle.tables.specs.declared.links.Contents.{Contents}
 use Rattle.tables.specs.declared.links.Content.{Content}
-use Rattle.tables.specs.declared.links.Content.the-variants.{Nothing, Request, Reply}
+use Rattle.tables.specs.declared.links.Content.the-variants.{Nothing, Request, Reply, Lost}
 use Rattle.rules.specs.Reply.{onReplyIn, onReply, replyDelivered}
 use Rattle.soundness.specs.Sound.{keyOn}
 use Rattle.soundness.specs.Facts.{Sound}
@@ -40,6 +40,7 @@ module _ (q i : ℕ) (t : Tables) (s : Sound t) (d : Deliverable q i t) where
       let kind = s .client q (d .client) .link i target .kind in
       let came : Came q i t = record { sound = s; client = d .client; target = target; early = d .early; kind = reply-kind (t .links) q i w kind h } in
       subst (λ (w : Contents). Kept q t (onReplyIn (stateOf t q) w q i t .tables)) (reply-words (t .links) q i w kind h) (in-state q i t came)
+  by-content Lost h = kept-same q t s
 
   pub replyDelivered-kept : Kept q t (replyDelivered q i t .tables)
   unfolding replyDelivered

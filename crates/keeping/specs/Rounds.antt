@@ -12,26 +12,14 @@ use Rattle.ranges.specs.PickedLaws.{is-picked, not-picked}
 use Rattle.keys.specs.Masks.{Within}
 use Rattle.tables.specs.Links.{targets, HasLinks, linkWidth, putLink, contentWords}
 use Rattle.tables.specs.LinkLaws.{link-length}
-use Rattle.tables.specs.Tables.{Tables, methodOf, serversOf, entriesOf, stateOf, countOf, maskOf, tagOf, receivedOf}
+use Rattle.tables.specs.Tables.{Tables, methodOf, serversOf, entriesOf, stateOf, countOf, maskOf, tagOf, receivedOf, writeBadgeOf}
 use Rattle.tables.specs.declared.links.Content.{Content}
 use Rattle.rules.specs.Common.{idle, writing}
 use Rattle.soundness.specs.Sound.{uses, requestSound, badgeSound, keyOn, isWriting, stateAllowed}
 use Rattle.soundness.specs.Facts.{Between, LinkFacts, KeptFacts, ClientFacts}
 use Rattle.keeping.specs.Links.{linkWord, kindOn, numberOn, badgeOn, kind-full, pending-at, put-same, put-other, put-beside}
-use Rattle.keeping.specs.Links.{link-asks, asks-link}
+use Rattle.keeping.specs.Links.{link-asks, link-empty, link-request}
 use Rattle.keeping.specs.States.{uses-idle, arrived, none-received, not-all, not-used, not-empty, allowed-idle}
-
--- a link that holds nothing asks nothing
-pub link-empty : (t : Tables) (q i : ℕ) → kindOn t q i ≡ 0 → LinkFacts t q i
-link-empty t q i e =
-    asks-link t q i (record {
-      kind = rw e (omega arith);
-      used = λ d. absurd (d e);
-      request = λ k. let z : ⊥ = omega arith in absurd z;
-      reply = λ k. let z : ⊥ = omega arith in absurd z;
-      set-badge = λ k. let z : ⊥ = omega arith in absurd z;
-      got-badge = λ k. let z : ⊥ = omega arith in absurd z;
-    })
 
 -- a link that the state does not use holds nothing
 pub unused-empty : (t : Tables) (q i : ℕ) → LinkFacts t q i → uses (stateOf t q) (maskOf t q) i ≡ false → kindOn t q i ≡ 0
@@ -43,6 +31,7 @@ pub record Idle (t : Tables) (q : ℕ) : Type 0 where
   pub count : countOf t q ≤ 255
   pub mask : maskOf t q < 2 ^ serversOf t
   pub tag : tagOf t q < entriesOf t
+  pub badge : writeBadgeOf t q < 65536
   pub kept : (i : ℕ) → i < serversOf t → KeptFacts t q i
   pub link : (i : ℕ) → i < targets → kindOn t q i ≡ 0
   pub received : (i : ℕ) → i < targets → receivedOf t q i ≡ 0
@@ -55,6 +44,7 @@ idle-client t q c =
       mask = c .mask;
       masked = λ d. absurd (d (c .state));
       tag = c .tag;
+      badge = c .badge;
       kept = c .kept;
       link = λ i h. link-empty t q i (c .link i h);
       received = λ i h. none-received t q i (not-all t q i (λ e. omega (arith, c .state))) (c .received i h);
@@ -71,6 +61,7 @@ pub record Sent (t : Tables) (q : ℕ) : Type 0 where
   pub count : Between (cond (isWriting (stateOf t q)) 1 0) (countOf t q) 255
   pub mask : Within (maskOf t q) (serversOf t)
   pub tag : tagOf t q < entriesOf t
+  pub badge : writeBadgeOf t q < 65536
   pub kept : (i : ℕ) → i < serversOf t → KeptFacts t q i
   pub some : (i : ℕ) × (i < targets) × (uses (stateOf t q) (maskOf t q) i ≡ true)
   pub asked : (i : ℕ) → i < targets → uses (stateOf t q) (maskOf t q) i ≡ true → kindOn t q i ≡ 1
@@ -84,15 +75,7 @@ module _ (t : Tables) (q : ℕ) (c : Sent t q) where
   sent-link : (i : ℕ) → i < targets → LinkFacts t q i
   sent-link i h =
       by-test (uses (stateOf t q) (maskOf t q) i)
-      (λ u. let e = c .asked i h u in
-      asks-link t q i (record {
-        kind = rw e (omega arith);
-        used = λ d. u;
-        request = λ k. c .good i h u;
-        reply = λ k. let z : ⊥ = omega arith in absurd z;
-        set-badge = λ k. c .badged i h u;
-        got-badge = λ k. let z : ⊥ = omega arith in absurd z;
-      }))
+      (λ u. link-request t q i (c .asked i h u) u (c .good i h u) (c .badged i h u))
       (λ u. link-empty t q i (c .rest i h u))
 
   -- nothing has arrived yet
@@ -110,6 +93,7 @@ module _ (t : Tables) (q : ℕ) (c : Sent t q) where
         mask = c .mask .below;
         masked = λ d. c .mask .some;
         tag = c .tag;
+        badge = c .badge;
         kept = c .kept;
         link = sent-link;
         received = λ i h. none-received t q i (none-arrived i h) (c .received i h);

@@ -1,5 +1,5 @@
 -- What each state of a client asks: the links it uses, the states its method allows, the n it has received.
-use Prim.Native.Nat.{ℕ, _%_, _^_, _≤_, _<_}
+use Prim.Native.Nat.{ℕ, _+_, _*_, _%_, _^_, _≤_, _<_}
 use mathlib.Core.Path.{_≡_, refl, sym, _∙_}
 use mathlib.Core.Bool.{Bool, true, false, cond, not, _&&_, _||_, and-false, or-true, true≢false}
 use native.Mathlib.Omega.{arith}
@@ -14,7 +14,7 @@ use Rattle.tables.specs.declared.links.Contents.{Contents}
 use Rattle.tables.specs.declared.links.Content.the-variants.{Request}
 use Rattle.rules.specs.Common.{idle, writing, entering, askingKeys, askingSetpoints, askingAll, coordinator}
 use Rattle.soundness.specs.Sound.{uses, stateAllowed, receivedSound, requestSound, replySound, badgeSound, keyOn, contentSound, between}
-use Rattle.soundness.specs.Sound.{holding, ownKey, keyInRange}
+use Rattle.soundness.specs.Sound.{holding, ownKey, keyInRange, asks}
 use Rattle.soundness.specs.Facts.{Between, between-facts, facts-between, Sound}
 
 -- the links that a state uses
@@ -86,6 +86,14 @@ module _ (t : Tables) (s : Sound t) (q i : ℕ) (h : q < clientsOf t) (l : i < t
 
   pub get-server : stateOf t q ≡ askingSetpoints → i < serversOf t
   get-server z = masked-server t s q i h (sym (uses-setpoints (maskOf t q) i) ∙ (rw z at request-used))
+
+-- "in state 4, the keys it asks for": of masked servers, and in no other state
+module _ (t : Tables) (q i : ℕ) where
+  pub asks-none : {C : Type 0} → (stateOf t q ≡ askingSetpoints → ⊥) → asks t q i ≡ true → C
+  asks-none d e = absurd (d (eqb-true _ _ (both-left (eqb (stateOf t q) askingSetpoints) (hasServer (maskOf t q) i) e)))
+
+  pub asks-masked : asks t q i ≡ true → hasServer (maskOf t q) i ≡ true
+  asks-masked e = both-right (eqb (stateOf t q) askingSetpoints) (hasServer (maskOf t q) i) e
 
 -- the states that a method and part allow
 module _ (m q : ℕ) where
@@ -183,6 +191,11 @@ module _ (p q word : ℕ) where
   own-in-range h e =
       let f = own-key e in
       rw (both (between 256 word 65535) (ltb (word % 256) p) (facts-between 256 word 65535 (f .0)) (lt-ltb (word % 256) p (rw (f .1) h))) (or-true (eqb word 0))
+
+-- a client's own key is made of its count and its number
+pub own-count : (q count : ℕ) → Between 1 count 255 → q < 256 → ownKey q (count * 256 + q) ≡ true
+own-count q count b h =
+    key-own 0 q (count * 256 + q) (record { least = omega (arith, b .least); most = omega (arith, b .most) }) (omega arith)
 
 pub range-below : (p word : ℕ) → keyInRange p word ≡ true → word < 65536
 unfolding keyInRange

@@ -15,9 +15,10 @@ use Rattle.rules.specs.Open.{opened}
 use Rattle.rules.specs.Begin.{begunWrite, begunRead}
 use Rattle.rules.specs.Request.{requestDelivered}
 use Rattle.rules.specs.Reply.{replyDelivered}
+use Rattle.rules.specs.Loss.{linkLost, linkResent}
 use Rattle.soundness.specs.Facts.{Sound}
 use Rattle.refusals.specs.Refusals.{atLastStep, openRefusal, writeRefusal, readRefusal, deliveryRefusal}
-use Rattle.refusals.specs.Steps.{badgeOf, open′, beginWrite, beginRead, deliverRequest, deliverReply}
+use Rattle.refusals.specs.Steps.{badgeOf, open′, beginWrite, beginRead, deliverRequest, deliverReply, lose, resend}
 use Rattle.refusals.specs.Either.{by-refusal, by-refusal-arrived, unstopped}
 use Rattle.keeping.specs.Accepted.{openable, writable, readable, deliverable}
 use Rattle.keeping.specs.Frame.{Kept, kept-same}
@@ -26,6 +27,7 @@ use Rattle.keeping.specs.BeginWrite.{begunWrite-kept}
 use Rattle.keeping.specs.BeginRead.{begunRead-kept}
 use Rattle.keeping.specs.Requests.{requestDelivered-kept}
 use Rattle.keeping.specs.Replies.{replyDelivered-kept}
+use Rattle.keeping.specs.Losses.{linkLost-kept, linkResent-kept}
 
 -- whether a step may follow a step number: the last is 2^32 − 1
 abbrev pub mayStep : ℕ → Bool
@@ -92,3 +94,24 @@ module _ (q i : ℕ) (t : Tables) (s : Sound t) where
 
   pub deliverReply-sound : Sound (deliverReply q i t .tables)
   deliverReply-sound = deliverReply-kept .sound
+
+  -- "Two steps are new: a link's request or reply is lost, and a panel sends a lost request again."
+  pub lose-kept : Kept q t (lose q i t .tables)
+  unfolding lose
+  lose-kept =
+      by-refusal (λ x. Kept q t (x .tables)) (deliveryRefusal q i t) (linkLost q i t) t
+      (λ n e. kept-same q t s)
+      (λ e. linkLost-kept q i t s (deliverable q i t e))
+
+  pub lose-sound : Sound (lose q i t .tables)
+  lose-sound = lose-kept .sound
+
+  pub resend-kept : Kept q t (resend q i t .tables)
+  unfolding resend
+  resend-kept =
+      by-refusal (λ x. Kept q t (x .tables)) (deliveryRefusal q i t) (linkResent q i t) t
+      (λ n e. kept-same q t s)
+      (λ e. linkResent-kept q i t s (deliverable q i t e))
+
+  pub resend-sound : Sound (resend q i t .tables)
+  resend-sound = resend-kept .sound

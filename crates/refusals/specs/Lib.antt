@@ -1,4 +1,4 @@
--- The refusals in their order, and the five public steps as definitions.
+-- The refusals in their order, and the seven public steps as definitions.
 pub mod Refusals
 pub mod Order
 pub mod Steps

@@ -1,4 +1,5 @@
--- "Refused": for each step the causes in the order of their numbers, 0 where none refuses. Numbers 8 and 9 are found by the delivery itself, in `rules`.
+-- "Refused": for each step the causes in the order of their numbers, 0 where none refuses. Numbers 8 and 9 are found by the delivery itself,
+-- 14 by a loss and 15 by a resend, in `rules`.
 use Prim.Native.Nat.{ℕ}
 use mathlib.Core.Bool.{Bool, cond, not, _&&_, _||_}
 use mathlib.Core.List.{List}
@@ -40,7 +41,7 @@ isTargetOf k i = ltb i k || eqb i coordinator
 abbrev pub isTarget : Tables → ℕ → Bool
 isTarget t i = isTargetOf (serversOf t) i
 
--- 3, then 7
+-- 3, then 7: of a delivery, a loss and a resend alike
 abbrev pub deliverFault : Bool → Bool → Bool → ℕ
 deliverFault absent known last = cond (absent || not known) 3 (cond last 7 0)
 

@@ -1,4 +1,4 @@
--- The five public steps, for every input: refused by number with all as before, or accepted and changed as `rules` says.
+-- The seven public steps, for every input: refused by number with all as before, or accepted and changed as `rules` says.
 use Prim.Native.Nat.{ℕ, zero, suc, _%_}
 use mathlib.Core.List.{List}
 use Rattle.tables.specs.Tables.{Tables}
@@ -9,6 +9,7 @@ use Rattle.rules.specs.Open.{opened}
 use Rattle.rules.specs.Begin.{begunWrite, begunRead}
 use Rattle.rules.specs.Request.{refused, requestDelivered}
 use Rattle.rules.specs.Reply.{said, replyDelivered}
+use Rattle.rules.specs.Loss.{linkLost, linkResent}
 use Rattle.refusals.specs.Refusals.{openRefusal, writeRefusal, readRefusal, deliveryRefusal}
 
 -- number 0 refuses nothing
@@ -38,3 +39,10 @@ deliverRequest q i t = unless (deliveryRefusal q i t) (requestDelivered q i t) t
 
 unfoldable pub deliverReply : ℕ → ℕ → Tables → Arrived
 deliverReply q i t = unlessArrived (deliveryRefusal q i t) (replyDelivered q i t) t
+
+-- "a link's request or reply is lost, and a panel sends a lost request again": 2, 3 and 7 as for a delivery, then 14 or 15
+unfoldable pub lose : ℕ → ℕ → Tables → Left
+lose q i t = unless (deliveryRefusal q i t) (linkLost q i t) t
+
+unfoldable pub resend : ℕ → ℕ → Tables → Left
+resend q i t = unless (deliveryRefusal q i t) (linkResent q i t) t

@@ -9,8 +9,9 @@ use Rattle.ranges.specs.Picked.{picked}
 use Rattle.keys.specs.declared.Key.{Key}
 use Rattle.keys.specs.Keys.{keyOf, opening}
 use Rattle.keys.specs.Masks.{hasServer}
-use Rattle.coordinator.specs.Latest.{latestKey, latestTagAt}
-use Rattle.tables.specs.Layout.{writesField, readsField, countField, tagField, setpointsField, tagsField, putClientWord}
+use Rattle.coordinator.specs.Latest.{latestKey, latestWord, latestTagAt}
+use Rattle.tables.specs.Layout.{writesField, readsField, countField, tagField, setpointsField, tagsField, writeBadgeField, askedField}
+use Rattle.tables.specs.Layout.{putClientWord}
 use Rattle.tables.specs.Links.{putLink}
 use Rattle.tables.specs.Tables.{Tables, tablesOf, methodOf, serversOf, entriesOf, writesOf, readsOf, countOf}
 use Rattle.rules.specs.Words.{every, keptWords}
@@ -28,6 +29,11 @@ sendSet q key badge setpoints i links = putLink links q i (setRequest key badge 
 abbrev pub sentSets : ℕ → ℕ → Key → ℕ → List ℕ → ℕ → List ℕ → List ℕ
 sentSets q mask key badge setpoints k links = turns (picked (hasServer mask) (sendSet q key badge setpoints)) k links
 
+-- "A panel now also keeps its WRITE's badge"
+abbrev pub startedWriter : ℕ → ℕ → ℕ → ℕ → ℕ → List ℕ → List ℕ
+startedWriter mask place count badge q clients =
+    putClientWord (putClientWord (startedClient writing mask place q clients) q countField count) q writeBadgeField badge
+
 -- "Begin a WRITE: next count; a request to each masked station; state 1."
 abbrev pub nextCount : Tables → ℕ → ℕ
 nextCount t q = countOf t q + 1
@@ -36,8 +42,7 @@ unfoldable pub begunWrite : ℕ → ℕ → ℕ → List ℕ → Tables → Tabl
 begunWrite q mask badge setpoints t =
     tablesOf
     (begunCounts writesField (t .counts))
-    (storedSetpoints q setpoints (serversOf t)
-    (putClientWord (startedClient writing mask (writesOf t) q (t .clients)) q countField (nextCount t q)))
+    (storedSetpoints q setpoints (serversOf t) (startedWriter mask (writesOf t) (nextCount t q) badge q (t .clients)))
     (sentSets q mask (keyOf (nextCount t q) q) badge setpoints (serversOf t) (t .links))
     (t .keys) (t .values) (t .log)
     (begunRecords writesField (t .counts) q (nextCount t q) badge (t .writes))
@@ -53,6 +58,14 @@ sentGets q mask log tag k links = turns (picked (hasServer mask) (sendGet q log 
 -- "Under A and B a panel keeps the wanted stations' tags while it asks."
 abbrev pub keptTags : ℕ → ℕ → List ℕ → ℕ → ℕ → List ℕ → List ℕ
 keptTags q mask log tag k clients = keptWords tagsField (hasServer mask) (latestTagAt log tag) q k clients
+
+-- "and, in state 4, the keys it asks for, so that it can send them again"
+abbrev pub keptKeys : ℕ → ℕ → List ℕ → ℕ → ℕ → List ℕ → List ℕ
+keptKeys q mask log tag k clients = keptWords askedField (hasServer mask) (latestWord log tag) q k clients
+
+-- what a client keeps while it asks: of each wanted station the tag, and the key
+abbrev pub keptAsking : ℕ → ℕ → List ℕ → ℕ → ℕ → List ℕ → List ℕ
+keptAsking q mask log tag k clients = keptKeys q mask log tag k (keptTags q mask log tag k clients)
 
 -- a request that carries nothing: which keys, get all, get log
 abbrev pub sendAsk : ℕ → ℕ → List ℕ → List ℕ
@@ -77,7 +90,8 @@ lastTag t = entriesOf t - 1
 abbrev pub askingByA : ℕ → ℕ → Tables → Asking
 askingByA q mask t =
     asking
-    (keptTags q mask (t .log) (lastTag t) (serversOf t) (putClientWord (startedClient askingSetpoints mask (readsOf t) q (t .clients)) q tagField (lastTag t)))
+    (keptAsking q mask (t .log) (lastTag t) (serversOf t)
+    (putClientWord (startedClient askingSetpoints mask (readsOf t) q (t .clients)) q tagField (lastTag t)))
     (sentGets q mask (t .log) (lastTag t) (serversOf t) (t .links))
 
 -- "B: ask the head"

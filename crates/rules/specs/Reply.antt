@@ -11,14 +11,14 @@ use Rattle.tables.specs.Links.{targets, putLink}
 use Rattle.tables.specs.Tables.{Tables, withCounts, withClients, withLinks, withWrites, withReads, serversOf, stateOf, countOf, maskOf, tagOf, recordOf, contentAt}
 use Rattle.tables.specs.declared.links.Contents.{Contents}
 use Rattle.tables.specs.declared.links.Content.{Content}
-use Rattle.tables.specs.declared.links.Content.the-variants.{Nothing, Request, Reply}
+use Rattle.tables.specs.declared.links.Content.the-variants.{Nothing, Request, Reply, Lost}
 use Rattle.rules.specs.declared.Arrival.{Arrival}
 use Rattle.rules.specs.declared.Arrival.the-variants.{Wait, Next, Write, Read, Refused}
 use Rattle.rules.specs.declared.Delivered.{Delivered}
 use Rattle.rules.specs.Answers.{Arrived, arrived, nothingShown}
 use Rattle.rules.specs.Words.{every, keptWords, laidWords, shownWords}
 use Rattle.rules.specs.Common.{idle, writing, entering, askingKeys, askingSetpoints, coordinator, request, nextStep, counted, pending, endedRecord, taggedRecord}
-use Rattle.rules.specs.Begin.{sentGets, keptTags}
+use Rattle.rules.specs.Begin.{sentGets, keptAsking}
 use Rattle.rules.specs.Choice.{chosenTag, chosenSetpoint, chosenBadge}
 
 abbrev pub said : Arrival → Tables → Arrived
@@ -73,7 +73,8 @@ unfoldable pub onKeys : Contents → ℕ → ℕ → Tables → Arrived
 onKeys w q i t =
     said Next
     (moved
-    (keptTags q (maskOf t q) (t .log) (w .number - 1) (serversOf t) (putClientWord (putClientWord (t .clients) q tagField (w .number - 1)) q stateField askingSetpoints))
+    (keptAsking q (maskOf t q) (t .log) (w .number - 1) (serversOf t)
+    (putClientWord (putClientWord (t .clients) q tagField (w .number - 1)) q stateField askingSetpoints))
     (sentGets q (maskOf t q) (t .log) (w .number - 1) (serversOf t) (emptied q i t)) t)
 
 -- "each wanted setpoint [is] stored in the panel"; "a panel stores [the badge] with each wanted setpoint"; the last one ends the READ
@@ -153,6 +154,7 @@ abbrev pub onReply : Content → ℕ → ℕ → Tables → Arrived
 onReply Nothing q i t = said (Refused 9) t
 onReply (Request w) q i t = said (Refused 9) t
 onReply (Reply w) q i t = onReplyIn (stateOf t q) w q i t
+onReply Lost q i t = said (Refused 9) t
 
 unfoldable pub replyDelivered : ℕ → ℕ → Tables → Arrived
 replyDelivered q i t = onReply (contentAt t q i) q i t

@@ -3,14 +3,14 @@ use Prim.Native.Nat.{ℕ}
 use mathlib.Core.List.{List}
 use mathlib.Core.Bool.{cond}
 use lib.Dec.{eqb, ltb}
-use Rattle.server.specs.Held.{appended, Appended, firstBearing}
-use Rattle.coordinator.specs.Log.{entered, Entered}
+use Rattle.server.specs.Held.{appended, Appended, firstBearing, holds}
+use Rattle.coordinator.specs.Log.{entered, Entered, firstEntry, hasKey}
 use Rattle.tables.specs.Layout.{versionBadge, versionSetpoint}
 use Rattle.tables.specs.Links.{putLink}
 use Rattle.tables.specs.Tables.{Tables, withCounts, withLinks, withVersions, withLog, withWrites, entriesOf, heldOf, stateOf, recordOf, contentAt}
 use Rattle.tables.specs.declared.links.Contents.{Contents}
 use Rattle.tables.specs.declared.links.Content.{Content}
-use Rattle.tables.specs.declared.links.Content.the-variants.{Nothing, Request, Reply}
+use Rattle.tables.specs.declared.links.Content.the-variants.{Nothing, Request, Reply, Lost}
 use Rattle.rules.specs.declared.Answer.the-variants.{Ok, Refused}
 use Rattle.rules.specs.Answers.{Left, left}
 use Rattle.rules.specs.Common.{writing, entering, askingKeys, askingSetpoints, coordinator, reply, gotReply, counted, taggedRecord}
@@ -29,19 +29,28 @@ refused n t = left (Refused n) t
 abbrev pub storedBy : Appended → Tables → Tables
 storedBy a t = withCounts (a .counts) (withVersions (a .keys) (a .values) t)
 
-unfoldable pub onSet : Contents → ℕ → ℕ → Tables → Left
-onSet w q i t =
+unfoldable pub onNewSet : Contents → ℕ → ℕ → Tables → Left
+onNewSet w q i t =
     let a = appended (t .counts) (t .keys) (t .values) i (w .key) (w .badge) (w .number) in
     cond (a .done) (answered q i 0 (storedBy a t)) (refused 8 t)
+
+-- "A station that holds the key already acknowledges without storing … also when full."
+unfoldable pub onSet : Contents → ℕ → ℕ → Tables → Left
+onSet w q i t = cond (holds (t .keys) i (w .key) (heldOf t i)) (answered q i 0 t) (onNewSet w q i t)
 
 -- "that delivery appends to the log, and the new place is the tag"; "A WRITE's tag is recorded when the head appends it"
 abbrev pub enteredBy : Entered → ℕ → Tables → Tables
 enteredBy e q t = withCounts (e .counts) (withLog (e .log) (withWrites (taggedRecord (recordOf t q) (entriesOf t) (t .writes)) t))
 
-unfoldable pub onEnter : Contents → ℕ → ℕ → Tables → Left
-onEnter w q i t =
+unfoldable pub onNewEnter : Contents → ℕ → ℕ → Tables → Left
+onNewEnter w q i t =
     let e = entered (t .counts) (t .log) (w .key) (w .number) in
     cond (e .done) (answered q i (entriesOf t) (enteredBy e q t)) (refused 8 t)
+
+-- "a head that has it answers its first tag; … also when full"
+unfoldable pub onEnter : Contents → ℕ → ℕ → Tables → Left
+onEnter w q i t =
+    cond (hasKey (t .log) (w .key) (entriesOf t)) (answered q i (firstEntry (t .log) (w .key) (entriesOf t)) t) (onNewEnter w q i t)
 
 -- B: "its reply has the last tag and all k keys". The log only grows, so the number of its entries says them.
 unfoldable pub onWhichKeys : ℕ → ℕ → Tables → Left
@@ -76,6 +85,7 @@ abbrev pub onRequest : Content → ℕ → ℕ → Tables → Left
 onRequest Nothing q i t = refused 9 t
 onRequest (Request w) q i t = onRequestIn (stateOf t q) w q i t
 onRequest (Reply w) q i t = refused 9 t
+onRequest Lost q i t = refused 9 t
 
 unfoldable pub requestDelivered : ℕ → ℕ → Tables → Left
 requestDelivered q i t = onRequest (contentAt t q i) q i t

@@ -8,33 +8,35 @@ use lib.ListN.{length}
 use Rattle.ranges.specs.Each.{Each}
 use Rattle.keys.specs.Masks.{serversIn}
 use Rattle.tables.specs.declared.links.Content.{Content}
-use Rattle.tables.specs.declared.links.Content.the-variants.{Nothing, Request, Reply}
+use Rattle.tables.specs.declared.links.Content.the-variants.{Nothing, Request, Reply, Lost}
 use Rattle.tables.specs.Tables.{Tables, contentAt}
 use Rattle.rules.specs.declared.Answer.{Answer}
 use Rattle.rules.specs.declared.Answer.the-variants.{Ok, Refused}
-use Rattle.serial.specs.Steps.{Event, opened, begun-write, begun-read, requested, replied, Played, Machine}
+use Rattle.serial.specs.Steps.{Event, opened, begun-write, begun-read, requested, replied, lost, resent, Played, Machine}
 use Rattle.serial.specs.History.{Transaction, Doing, nothing, writing, tagged, reading, History, history, BehindOpenings}
 use Rattle.serial.specs.Row.{row, Walk, RealTime}
 
--- the number of deliveries at which a READ of a mask ends: two for each of its stations, and what the method adds
-abbrev pub enough : ℕ → ℕ → ℕ
-enough extra mask = 2 * serversIn mask + extra
+-- the number of deliveries at which a READ of a mask ends: two for each of its stations, and what the method adds; "one delivery more for each
+-- of its lost replies"
+abbrev pub enough : ℕ → ℕ → ℕ → ℕ
+enough extra mask losses = 2 * serversIn mask + extra + losses
 
 abbrev pub EndsAt : ℕ → Transaction → Type 0
-EndsAt extra x = x .isWrite ≡ false → x .deliveries ≡ enough extra (x .mask)
+EndsAt extra x = x .isWrite ≡ false → x .deliveries ≡ enough extra (x .mask) (x .losses)
 
 -- "an unfinished READ has had fewer of them than the number at which it ends"
 abbrev pub Unfinished : ℕ → Doing → Type 0
 Unfinished extra nothing = Unit {0}
 Unfinished extra (writing mask badge setpoints begin) = Unit {0}
 Unfinished extra (tagged tag) = Unit {0}
-Unfinished extra (reading mask begin deliveries) = deliveries < enough extra mask
+Unfinished extra (reading mask begin deliveries losses) = deliveries < enough extra mask losses
 
 -- "A request is answered when its delivery leaves the reply on that link."
 abbrev pub IsReply : Content → Type 0
 IsReply Nothing = ⊥
 IsReply (Request w) = ⊥
 IsReply (Reply w) = Unit {0}
+IsReply Lost = ⊥
 
 abbrev pub LeavesReply : Answer → Content → Type 0
 LeavesReply Ok content = IsReply content
@@ -46,6 +48,8 @@ AnswersAt (begun-write q mask badge setpoints answer) t = Unit {0}
 AnswersAt (begun-read q mask answer) t = Unit {0}
 AnswersAt (requested q i answer) t = LeavesReply answer (contentAt t q i)
 AnswersAt (replied q i d) t = Unit {0}
+AnswersAt (lost q i answer) t = Unit {0}
+AnswersAt (resent q i answer) t = Unit {0}
 
 abbrev pub Answers : Played → Type 0
 Answers x = AnswersAt (x .event) (x .tables)
@@ -60,7 +64,8 @@ pub record Claim (steps : List Played) (h : History) : Type 0 where
   pub realTime : RealTime (row h)
   -- each accepted request delivery leaves the reply on that link
   pub answered : Each Answers steps
-  -- a READ of m stations ends at exactly the 2m-th accepted delivery on its own links under A, the (2m + 2)-th under B and C
+  -- a READ of m stations ends at exactly the 2m-th accepted delivery on its own links under A, the (2m + 2)-th under B and C, and one more
+  -- for each of its lost replies
   pub ends : Each (EndsAt (h .extra)) (row h)
   -- and an unfinished one has had fewer
   pub unfinished : (q : ℕ) → Unfinished (h .extra) (h .doing q)

@@ -1,5 +1,5 @@
 -- What follows beside demand 3 for the same lists of steps.
-use Prim.Native.Nat.{ℕ, suc, _≤_}
+use Prim.Native.Nat.{ℕ, suc}
 use mathlib.Core.Path.{_≡_}
 use mathlib.Core.Bool.{true}
 use mathlib.Core.List.{List, [], _∷_}
@@ -8,8 +8,9 @@ use Rattle.rules.specs.declared.Answer.{Answer}
 use Rattle.rules.specs.declared.Answer.the-variants as answer
 use Rattle.rules.specs.declared.Arrival.{Arrival}
 use Rattle.rules.specs.declared.Arrival.the-variants as arrival
+use Rattle.tables.specs.Tables.{Tables, stepOf}
 use Rattle.soundness.specs.Sound.{sound}
-use Rattle.serial.specs.Steps.{Event, opened, begun-write, begun-read, requested, replied, Played, Machine}
+use Rattle.serial.specs.Steps.{Event, opened, begun-write, begun-read, requested, replied, lost, resent, Played, Machine, leftBy}
 use Rattle.serial.specs.History.{BehindOpenings}
 
 -- the number by which a step was refused; 0 where it was accepted
@@ -30,6 +31,8 @@ number (begun-write q mask badge setpoints a) = numberOf a
 number (begun-read q mask a) = numberOf a
 number (requested q i a) = numberOf a
 number (replied q i d) = numberOfArrival (d .arrival)
+number (lost q i a) = numberOf a
+number (resent q i a) = numberOf a
 
 -- "The opening is step 1; each accepted step adds 1": the accepted steps behind the last accepted opening, and that opening
 abbrev pub countedAnswer : Answer → ℕ → ℕ
@@ -50,20 +53,22 @@ accepted (begun-write q mask badge setpoints a) n = countedAnswer a n
 accepted (begun-read q mask a) n = countedAnswer a n
 accepted (requested q i a) n = countedAnswer a n
 accepted (replied q i d) n = countedArrival (d .arrival) n
+accepted (lost q i a) n = countedAnswer a n
+accepted (resent q i a) n = countedAnswer a n
 
 abbrev pub acceptedSteps : List Played → ℕ → ℕ
 acceptedSteps [] n = n
 acceptedSteps (x ∷ xs) n = acceptedSteps xs (accepted (x .event) n)
 
--- n steps were accepted before
-pub record Consequences (played : List Played) (n : ℕ) : Type 0 where
+-- n steps were accepted before the list, which begins with the tables start
+pub record Consequences (start : Tables) (played : List Played) (n : ℕ) : Type 0 where
   -- "a set or enter request finds 256 versions or log entries, or a get request a key not held": from an opening this never arises
   pub room : Each (λ x. number (x .event) ≡ 8 → ⊥) played
-  -- 255 WRITEs and 255 READs of at most 35 steps each, and the opening
-  pub few : acceptedSteps played n ≤ 17851
+  -- the step number counts the accepted steps, losses and resends too
+  pub counted : stepOf (leftBy played start) ≡ acceptedSteps played n
   -- the tables are sound after every step, so that number 2 never arises either
   pub sound : Each (λ x. sound (x .tables) ≡ true) played
 
 -- of a machine: the opening was step 1
 abbrev pub Besides : {S : Type 0} → Machine S → Type 0
-Besides machine = BehindOpenings machine (λ start played h. Consequences played 1)
+Besides machine = BehindOpenings machine (λ start played h. Consequences start played 1)

@@ -44,6 +44,10 @@ bears keys i key place = eqb (versionWord keys i place) (keyWord key)
 abbrev pub firstBearing : List ℕ → ℕ → Key → ℕ → ℕ
 firstBearing keys i key n = firstBelow (bears keys i key) n
 
+-- some version of the first n bears the key: "A station that holds the key already"
+abbrev pub holds : List ℕ → ℕ → Key → ℕ → Bool
+holds keys i key n = ltb (firstBearing keys i key n) n
+
 -- what an append asks: the counts, and all places of the server
 pub record Room (counts keys values : List ℕ) (i : ℕ) : Type 0 where
   pub server : i < 16

@@ -7,7 +7,7 @@ use mathlib.Core.List.{List, [], _∷_}
 use lib.ListN.{length}
 use lib.Dec.{eqb, leb, ltb}
 use borrow.Author.Tests.{leb-true, le-leb, ltb-true, lt-ltb, eqb-true, eq-eqb, ne-eqb}
-use Rattle.ranges.specs.Tests.{by-equal, both, both-left, both-right}
+use Rattle.ranges.specs.Tests.{by-equal, by-test, both, both-left, both-right}
 use Rattle.ranges.specs.All.{allBelow}
 use Rattle.ranges.specs.AllLaws.{all-at, all-of}
 use Rattle.ranges.specs.Sum.{sumBelow, countBelow}
@@ -21,13 +21,13 @@ use Rattle.tables.specs.Layout.{badgeOfRecord}
 use Rattle.tables.specs.Links.{targets, linkWidth, linkRow}
 use Rattle.tables.specs.Tables.{Tables, methodOf, serversOf, clientsOf, stepOf, entriesOf, writesOf, readsOf, heldOf, stateOf, countOf}
 use Rattle.tables.specs.Tables.{maskOf, tagOf}
-use Rattle.tables.specs.Tables.{recordOf, keptTagOf, keptBadgeOf, contentAt}
+use Rattle.tables.specs.Tables.{recordOf, keptTagOf, keptBadgeOf, writeBadgeOf, askedOf, contentAt}
 use Rattle.rules.specs.Common.{idle, pending}
 use Rattle.rules.specs.Open.{allServers}
 use Rattle.ranges.specs.Every.{passed, every-passed}
 use Rattle.soundness.specs.Sound.{longEnough, between, pressFits, scalarsSound, keyInRange, badgeFits, serverSound, entrySound}
 use Rattle.soundness.specs.Sound.{logSound, isWriting}
-use Rattle.soundness.specs.Sound.{isReading, stateAllowed, contentSound, linkSound, receivedSound, keptSound, clientSound}
+use Rattle.soundness.specs.Sound.{isReading, stateAllowed, contentSound, linkSound, receivedSound, asks, askedSound, keptSound, clientSound}
 use Rattle.soundness.specs.Sound.{writeSound, readSound}
 use Rattle.soundness.specs.Sound.{isOpen, openSound, recordsSound, sound}
 
@@ -225,12 +225,12 @@ module _ (t : Tables) where
 
 -- A client, its row and its links.
 pub record LinkFacts (t : Tables) (q i : ℕ) : Type 0 where
-  pub kind : wordAt linkWidth (t .links) (linkRow q i) 0 ≤ 2
+  pub kind : wordAt linkWidth (t .links) (linkRow q i) 0 ≤ 3
   pub content : contentSound (contentAt t q i) (stateOf t q) q i t ≡ true
 
 module _ (t : Tables) (q i : ℕ) where
   abbrev linkTests : List Bool
-  linkTests = leb (wordAt linkWidth (t .links) (linkRow q i) 0) 2 ∷ contentSound (contentAt t q i) (stateOf t q) q i t ∷ []
+  linkTests = leb (wordAt linkWidth (t .links) (linkRow q i) 0) 3 ∷ contentSound (contentAt t q i) (stateOf t q) q i t ∷ []
 
   pub link-facts : linkSound t q i ≡ true → LinkFacts t q i
   unfolding linkSound
@@ -240,10 +240,11 @@ module _ (t : Tables) (q i : ℕ) where
   unfolding linkSound
   facts-link f = every-passed linkTests (le-leb _ _ (f .kind), (f .content, tt))
 
--- what a client keeps for a server: a tag and a badge
+-- what a client keeps for a server: a tag, a badge, and the key that it asks for
 pub record KeptFacts (t : Tables) (q i : ℕ) : Type 0 where
   pub tag : keptTagOf t q i < entriesOf t
   pub badge : keptBadgeOf t q i < 65536
+  pub asked : asks t q i ≡ true → keyInRange (clientsOf t) (askedOf t q i) ≡ true
 
 pub record ClientFacts (t : Tables) (q : ℕ) : Type 0 where
   pub allowed : stateAllowed (methodOf t) q (stateOf t q) ≡ true
@@ -251,6 +252,7 @@ pub record ClientFacts (t : Tables) (q : ℕ) : Type 0 where
   pub mask : maskOf t q < 2 ^ serversOf t
   pub masked : (stateOf t q ≡ idle → ⊥) → 0 < maskOf t q
   pub tag : tagOf t q < entriesOf t
+  pub badge : writeBadgeOf t q < 65536
   pub kept : (i : ℕ) → i < serversOf t → KeptFacts t q i
   pub link : (i : ℕ) → i < targets → LinkFacts t q i
   pub received : (i : ℕ) → i < targets → receivedSound t q i ≡ true
@@ -282,13 +284,21 @@ module _ (t : Tables) (q : ℕ) where
 
   module _ (i : ℕ) where
     abbrev keptTests : List Bool
-    keptTests = ltb (keptTagOf t q i) (entriesOf t) ∷ badgeFits (keptBadgeOf t q i) ∷ []
+    keptTests = ltb (keptTagOf t q i) (entriesOf t) ∷ badgeFits (keptBadgeOf t q i) ∷ askedSound t q i ∷ []
+
+    asked-facts : askedSound t q i ≡ true → asks t q i ≡ true → keyInRange (clientsOf t) (askedOf t q i) ≡ true
+    asked-facts e a = rw a at e
+
+    facts-asked : (asks t q i ≡ true → keyInRange (clientsOf t) (askedOf t q i) ≡ true) → askedSound t q i ≡ true
+    facts-asked f = by-test (asks t q i) (λ a. rw a (f a)) (λ a. rw a)
 
     kept-facts : keptSound t q i ≡ true → KeptFacts t q i
-    kept-facts e = let f = passed keptTests e in record { tag = ltb-true _ _ (f .0); badge = ltb-true _ _ (f .1 .0) }
+    kept-facts e =
+        let f = passed keptTests e in
+        record { tag = ltb-true _ _ (f .0); badge = ltb-true _ _ (f .1 .0); asked = asked-facts (f .1 .1 .0) }
 
     facts-kept : KeptFacts t q i → keptSound t q i ≡ true
-    facts-kept f = every-passed keptTests (lt-ltb _ _ (f .tag), (lt-ltb _ _ (f .badge), tt))
+    facts-kept f = every-passed keptTests (lt-ltb _ _ (f .tag), (lt-ltb _ _ (f .badge), (facts-asked (f .asked), tt)))
 
   abbrev clientTests : List Bool
   clientTests =
@@ -296,6 +306,7 @@ module _ (t : Tables) (q : ℕ) where
       ∷ between (cond (isWriting (stateOf t q)) 1 0) (countOf t q) 255
       ∷ cond (eqb (stateOf t q) idle) below within
       ∷ ltb (tagOf t q) (entriesOf t)
+      ∷ badgeFits (writeBadgeOf t q)
       ∷ allBelow (keptSound t q) (serversOf t)
       ∷ allBelow (linkSound t q) targets
       ∷ allBelow (receivedSound t q) targets
@@ -313,10 +324,11 @@ module _ (t : Tables) (q : ℕ) where
         mask = by-equal (stateOf t q) idle (λ d. ltb-true _ _ (way-idle (stateOf t q) below within (f .1 .1 .0) d)) (λ d. busy d .below);
         masked = λ d. busy d .some;
         tag = ltb-true _ _ (f .1 .1 .1 .0);
-        kept = λ i h. kept-facts i (all-at (keptSound t q) (serversOf t) (f .1 .1 .1 .1 .0) i h);
-        link = λ i h. link-facts t q i (all-at (linkSound t q) targets (f .1 .1 .1 .1 .1 .0) i h);
-        received = all-at (receivedSound t q) targets (f .1 .1 .1 .1 .1 .1 .0);
-        busy = or-busy (stateOf t q) true (pending (t .links) q) (f .1 .1 .1 .1 .1 .1 .1 .0);
+        badge = ltb-true _ _ (f .1 .1 .1 .1 .0);
+        kept = λ i h. kept-facts i (all-at (keptSound t q) (serversOf t) (f .1 .1 .1 .1 .1 .0) i h);
+        link = λ i h. link-facts t q i (all-at (linkSound t q) targets (f .1 .1 .1 .1 .1 .1 .0) i h);
+        received = all-at (receivedSound t q) targets (f .1 .1 .1 .1 .1 .1 .1 .0);
+        busy = or-busy (stateOf t q) true (pending (t .links) q) (f .1 .1 .1 .1 .1 .1 .1 .1 .0);
       }
 
   pub facts-client : ClientFacts t q → clientSound t q ≡ true
@@ -328,7 +340,7 @@ module _ (t : Tables) (q : ℕ) where
       let received = all-of (receivedSound t q) targets (f .received) in
       let busy = busy-or (stateOf t q) true (pending (t .links) q) (f .busy) in
       every-passed clientTests
-      (f .allowed, (facts-between _ _ _ (f .count), (mask, (lt-ltb _ _ (f .tag), (kept, (links, (received, (busy, tt))))))))
+      (f .allowed, (facts-between _ _ _ (f .count), (mask, (lt-ltb _ _ (f .tag), (lt-ltb _ _ (f .badge), (kept, (links, (received, (busy, tt)))))))))
 
 -- The records.
 pub record WriteFacts (t : Tables) (n : ℕ) : Type 0 where

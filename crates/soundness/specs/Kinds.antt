@@ -2,8 +2,9 @@
 use Prim.Native.Nat.{ℕ, _<_}
 use mathlib.Core.Path.{_≡_}
 use mathlib.Core.Bool.{Bool, true, false, _&&_}
+use lib.Dec.{eqb}
 use native.Mathlib.Omega.{arith}
-use borrow.Author.Tests.{lt-leb}
+use borrow.Author.Tests.{lt-leb, eq-eqb, ne-eqb}
 use Rattle.ranges.specs.Tests.{by-equal}
 use Rattle.tables.specs.Rows.{wordAt}
 use Rattle.tables.specs.Links.{linkWidth, linkRow, linkAt}
@@ -21,11 +22,18 @@ module _ (t : Tables) (q i : ℕ) {kind : ℕ} (d : kind ≡ wordAt linkWidth (t
   nothing-sound e = rw (← d, e)
 
   -- a kind that there is not
-  pub kind-beyond : (kind ≡ 0 → ⊥) → (kind ≡ 1 → ⊥) → (kind ≡ 2 → ⊥) → false ≡ linkSound t q i
+  kind-beyond : 3 < kind → false ≡ linkSound t q i
   unfolding linkSound
-  kind-beyond f g h =
-      let l : 2 < kind = by-equal kind 0 (λ e. absurd (f e)) (λ e. by-equal kind 1 (λ e. absurd (g e)) (λ e. by-equal kind 2 (λ e. absurd (h e)) (λ e. omega arith))) in
-      rw (← d, lt-leb _ _ l)
+  kind-beyond l = rw (← d, lt-leb _ _ l)
+
+  -- of the kinds behind a reply's there is only the lost link, wherever the state uses it
+  pub lost-sound : (kind ≡ 0 → ⊥) → (kind ≡ 1 → ⊥) → (kind ≡ 2 → ⊥) → used ≡ true → eqb kind 3 ≡ linkSound t q i
+  unfolding linkSound contentSound linkAt
+  lost-sound f g h u =
+      by-equal kind 3
+      (λ e. rw (← d, e, u))
+      (λ n. rw (ne-eqb _ _ n)
+      (kind-beyond (by-equal kind 0 (λ e. absurd (f e)) (λ e. by-equal kind 1 (λ e. absurd (g e)) (λ e. by-equal kind 2 (λ e. absurd (h e)) (λ e. omega arith))))))
 
   pub request-sound : {r : Bool} → kind ≡ 1 → used ≡ true →
       r ≡ (requestSound (stateOf t q) q (keyOn t q i) (numberOn t q i) t && badgeSound writing (stateOf t q)
@@ -46,4 +54,6 @@ module _ (t : Tables) (q i : ℕ) {kind : ℕ} (d : kind ≡ wordAt linkWidth (t
       (λ e. rw (← d, e, u))
       (λ g. by-equal kind 2
       (λ e. rw (← d, e, u))
-      (λ h. kind-beyond f g h))
+      (λ h. by-equal kind 3
+      (λ e. rw (← d, e, u))
+      (λ n. kind-beyond (omega arith))))

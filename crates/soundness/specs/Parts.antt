@@ -10,10 +10,10 @@ use Rattle.tables.specs.Rows.{wordAt}
 use Rattle.tables.specs.Layout.{lastStep, logPlaces, recordPlaces, entryWidth, entryMask}
 use Rattle.tables.specs.Links.{linkWidth, linkRow, isEmpty}
 use Rattle.tables.specs.Tables.{Tables, methodOf, serversOf, clientsOf, stepOf, entriesOf, writesOf, readsOf, stateOf, countOf, maskOf}
-use Rattle.tables.specs.Tables.{tagOf, recordOf, contentAt}
+use Rattle.tables.specs.Tables.{tagOf, recordOf, writeBadgeOf, contentAt}
 use Rattle.rules.specs.Common.{idle, askingAll}
 use Rattle.rules.specs.Open.{allServers}
-use Rattle.soundness.specs.Sound.{between, serverSound, logSound, isWriting, isReading, stateAllowed, uses, keptSound, clientSound}
+use Rattle.soundness.specs.Sound.{between, badgeFits, serverSound, logSound, isWriting, isReading, stateAllowed, uses, keptSound, clientSound}
 use Rattle.soundness.specs.Sound.{openSound, writeSound, readSound, recordsSound}
 
 -- the scalars behind `pressFits`
@@ -31,7 +31,7 @@ numberOn t q i = wordAt linkWidth (t .links) (linkRow q i) 2
 abbrev pub badgeOn : Tables → ℕ → ℕ → ℕ
 badgeOn t q i = wordAt linkWidth (t .links) (linkRow q i) 3
 
--- the first conditions of `clientSound`: count, mask and tags; all that its row alone decides
+-- the first conditions of `clientSound`: count, mask, tags and badges; all that its row alone decides
 abbrev pub countSound : Tables → ℕ → Bool
 countSound t q = between (cond (isWriting (stateOf t q)) 1 0) (countOf t q) 255
 
@@ -43,7 +43,8 @@ tagSound t q = ltb (tagOf t q) (entriesOf t)
 
 abbrev pub rowSound : Tables → ℕ → Bool
 rowSound t q =
-    stateAllowed (methodOf t) q (stateOf t q) && countSound t q && maskSound t q && tagSound t q && allBelow (keptSound t q) (serversOf t)
+    stateAllowed (methodOf t) q (stateOf t q) && countSound t q && maskSound t q && tagSound t q && badgeFits (writeBadgeOf t q)
+    && allBelow (keptSound t q) (serversOf t)
 
 -- the test of `receivedSound`
 abbrev pub expects : Tables → ℕ → ℕ → Bool

@@ -14,9 +14,9 @@ use Rattle.tables.specs.Layout.{recordWidth, versionWord, versionBadge, entryMa
 use Rattle.tables.specs.Layout.{endOfRecord, badgeOfRecord}
 use Rattle.tables.specs.Links.{targets, linkWidth, linkRow, isEmpty}
 use Rattle.tables.specs.Tables.{Tables, methodOf, serversOf, clientsOf, stepOf, entriesOf, writesOf, readsOf, heldOf, stateOf, countOf}
-use Rattle.tables.specs.Tables.{maskOf, tagOf, recordOf, receivedOf, keptTagOf, keptBadgeOf, contentAt}
+use Rattle.tables.specs.Tables.{maskOf, tagOf, recordOf, receivedOf, keptTagOf, keptBadgeOf, writeBadgeOf, askedOf, contentAt}
 use Rattle.tables.specs.declared.links.Content.{Content}
-use Rattle.tables.specs.declared.links.Content.the-variants.{Nothing, Request, Reply}
+use Rattle.tables.specs.declared.links.Content.the-variants.{Nothing, Request, Reply, Lost}
 use Rattle.rules.specs.Common.{idle, writing, entering, askingKeys, askingSetpoints, askingAll, coordinator, pending}
 use Rattle.rules.specs.Open.{allServers}
 pub use Rattle.rules.specs.Request.{holding}
@@ -122,16 +122,18 @@ keyOn t q i = wordAt linkWidth (t .links) (linkRow q i) 1
 abbrev pub badgeSound : ℕ → ℕ → ℕ → Bool
 badgeSound carrier state badge = cond (eqb state carrier) (badgeFits badge) true
 
+-- "A lost link is … sound wherever the panel waits for that link."
 unfoldable pub contentSound : Content → ℕ → ℕ → ℕ → Tables → Bool
 contentSound Nothing state q i t = true
 contentSound (Request w) state q i t =
     uses state (maskOf t q) i && (requestSound state q (keyOn t q i) (w .number) t && badgeSound writing state (w .badge))
 contentSound (Reply w) state q i t =
     uses state (maskOf t q) i && (replySound state i (w .number) t && badgeSound askingSetpoints state (w .badge))
+contentSound Lost state q i t = uses state (maskOf t q) i
 
--- a link's kind is nothing, a request or a reply
+-- a link's kind is nothing, a request, a reply or lost
 unfoldable pub linkSound : Tables → ℕ → ℕ → Bool
-linkSound t q i = leb (wordAt linkWidth (t .links) (linkRow q i) 0) 2 && contentSound (contentAt t q i) (stateOf t q) q i t
+linkSound t q i = leb (wordAt linkWidth (t .links) (linkRow q i) 0) 3 && contentSound (contentAt t q i) (stateOf t q) q i t
 
 -- "a panel's [n] above 0 exactly in state 5 for the masked stations and head whose link is empty"
 unfoldable pub receivedSound : Tables → ℕ → ℕ → Bool
@@ -140,9 +142,16 @@ receivedSound t q i =
     (between 1 (receivedOf t q i) (holding t i))
     (eqb (receivedOf t q i) 0)
 
--- "tags within the log": also the one that a client keeps for a server, left over or not; the badge beside it
+-- "in state 4, the keys it asks for": a key in its range for each masked station, since it may be sent again
+abbrev pub asks : Tables → ℕ → ℕ → Bool
+asks t q i = eqb (stateOf t q) askingSetpoints && hasServer (maskOf t q) i
+
+abbrev pub askedSound : Tables → ℕ → ℕ → Bool
+askedSound t q i = cond (asks t q i) (keyInRange (clientsOf t) (askedOf t q i)) true
+
+-- "tags within the log": also the one that a client keeps for a server, left over or not; the badge beside it, and the key
 abbrev pub keptSound : Tables → ℕ → ℕ → Bool
-keptSound t q i = ltb (keptTagOf t q i) (entriesOf t) && badgeFits (keptBadgeOf t q i)
+keptSound t q i = ltb (keptTagOf t q i) (entriesOf t) && badgeFits (keptBadgeOf t q i) && askedSound t q i
 
 -- counts, mask, tags and badges in their ranges; "a busy panel has a link not empty"
 unfoldable pub clientSound : Tables → ℕ → Bool
@@ -151,6 +160,7 @@ clientSound t q =
     && between (cond (isWriting (stateOf t q)) 1 0) (countOf t q) 255
     && cond (eqb (stateOf t q) idle) (ltb (maskOf t q) (2 ^ serversOf t)) (maskWithin (maskOf t q) (serversOf t))
     && ltb (tagOf t q) (entriesOf t)
+    && badgeFits (writeBadgeOf t q)
     && allBelow (keptSound t q) (serversOf t)
     && allBelow (linkSound t q) targets
     && allBelow (receivedSound t q) targets

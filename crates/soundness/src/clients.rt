@@ -7,7 +7,7 @@ ghost use Rattle.ranges.specs.Sum.{sumBelow};
 ghost use Rattle.tables.specs.Rows.{HasRow};
 ghost use Rattle.tables.specs.Layout.{clientWidth};
 ghost use Rattle.tables.specs.Tables.{Tables, withCounts, withClients, withLinks, methodOf, serversOf, clientsOf, stateOf, countOf};
-ghost use Rattle.soundness.specs.Sound.{stateAllowed, keptSound, clientSound};
+ghost use Rattle.soundness.specs.Sound.{stateAllowed, askedSound, keptSound, clientSound};
 ghost use Rattle.soundness.specs.Parts.{countSound, maskSound, tagSound, rowSound};
 ghost use Rattle.soundness.specs.Asked.{Counted, ClientThere, ClientsThere};
 use super::links;
@@ -64,6 +64,22 @@ fn tag_sound(counts: &[u32], clients: &[u32], client: usize) -> bool
     tag < counts::count_at(counts, counts::ENTRIES)
 }
 
+// A client that asks a server for a key keeps it: it is in its range.
+fn asked_sound(counts: &[u32], clients: &[u32], client: usize, server: usize) -> bool
+    requires { ⌜ Counted (now counts) ⌝ }
+    requires { ⌜ (server < 16) × HasRow clientWidth (now clients) client ⌝ }
+    ensures { λ r. ⌜ ((t : Tables) → r ≡ askedSound (withClients (now (clients .entry)) (withCounts (now (counts .entry)) t)) client server) ⌝ }
+{
+    if clients::client_word(clients, client, clients::STATE) != rules::states::ASKING_SETPOINTS {
+        return true;
+    }
+    if !keys::has_server(clients::client_word(clients, client, clients::MASK), server) {
+        return true;
+    }
+    let word = clients::client_word(clients, client, clients::ASKED + server);
+    scalars::key_in_range(counts::count_at(counts, counts::CLIENTS), word)
+}
+
 fn kept_sound(counts: &[u32], clients: &[u32], client: usize, server: usize) -> bool
     requires { ⌜ Counted (now counts) ⌝ }
     requires { ⌜ (server < 16) × HasRow clientWidth (now clients) client ⌝ }
@@ -73,10 +89,13 @@ fn kept_sound(counts: &[u32], clients: &[u32], client: usize, server: usize) -> 
     if counts::count_at(counts, counts::ENTRIES) <= tag {
         return false;
     }
-    scalars::badge_fits(clients::client_word(clients, client, clients::BADGES + server))
+    if !scalars::badge_fits(clients::client_word(clients, client, clients::BADGES + server)) {
+        return false;
+    }
+    asked_sound(counts, clients, client, server)
 }
 
-// The tags and badges that a client keeps, one of each for each server.
+// The tags, badges and keys that a client keeps, one of each for each server.
 fn all_kept_sound(counts: &[u32], clients: &[u32], client: usize) -> bool
     requires { ⌜ Counted (now counts) ⌝ }
     requires { ⌜ HasRow clientWidth (now clients) client ⌝ }
@@ -109,6 +128,9 @@ fn row_sound(counts: &[u32], clients: &[u32], client: usize) -> bool
         return false;
     }
     if !tag_sound(counts, clients, client) {
+        return false;
+    }
+    if !scalars::badge_fits(clients::client_word(clients, client, clients::WRITE_BADGE)) {
         return false;
     }
     all_kept_sound(counts, clients, client)

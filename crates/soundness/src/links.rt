@@ -65,7 +65,7 @@ fn link_sound(counts: &[u32], clients: &[u32], links: &[u32], client: usize, tar
     if kind == 2 {
         return reply_on(counts, links, state, client, target);
     }
-    false
+    kind == 3
 }
 
 pub fn links_sound(counts: &[u32], clients: &[u32], links: &[u32], client: usize) -> bool

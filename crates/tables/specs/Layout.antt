@@ -44,7 +44,7 @@ countAt counts field = getD counts field 0
 -- A client's row. "Per panel: state, last count, mask, tag, setpoints and, under C, the n received from each target in this READ".
 -- Besides: the place of the record of its transaction in progress, so that a step finds the record at once.
 abbrev pub clientWidth : ℕ
-clientWidth = 70
+clientWidth = 87
 
 abbrev pub stateField : ℕ
 stateField = 0
@@ -74,6 +74,14 @@ tagsField = 38
 -- "a panel stores [the badge] with each wanted setpoint"
 abbrev pub badgesField : ℕ
 badgesField = 54
+
+-- "A panel now also keeps its WRITE's badge"
+abbrev pub writeBadgeField : ℕ
+writeBadgeField = 70
+
+-- "and, in state 4, the keys it asks for, so that it can send them again"
+abbrev pub askedField : ℕ
+askedField = 71
 
 abbrev pub clientWord : List ℕ → ℕ → ℕ → ℕ
 clientWord clients q field = wordAt clientWidth clients q field

@@ -14,7 +14,7 @@ use Rattle.keys.specs.KeyLaws.{word-back}
 use Rattle.tables.specs.Rows.{HasRow, place-one, row-same, row-other, row-length}
 use Rattle.tables.specs.declared.links.Contents.{Contents}
 use Rattle.tables.specs.declared.links.Content.{Content}
-use Rattle.tables.specs.declared.links.Content.the-variants.{Nothing, Request, Reply}
+use Rattle.tables.specs.declared.links.Content.the-variants.{Nothing, Request, Reply, Lost}
 use Rattle.tables.specs.declared.links.Link.{Link}
 use Rattle.tables.specs.Links.{targets, linkWidth, linkRow, linkWord, contentWords, contentOf, contentsOf, linkAt, putLink, isEmpty}
 use Rattle.tables.specs.Links.{ContentFits}
@@ -27,11 +27,13 @@ read-back : (c : Content) → ContentFits c → {kind key number badge : ℕ} �
 read-back Nothing f d k n b = rw d
 read-back (Request w) f d k n b = rw (d, k, n, b, word-back (w .key) f)
 read-back (Reply w) f d k n b = rw (d, k, n, b, word-back (w .key) f)
+read-back Lost f d k n b = rw d
 
 words-four : (c : Content) → length (contentWords c) ≡ 4
 words-four Nothing = refl
 words-four (Request w) = refl
 words-four (Reply w) = refl
+words-four Lost = refl
 
 module _ (links : List ℕ) (q i : ℕ) (content : Content) where
   pub put-same : (f : ℕ) → HasRow linkWidth links (linkRow q i) → f < linkWidth →
@@ -93,6 +95,11 @@ module _ (links : List ℕ) (q i : ℕ) where
   unfolding putLink
   put-reply e d f = f ∙ rw (e, d)
 
+  pub put-lost : {c : Content} {links′ : List ℕ} → c ≡ Lost → links′ ≡ sets links (linkWidth * linkRow q i) (3 ∷ 0 ∷ 0 ∷ 0 ∷ []) →
+      links′ ≡ putLink links q i c
+  unfolding putLink
+  put-lost e f = f ∙ rw e
+
   pub is-request : {k : Key} → linkWord links q i 0 ≡ 1 → k ≡ keyAtWord (linkWord links q i 1) →
       record { content = Request (record { key = k; number = linkWord links q i 2; badge = linkWord links q i 3 }) } ≡ linkAt links q i
   unfolding linkAt
@@ -103,9 +110,15 @@ module _ (links : List ℕ) (q i : ℕ) where
   unfolding linkAt
   is-reply f e d = rw (d, ne-eqb _ _ f, eq-eqb _ _ e)
 
-  pub is-nothing : (linkWord links q i 0 ≡ 1 → ⊥) → (linkWord links q i 0 ≡ 2 → ⊥) → record { content = Nothing } ≡ linkAt links q i
+  pub is-lost : (linkWord links q i 0 ≡ 1 → ⊥) → (linkWord links q i 0 ≡ 2 → ⊥) → linkWord links q i 0 ≡ 3 →
+      record { content = Lost } ≡ linkAt links q i
   unfolding linkAt
-  is-nothing f g = rw (ne-eqb _ _ f, ne-eqb _ _ g)
+  is-lost f g e = rw (ne-eqb _ _ f, ne-eqb _ _ g, eq-eqb _ _ e)
+
+  pub is-nothing : (linkWord links q i 0 ≡ 1 → ⊥) → (linkWord links q i 0 ≡ 2 → ⊥) → (linkWord links q i 0 ≡ 3 → ⊥) →
+      record { content = Nothing } ≡ linkAt links q i
+  unfolding linkAt
+  is-nothing f g h = rw (ne-eqb _ _ f, ne-eqb _ _ g, ne-eqb _ _ h)
 
   -- whether a link holds anything
   pub full-request : linkWord links q i 0 ≡ 1 → false ≡ isEmpty (linkAt links q i .content)
@@ -116,6 +129,12 @@ module _ (links : List ℕ) (q i : ℕ) where
   unfolding linkAt
   full-reply f e = rw (ne-eqb _ _ f, eq-eqb _ _ e)
 
-  pub none-there : (linkWord links q i 0 ≡ 1 → ⊥) → (linkWord links q i 0 ≡ 2 → ⊥) → true ≡ isEmpty (linkAt links q i .content)
+  pub full-lost : (linkWord links q i 0 ≡ 1 → ⊥) → (linkWord links q i 0 ≡ 2 → ⊥) → linkWord links q i 0 ≡ 3 →
+      false ≡ isEmpty (linkAt links q i .content)
   unfolding linkAt
-  none-there f g = rw (ne-eqb _ _ f, ne-eqb _ _ g)
+  full-lost f g e = rw (ne-eqb _ _ f, ne-eqb _ _ g, eq-eqb _ _ e)
+
+  pub none-there : (linkWord links q i 0 ≡ 1 → ⊥) → (linkWord links q i 0 ≡ 2 → ⊥) → (linkWord links q i 0 ≡ 3 → ⊥) →
+      true ≡ isEmpty (linkAt links q i .content)
+  unfolding linkAt
+  none-there f g h = rw (ne-eqb _ _ f, ne-eqb _ _ g, ne-eqb _ _ h)

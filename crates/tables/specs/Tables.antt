@@ -3,7 +3,7 @@ use Prim.Native.Nat.{ℕ, _+_}
 use mathlib.Core.List.{List}
 use Rattle.tables.specs.Layout.{countAt, methodField, serversField, clientsField, stepField, entriesField, writesField, readsField}
 use Rattle.tables.specs.Layout.{heldField, clientWord, stateField, countField, maskField, tagField, recordField, receivedField}
-use Rattle.tables.specs.Layout.{tagsField, badgesField}
+use Rattle.tables.specs.Layout.{setpointsField, tagsField, badgesField, writeBadgeField, askedField}
 use Rattle.tables.specs.Links.{linkAt}
 use Rattle.tables.specs.declared.links.Content.{Content}
 
@@ -94,6 +94,17 @@ keptTagOf t q i = clientWord (t .clients) q (tagsField + i)
 -- the badge that it stores for a server
 abbrev pub keptBadgeOf : Tables → ℕ → ℕ → ℕ
 keptBadgeOf t q i = clientWord (t .clients) q (badgesField + i)
+
+-- the setpoint that it has of a server
+abbrev pub setpointOf : Tables → ℕ → ℕ → ℕ
+setpointOf t q i = clientWord (t .clients) q (setpointsField + i)
+
+-- the badge of its WRITE, and the word of the key that it asks a server for
+abbrev pub writeBadgeOf : Tables → ℕ → ℕ
+writeBadgeOf t q = clientWord (t .clients) q writeBadgeField
+
+abbrev pub askedOf : Tables → ℕ → ℕ → ℕ
+askedOf t q i = clientWord (t .clients) q (askedField + i)
 
 -- what a link holds
 abbrev pub contentAt : Tables → ℕ → ℕ → Content

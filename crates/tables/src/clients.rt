@@ -1,11 +1,11 @@
-// A client's row: state, last count, mask, tag, the place of the record in progress, 16 setpoints, the n received from each of 17 targets, and the
-// tags and the badges that 16 servers' setpoints come from.
+// A client's row: state, last count, mask, tag, the place of the record in progress, 16 setpoints, the n received from each of 17 targets, the
+// tags and the badges that 16 servers' setpoints come from, the badge of its WRITE, and the keys that it asks 16 servers for.
 ghost use mathlib.Core.Path.{_≡_};
 ghost use Prim.Native.Nat.{_<_};
 ghost use Rattle.tables.specs.Rows.{HasRow};
 ghost use Rattle.tables.specs.Layout.{clientWidth, clientWord, putClientWord};
 
-pub const WIDTH: usize = 70;
+pub const WIDTH: usize = 87;
 
 pub const STATE: usize = 0;
 
@@ -24,6 +24,10 @@ pub const RECEIVED: usize = 21;
 pub const TAGS: usize = 38;
 // The badge of that WRITE stands at BADGES + i.
 pub const BADGES: usize = 54;
+// The badge of the client's own WRITE.
+pub const WRITE_BADGE: usize = 70;
+// The word of the key that server i is asked for stands at ASKED + i.
+pub const ASKED: usize = 71;
 
 pub fn client_word(clients: &[u32], client: usize, field: usize) -> u32
     requires { ⌜ HasRow clientWidth (now clients) client ⌝ }

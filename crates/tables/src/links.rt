@@ -20,6 +20,7 @@ pub enum Content {
     Nothing,
     Request(Contents),
     Reply(Contents),
+    Lost,
 }
 
 pub struct Link {
@@ -59,6 +60,11 @@ pub fn link_at(links: &[u32], client: usize, target: usize) -> Link
     if kind == 2 {
         return Link {
             content: Content::Reply(contents),
+        };
+    }
+    if kind == 3 {
+        return Link {
+            content: Content::Lost,
         };
     }
     Link {
@@ -116,10 +122,13 @@ pub fn put_link(links: &mut [u32], client: usize, target: usize, link: Link)
                 contents.badge,
             );
         }
+        Content::Lost => {
+            put_words(links, at, 3, 0, 0, 0);
+        }
     }
 }
 
-// Whether a link holds nothing.
+// Whether a link holds nothing. A lost one is not empty: its client waits for it.
 pub fn is_empty(links: &[u32], client: usize, target: usize) -> bool
     requires { ⌜ HasRow linkWidth (now links) (linkRow client target) ⌝ }
     ensures { λ r. ⌜ r ≡ isEmpty (linkAt (now (links .entry)) client target .content) ⌝ }
@@ -129,6 +138,9 @@ pub fn is_empty(links: &[u32], client: usize, target: usize) -> bool
         return false;
     }
     if kind == 2 {
+        return false;
+    }
+    if kind == 3 {
         return false;
     }
     true

@@ -1,7 +1,7 @@
 -- `soundness::links::link_sound` meets its contract: each kind is a case law of `linkSound`.
 use Rattle.ranges.specs.Tests.{fails, holds}
 use Rattle.tables.specs.Tables.{withCounts, withClients, withLinks}
-use Rattle.soundness.specs.Kinds.{nothing-sound, kind-beyond, request-sound, reply-sound, not-used}
+use Rattle.soundness.specs.Kinds.{nothing-sound, request-sound, reply-sound, lost-sound, not-used}
 use borrow.Author.Needs.{needs}
 use Rattle.soundness.proofs.links.link_sound.Statement.{statement}
 use Rattle.soundness.proofs.links.link_sound.Tie as tie
@@ -50,8 +50,20 @@ returns-4 c =
     (at-if2 .if2 .left)) (rw (at-client-word .client-word .ensures) at (c .reply-on .ensures (withClients (a .clients .now) t)))
 
 returns-5 : tie.Need-returns-5
-returns-5 c = λ t. let a = c .before .before .before .before .before .before .before .before .before .before .before .args in
-    kind-beyond (withLinks (a .links .now) (withClients (a .clients .now) (withCounts (a .counts .now) t))) (a .client) (a .target) (c .before .before .before .before .before .before .before .link-word .ensures) (c .before .before .before .before .before .before .if1 .left) (c .before .if3 .left) (c .if4 .left)
+returns-5 c =
+    let at-if2 = c .before .before in
+    let at-uses = at-if2 .before in
+    let at-client-word2 = at-uses .before in
+    let at-client-word = at-client-word2 .before in
+    let at-link-word = at-client-word .before .before in
+    let start = at-link-word .before .before .before .before in
+    λ t. let a = start .args in
+    lost-sound (withLinks (a .links .now) (withClients (a .clients .now) (withCounts (a .counts .now) t))) (a .client) (a .target)
+    (at-link-word .link-word .ensures) (at-client-word .before .if1 .left) (c .before .if3 .left) (c .if4 .left) (holds (rw (
+      (at-client-word .client-word .ensures),
+      (at-client-word2 .client-word2 .ensures),
+    ) at (at-uses .uses .ensures))
+    (at-if2 .if2 .left))
 
 pub link-sound-spec : {M : Type 1} → statement M
 link-sound-spec =

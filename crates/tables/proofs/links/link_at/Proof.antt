@@ -1,5 +1,5 @@
 -- `tables::links::link_at` meets its contract: each kind is a case law of `linkAt`.
-use Rattle.tables.specs.LinkLaws.{is-request, is-reply, is-nothing}
+use Rattle.tables.specs.LinkLaws.{is-request, is-reply, is-lost, is-nothing}
 use borrow.Author.Needs.{needs}
 use Rattle.tables.proofs.links.link_at.Statement.{statement}
 use Rattle.tables.proofs.links.link_at.Tie as tie
@@ -16,12 +16,17 @@ returns-2 c =
 
 returns-3 : tie.Need-returns-3
 returns-3 c =
-    let a = c .before .before .before .before .before .before .before .before .args in is-nothing (a .links .now) (a .client) (a .target)
-    (c .before .if1 .left) (c .if2 .left)
+    let a = c .before .before .before .before .before .before .before .before .before .args in
+    is-lost (a .links .now) (a .client) (a .target) (c .before .before .if1 .left) (c .before .if2 .left) (c .if3 .taken)
+
+returns-4 : tie.Need-returns-4
+returns-4 c =
+    let a = c .before .before .before .before .before .before .before .before .before .args in
+    is-nothing (a .links .now) (a .client) (a .target) (c .before .before .if1 .left) (c .before .if2 .left) (c .if3 .left)
 
 pub link-at-spec : {M : Type 1} → statement M
 link-at-spec =
     tie.close
     (tie.spec (λ c. search needs) (λ c. search needs) (λ c. search needs) (λ c. search needs) (λ c. search needs) (λ c. search needs)
     (λ c. search needs) (λ c. search needs) (λ c. search needs) (λ c κs. search needs) (λ c. search needs) (λ c. search needs)
-    (λ c. search needs) (λ c. search needs) (λ c. search needs) (λ c. search needs) returns returns-2 returns-3)
+    (λ c. search needs) (λ c. search needs) (λ c. search needs) (λ c. search needs) returns returns-2 returns-3 returns-4)
