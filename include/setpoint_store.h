@@ -27,8 +27,8 @@ extern "C" {
 #define SETPOINT_COUNTS_LAST_STEP 4294967295u /* The step number at which only an opening is accepted. */
 
 /* A client's row: state, last count, mask, tag, the place of the record in progress, 16 setpoints, the n received from each of 17 targets,
-   and the tags and the badges that 16 servers' setpoints come from. */
-#define SETPOINT_CLIENTS_WIDTH 70u
+   the tags and the badges that 16 servers' setpoints come from, the badge of its WRITE, and the keys that it asks 16 servers for. */
+#define SETPOINT_CLIENTS_WIDTH 87u
 #define SETPOINT_CLIENTS_STATE 0u
 #define SETPOINT_CLIENTS_COUNT 1u
 #define SETPOINT_CLIENTS_MASK 2u
@@ -38,6 +38,8 @@ extern "C" {
 #define SETPOINT_CLIENTS_RECEIVED 21u /* The n received from target i stands at RECEIVED + i. */
 #define SETPOINT_CLIENTS_TAGS 38u /* The tag of the WRITE that the setpoint of server i comes from stands at TAGS + i. */
 #define SETPOINT_CLIENTS_BADGES 54u /* The badge of that WRITE stands at BADGES + i. */
+#define SETPOINT_CLIENTS_WRITE_BADGE 70u /* The badge of the client's own WRITE. */
+#define SETPOINT_CLIENTS_ASKED 71u /* The word of the key that server i is asked for stands at ASKED + i. */
 
 /* The links: what the wire holds between a client and a target. A row of four words: kind, key, number, badge. */
 #define SETPOINT_LINKS_WIDTH 4u
@@ -47,8 +49,9 @@ extern "C" {
 #define SETPOINT_LINKS_BADGE 3u
 #define SETPOINT_LINKS_TARGETS 17u /* The targets of a client: servers 0 to 15, and the coordinator. */
 #define SETPOINT_LINKS_COORDINATOR 16u
-#define SETPOINT_LINKS_REQUEST 1u /* the kind of a link that holds one; 0 where it holds nothing */
-#define SETPOINT_LINKS_REPLY 2u /* the kind of a link that holds one; 0 where it holds nothing */
+#define SETPOINT_LINKS_REQUEST 1u /* the kind of such a link; 0 where it holds nothing */
+#define SETPOINT_LINKS_REPLY 2u /* the kind of such a link; 0 where it holds nothing */
+#define SETPOINT_LINKS_LOST 3u /* the kind of such a link; 0 where it holds nothing */
 
 /* The servers' versions: 256 places a server, the keys in one table, and in another badge and setpoint, a row of two words. */
 #define SETPOINT_VERSIONS_PLACES 256u
@@ -141,6 +144,8 @@ extern "C" {
 #define SETPOINT_REFUSAL_BAD_FIELD 11u /* frame field wrong; padding not zero, bytes after it; message not writable */
 #define SETPOINT_REFUSAL_NO_ROOM 12u /* lent space too small for the frame; lent space too small for a list wanted */
 #define SETPOINT_REFUSAL_UNREADABLE 13u /* line not readable */
+#define SETPOINT_REFUSAL_NOTHING_TO_LOSE 14u /* Losing from an empty or already lost link */
+#define SETPOINT_REFUSAL_NOT_LOST 15u /* sending again on a link not lost */
 /* up to 4,096 frames; More frames, lengths not adding up to the bytes, or a frame that gives 10 or 11 */
 #define SETPOINT_REFUSAL_NO_RECORDING 16u
 
@@ -237,6 +242,18 @@ setpoint_crossing store_deliver_reply(
     const uint32_t *keys, size_t keys_length, const uint32_t *values, size_t values_length, const uint32_t *log, size_t log_length,
     uint32_t *writes, size_t writes_length, uint32_t *reads, size_t reads_length, uint32_t client, uint32_t target);
 
+/* Loses what a link holds. */
+uint32_t store_lose(
+    uint32_t *counts, size_t counts_length, const uint32_t *clients, size_t clients_length, uint32_t *links, size_t links_length,
+    const uint32_t *keys, size_t keys_length, const uint32_t *values, size_t values_length, const uint32_t *log, size_t log_length,
+    const uint32_t *writes, size_t writes_length, const uint32_t *reads, size_t reads_length, uint32_t client, uint32_t target);
+
+/* Sends again what was lost on a link. */
+uint32_t store_resend(
+    uint32_t *counts, size_t counts_length, const uint32_t *clients, size_t clients_length, uint32_t *links, size_t links_length,
+    const uint32_t *keys, size_t keys_length, const uint32_t *values, size_t values_length, const uint32_t *log, size_t log_length,
+    const uint32_t *writes, size_t writes_length, const uint32_t *reads, size_t reads_length, uint32_t client, uint32_t target);
+
 /* Begins a WRITE on tables known to be sound. */
 /* UNCHECKED: the tables must be sound. Nothing checks a caller in another language: on other tables anything may happen. */
 uint32_t store_begin_write_unchecked(
@@ -265,6 +282,20 @@ setpoint_crossing store_deliver_reply_unchecked(
     uint32_t *counts, size_t counts_length, uint32_t *clients, size_t clients_length, uint32_t *links, size_t links_length,
     const uint32_t *keys, size_t keys_length, const uint32_t *values, size_t values_length, const uint32_t *log, size_t log_length,
     uint32_t *writes, size_t writes_length, uint32_t *reads, size_t reads_length, uint32_t client, uint32_t target);
+
+/* Loses what a link holds, on tables known to be sound. */
+/* UNCHECKED: the tables must be sound. Nothing checks a caller in another language: on other tables anything may happen. */
+uint32_t store_lose_unchecked(
+    uint32_t *counts, size_t counts_length, const uint32_t *clients, size_t clients_length, uint32_t *links, size_t links_length,
+    const uint32_t *keys, size_t keys_length, const uint32_t *values, size_t values_length, const uint32_t *log, size_t log_length,
+    const uint32_t *writes, size_t writes_length, const uint32_t *reads, size_t reads_length, uint32_t client, uint32_t target);
+
+/* Sends again what was lost on a link, on tables known to be sound. */
+/* UNCHECKED: the tables must be sound. Nothing checks a caller in another language: on other tables anything may happen. */
+uint32_t store_resend_unchecked(
+    uint32_t *counts, size_t counts_length, const uint32_t *clients, size_t clients_length, uint32_t *links, size_t links_length,
+    const uint32_t *keys, size_t keys_length, const uint32_t *values, size_t values_length, const uint32_t *log, size_t log_length,
+    const uint32_t *writes, size_t writes_length, const uint32_t *reads, size_t reads_length, uint32_t client, uint32_t target);
 
 /* Reads a frame: its message, and the entries at the front of the three lent slices. */
 setpoint_parts frame_read(
@@ -407,6 +438,20 @@ static inline setpoint_crossing setpoint_store_deliver_reply(setpoint_tables *ta
         tables->reads, tables->reads_length, client, target);
 }
 
+static inline uint32_t setpoint_store_lose(setpoint_tables *tables, uint32_t client, uint32_t target) {
+    return store_lose(
+        tables->counts, tables->counts_length, tables->clients, tables->clients_length, tables->links, tables->links_length, tables->keys,
+        tables->keys_length, tables->values, tables->values_length, tables->log, tables->log_length, tables->writes, tables->writes_length,
+        tables->reads, tables->reads_length, client, target);
+}
+
+static inline uint32_t setpoint_store_resend(setpoint_tables *tables, uint32_t client, uint32_t target) {
+    return store_resend(
+        tables->counts, tables->counts_length, tables->clients, tables->clients_length, tables->links, tables->links_length, tables->keys,
+        tables->keys_length, tables->values, tables->values_length, tables->log, tables->log_length, tables->writes, tables->writes_length,
+        tables->reads, tables->reads_length, client, target);
+}
+
 /* UNCHECKED: the tables must be sound. Nothing checks a caller in another language: on other tables anything may happen. */
 static inline uint32_t setpoint_store_begin_write_unchecked(
     setpoint_tables *tables, uint32_t client, uint32_t mask, uint16_t badge, const uint32_t *setpoints, size_t setpoints_length) {
@@ -435,6 +480,22 @@ static inline uint32_t setpoint_store_deliver_request_unchecked(setpoint_tables 
 /* UNCHECKED: the tables must be sound. Nothing checks a caller in another language: on other tables anything may happen. */
 static inline setpoint_crossing setpoint_store_deliver_reply_unchecked(setpoint_tables *tables, uint32_t client, uint32_t target) {
     return store_deliver_reply_unchecked(
+        tables->counts, tables->counts_length, tables->clients, tables->clients_length, tables->links, tables->links_length, tables->keys,
+        tables->keys_length, tables->values, tables->values_length, tables->log, tables->log_length, tables->writes, tables->writes_length,
+        tables->reads, tables->reads_length, client, target);
+}
+
+/* UNCHECKED: the tables must be sound. Nothing checks a caller in another language: on other tables anything may happen. */
+static inline uint32_t setpoint_store_lose_unchecked(setpoint_tables *tables, uint32_t client, uint32_t target) {
+    return store_lose_unchecked(
+        tables->counts, tables->counts_length, tables->clients, tables->clients_length, tables->links, tables->links_length, tables->keys,
+        tables->keys_length, tables->values, tables->values_length, tables->log, tables->log_length, tables->writes, tables->writes_length,
+        tables->reads, tables->reads_length, client, target);
+}
+
+/* UNCHECKED: the tables must be sound. Nothing checks a caller in another language: on other tables anything may happen. */
+static inline uint32_t setpoint_store_resend_unchecked(setpoint_tables *tables, uint32_t client, uint32_t target) {
+    return store_resend_unchecked(
         tables->counts, tables->counts_length, tables->clients, tables->clients_length, tables->links, tables->links_length, tables->keys,
         tables->keys_length, tables->values, tables->values_length, tables->log, tables->log_length, tables->writes, tables->writes_length,
         tables->reads, tables->reads_length, client, target);

@@ -14,11 +14,15 @@ const GOAL: f64 = 1.5;
 type Case = (&'static str, usize, fn(usize) -> Plan);
 
 const LOGS: [usize; 5] = [1, 32, 64, 128, 256];
-const BY_LOG: [Case; 10] = [
+const BY_LOG: [Case; 14] = [
     ("begin a READ, A, one server that no WRITE wrote: one search of the whole log", 1, untouched_server),
     ("begin a READ, A, 16 servers of which 15 were never written: 15 such searches", 1, untouched_servers),
     ("which keys, B, request and reply together, the same servers: 15 such searches", 2, keys_of_untouched),
     ("request get of the newest of as many versions", 1, newest_version),
+    ("request set of a new key, behind as many versions, 255 of 256", 1, |entries| new_key(entries, 0)),
+    ("request set of a key held, behind as many versions, 255 of 256", 1, |entries| key_again(entries, 0)),
+    ("request enter of a new key, behind as many entries, 255 of 256", 1, |entries| new_key(entries, COORDINATOR)),
+    ("request enter of a key entered, behind as many entries, 255 of 256", 1, |entries| key_again(entries, COORDINATOR)),
     ("C's last reply, 1 server, the newest tag qualifies", 1, newest_tag_of_one),
     ("C's last reply, 16 servers, the newest tag qualifies", 1, newest_tag),
     ("C's last reply, 16 servers, no tag but 0 qualifies, each WRITE of the last server", 1, |entries| gap(entries, 1, LAST)),
@@ -123,6 +127,25 @@ fn newest_version(entries: usize) -> Plan {
     plan
 }
 
+/// A WRITE up to the delivery of its set or its enter, which finds so many versions and entries; 255 where no place would be left.
+fn new_key(entries: usize, target: usize) -> Plan {
+    let mut plan = written(1, 1, 1, entries.min(255));
+    plan.begin_write(1, 1);
+    plan.request(1, 0);
+    if target == COORDINATOR {
+        plan.reply(1, 0);
+        plan.request(1, COORDINATOR);
+    }
+    plan
+}
+
+/// The same, and what answered it is lost, and it is sent again and delivered.
+fn key_again(entries: usize, target: usize) -> Plan {
+    let mut plan = new_key(entries, target);
+    plan.request_again(1, target);
+    plan
+}
+
 fn newest_tag_of_one(entries: usize) -> Plan {
     read_last(written(3, 1, 1, entries), 1)
 }
@@ -163,4 +186,23 @@ fn gap(entries: usize, early: usize, mask: u32) -> Plan {
 fn answer(plan: &mut Plan, target: usize) {
     plan.request(0, target);
     plan.reply(0, target);
+}
+
+#[cfg(test)]
+mod tests {
+    use super::*;
+
+    /// The last step of each plan is of the kind that its row names, from the shortest log to the longest.
+    #[test]
+    fn last_steps_of_sets_and_enters() {
+        for entries in LOGS {
+            for (target, new, again) in [
+                (0, "request set", "request set of a key held"),
+                (COORDINATOR, "request enter", "request enter of a key entered"),
+            ] {
+                assert_eq!(new_key(entries, target).kinds.last(), Some(&new), "{entries}");
+                assert_eq!(key_again(entries, target).kinds.last(), Some(&again), "{entries}");
+            }
+        }
+    }
 }

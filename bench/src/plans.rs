@@ -1,5 +1,6 @@
 //! Lists of steps that the store accepts, each with the name of its kind. They are played on the model while they are made.
 
+use model::key::{first_tag_of, version_of};
 use model::{Answer, Link, Method, Outcome, Reply, Request, State, Step, Store, COORDINATOR};
 
 /// An opening and the steps behind it.
@@ -45,6 +46,36 @@ impl Plan {
         self.take(Step::DeliverReply { client: client as u32, target: target as u32 });
     }
 
+    pub fn lose(&mut self, client: usize, target: usize) {
+        self.take(Step::Lose { client: client as u32, target: target as u32 });
+    }
+
+    pub fn resend(&mut self, client: usize, target: usize) {
+        self.take(Step::Resend { client: client as u32, target: target as u32 });
+    }
+
+    /// The reply on a link is lost, its request sent again and delivered once more.
+    pub fn request_again(&mut self, client: usize, target: usize) {
+        self.lose(client, target);
+        self.resend(client, target);
+        self.request(client, target);
+    }
+
+    /// Delivers what is on the client's links, requests first, until its transaction has ended. In each round the first request is lost and
+    /// sent again, and its reply too.
+    pub fn finish_with_losses(&mut self, client: usize) {
+        while self.store.clients[client].state != State::Idle {
+            let holding = self.holding(client);
+            self.lose(client, holding[0]);
+            self.resend(client, holding[0]);
+            self.deliver_requests(client);
+            self.request_again(client, holding[0]);
+            for target in holding {
+                self.reply(client, target);
+            }
+        }
+    }
+
     /// Delivers what is on the client's links, requests first, until its transaction has ended.
     pub fn finish(&mut self, client: usize) {
         while self.store.clients[client].state != State::Idle {
@@ -72,35 +103,66 @@ impl Plan {
         (0..=COORDINATOR).filter(|&target| links[target] != Link::Nothing).collect()
     }
 
+    /// Whether the key of a set or an enter is where it goes.
+    fn has_key(&self, target: usize, link: &Link) -> bool {
+        match link {
+            Link::Request(Request::Set { key, .. }) => version_of(&self.store.servers[target], *key).is_some(),
+            Link::Request(Request::Enter { key, .. }) => first_tag_of(&self.store.log, *key).is_some(),
+            _ => false,
+        }
+    }
+
     fn take(&mut self, step: Step) {
-        let link = match step {
-            Step::DeliverRequest { client, target } | Step::DeliverReply { client, target } => {
-                self.store.clients[client as usize].links[target as usize].clone()
-            }
-            _ => Link::Nothing,
+        let on = match step {
+            Step::DeliverRequest { client, target }
+            | Step::DeliverReply { client, target }
+            | Step::Lose { client, target }
+            | Step::Resend { client, target } => Some((client as usize, target as usize)),
+            _ => None,
         };
+        let held = |store: &Store| on.map_or(Link::Nothing, |(client, target)| store.clients[client].links[target].clone());
+        let before = held(&self.store);
+        let found = on.is_some_and(|(_, target)| self.has_key(target, &before));
         let outcome = self.store.take(&step);
-        self.kinds.push(kind(self.store.method, &step, &link, &outcome));
+        // What was sent says in which state.
+        let link = if matches!(step, Step::Resend { .. }) { held(&self.store) } else { before };
+        self.kinds.push(kind(self.store.method, &step, &link, found, &outcome));
         self.steps.push(step);
     }
 }
 
-/// WRITEs and READs of all servers in turn, of each the same number, READs by client 0.
+/// WRITEs and READs of all servers in turn, of each the same number, READs by client 0. In every tenth turn frames are lost and sent again.
 pub fn in_turn(method: u32, servers: u32, clients: u32, times: usize) -> Plan {
     let mut plan = Plan::opened(method, servers, clients);
     let all = plan.all();
     for turn in 0..times {
-        plan.write(1 + turn % (plan.clients() - 1), all);
-        plan.begin_read(0, all);
-        plan.finish(0);
+        let writer = 1 + turn % (plan.clients() - 1);
+        for client in [writer, 0] {
+            match client {
+                0 => plan.begin_read(0, all),
+                _ => plan.begin_write(writer, all),
+            }
+            match turn % 10 {
+                9 => plan.finish_with_losses(client),
+                _ => plan.finish(client),
+            }
+        }
     }
     plan
 }
 
-/// The name of a step's kind: a begin, or what was delivered and what it answered.
-fn kind(method: Method, step: &Step, link: &Link, outcome: &Outcome) -> &'static str {
+/// The name of a step's kind: a begin, what was lost or sent again, or what was delivered and what it answered.
+fn kind(method: Method, step: &Step, link: &Link, found: bool, outcome: &Outcome) -> &'static str {
     let answer = outcome.as_ref().expect("plans have accepted steps only");
     match (step, link) {
+        (Step::Lose { .. }, Link::Request(_)) => "lose a request",
+        (Step::Lose { .. }, _) => "lose a reply",
+        (Step::Resend { .. }, Link::Request(request)) => match request {
+            Request::Set { .. } => "send again a set",
+            Request::Enter { .. } => "send again an enter",
+            Request::Get { .. } => "send again a get",
+            Request::WhichKeys | Request::GetAll | Request::GetLog => "send again which keys, get all or get log",
+        },
         (Step::BeginWrite { .. }, _) => "begin a WRITE",
         (Step::BeginRead { .. }, _) => match method {
             Method::A => "begin a READ, A",
@@ -108,6 +170,8 @@ fn kind(method: Method, step: &Step, link: &Link, outcome: &Outcome) -> &'static
             Method::C => "begin a READ, C",
         },
         (_, Link::Request(request)) => match request {
+            Request::Set { .. } if found => "request set of a key held",
+            Request::Enter { .. } if found => "request enter of a key entered",
             Request::Set { .. } => "request set",
             Request::Enter { .. } => "request enter",
             Request::WhichKeys => "request which keys",
@@ -125,6 +189,33 @@ fn kind(method: Method, step: &Step, link: &Link, outcome: &Outcome) -> &'static
             (Reply::All { .. } | Reply::Log { .. }, Answer::Wait) => "reply all or log: wait",
             (Reply::All { .. } | Reply::Log { .. }, _) => "reply all or log, the last: read",
         },
-        (_, Link::Nothing) => unreachable!("a delivery finds something"),
+        (_, Link::Nothing | Link::Lost) => unreachable!("a delivery finds something"),
+    }
+}
+
+#[cfg(test)]
+mod tests {
+    use super::*;
+    use std::collections::BTreeSet;
+
+    /// The kinds that losses bring are in the plans that are measured, beside those that were there.
+    #[test]
+    fn kinds_of_plans() {
+        let kinds: BTreeSet<&str> = (1..=3).flat_map(|method| in_turn(method, 4, 4, 20).kinds).collect();
+        for kind in [
+            "lose a request",
+            "lose a reply",
+            "send again a set",
+            "send again an enter",
+            "send again a get",
+            "send again which keys, get all or get log",
+            "request set of a key held",
+            "request enter of a key entered",
+            "request set",
+            "request enter",
+        ] {
+            assert!(kinds.contains(kind), "{kind}: {kinds:?}");
+        }
+        assert_eq!(kinds.len(), 8 + 3 + 1 + 6 + 8);
     }
 }

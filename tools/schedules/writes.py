@@ -4,7 +4,8 @@ In each of 51 rounds the five panels begin together, all setpoints arrive, all a
 panels in an order that turns by one each round. So in round r, from 0, the WRITE whose entry is delivered as the j-th, from 0, is tag 5 r + j + 1:
 "WRITEs are tagged 1, 2, 3 and so on in the order in which their requests at target 16 were first delivered". A panel's count is the round, from 1.
 
-Station 0 is in every mask, so that it ends with 256 versions, and the log with 256 entries. The press has the most stations and panels that there can be,
+Station 0 is in every mask, so that it ends with 256 versions, and the log with 256 entries. There, full, both are asked again: in the last
+round the replies of station 0 and of the head are lost, and what they answered is sent again; at station 0 in the first round too. The press has the most stations and panels that there can be,
 and the text is longer than 65,536 bytes."""
 
 from script import Script, overlap, shown, stations
@@ -47,6 +48,13 @@ def deliver_acknowledgements(script, panel, mask):
         script.say(f"< {panel} {station}", "next" if station == last else "wait")
 
 
+def send_again(script, panel, target):
+    """The reply is lost, and its request is sent again and arrives. "A station that holds the key already acknowledges without storing; a
+    head that has it answers its first tag; both also when full." """
+    for letter in "!+>":
+        script.say(f"{letter} {panel} {target}", "ok")
+
+
 def refuse_more(script):
     """All 255 have begun, whoever asks; a lower number comes first where there is one."""
     for panel in range(16):
@@ -81,6 +89,11 @@ def made():
         begun = {panel: script.say(lines[panel], "ok") for panel in PANELS}
         for panel in PANELS:
             deliver_setpoints(script, panel, masks[panel])
+        # the versions that station 0 holds now
+        full = AT_ONCE * (turn + 1) + 1 == 256
+        # in the first round too: stored twice, it would leave no place for the last
+        for panel in PANELS if full or turn == 0 else []:
+            send_again(script, panel, 0)
         for panel in reversed(PANELS):
             deliver_acknowledgements(script, panel, masks[panel])
         entered = [PANELS[(turn + place) % AT_ONCE] for place in range(AT_ONCE)]
@@ -90,6 +103,8 @@ def made():
             # the row: each WRITE in the order of tags sets its stations' values
             for station in stations(masks[panel]):
                 values[station] = (setpoints_of(numbers[panel])[station], tags[panel], badge_of(numbers[panel]))
+        for panel in PANELS if full else []:
+            send_again(script, panel, 16)
         for panel in PANELS:
             ended = script.say(f"< {panel} 16", f"write {tags[panel]}")
             spans.append((begun[panel], ended))

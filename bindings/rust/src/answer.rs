@@ -2,7 +2,7 @@
 
 use std::fmt;
 
-/// The number of a refusal, 1 to 13 or 16; docs/INTEGRATING.md and the header for C say what each means. Everything lent is as before.
+/// The number of a refusal, 1 to 16; docs/INTEGRATING.md and the header for C say what each means. Everything lent is as before.
 #[derive(Clone, Copy, Debug, PartialEq, Eq)]
 pub struct Refused(pub u32);
 

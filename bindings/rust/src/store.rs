@@ -1,4 +1,4 @@
-//! The check of tables, the five public steps of crate `store`, and the steps on tables known to be sound.
+//! The check of tables, the seven public steps of crate `store`, and the steps on tables known to be sound.
 
 use crate::{Crossing, Lent, LentMut};
 
@@ -42,6 +42,16 @@ impl StoreLibrary {
     pub fn deliver_reply(self, tables: LentMut, client: u32, target: u32) -> Crossing {
         unsafe { linked::store_deliver_reply(tables, client, target) }
     }
+
+    #[inline(always)]
+    pub fn lose(self, tables: LentMut, client: u32, target: u32) -> u32 {
+        unsafe { linked::store_lose(tables, client, target) }
+    }
+
+    #[inline(always)]
+    pub fn resend(self, tables: LentMut, client: u32, target: u32) -> u32 {
+        unsafe { linked::store_resend(tables, client, target) }
+    }
 }
 
 /// The steps that check no tables. Nothing checks a caller in another language: on tables that are not sound anything may happen.
@@ -73,6 +83,20 @@ impl StoreLibrary {
     pub unsafe fn deliver_reply_unchecked(self, tables: LentMut, client: u32, target: u32) -> Crossing {
         linked::store_deliver_reply_unchecked(tables, client, target)
     }
+
+    /// # Safety
+    /// The tables must be sound.
+    #[inline(always)]
+    pub unsafe fn lose_unchecked(self, tables: LentMut, client: u32, target: u32) -> u32 {
+        linked::store_lose_unchecked(tables, client, target)
+    }
+
+    /// # Safety
+    /// The tables must be sound.
+    #[inline(always)]
+    pub unsafe fn resend_unchecked(self, tables: LentMut, client: u32, target: u32) -> u32 {
+        linked::store_resend_unchecked(tables, client, target)
+    }
 }
 
 mod linked {
@@ -98,4 +122,10 @@ mod linked {
     exported!(store_exports store_deliver_reply, store_deliver_reply_unchecked: LentMut,
         [counts mut, clients mut, links mut, keys ptr, values ptr, log ptr, writes mut, reads mut]
         (client: u32, target: u32) -> Crossing);
+    exported!(store_exports store_lose, store_lose_unchecked: LentMut,
+        [counts mut, clients ptr, links mut, keys ptr, values ptr, log ptr, writes ptr, reads ptr]
+        (client: u32, target: u32) -> u32);
+    exported!(store_exports store_resend, store_resend_unchecked: LentMut,
+        [counts mut, clients ptr, links mut, keys ptr, values ptr, log ptr, writes ptr, reads ptr]
+        (client: u32, target: u32) -> u32);
 }

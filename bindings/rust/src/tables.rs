@@ -15,7 +15,7 @@ pub struct Tables {
 impl Tables {
     /// As long as so many servers and clients need.
     pub fn new(servers: usize, clients: usize) -> Tables {
-        let lengths = [23, 70 * clients, 4 * 17 * clients, 256 * servers, 2 * 256 * servers, 2 * 256, 6 * 255, 6 * 255];
+        let lengths = [23, 87 * clients, 4 * 17 * clients, 256 * servers, 2 * 256 * servers, 2 * 256, 6 * 255, 6 * 255];
         Tables { words: lengths.map(|length| vec![0; length]) }
     }
 
@@ -29,6 +29,6 @@ impl Tables {
 
     /// The mask of a client's transaction, the last one where it is idle.
     pub fn mask(&self, client: usize) -> u32 {
-        self.words[1][70 * client + 2]
+        self.words[1][87 * client + 2]
     }
 }

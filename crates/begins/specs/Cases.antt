@@ -6,14 +6,16 @@ use lib.ListN.{length}
 use borrow.Author.Tests.{eq-eqb, ne-eqb}
 use Rattle.keys.specs.declared.Key.{Key}
 use Rattle.keys.specs.Keys.{keyOf}
-use Rattle.tables.specs.Layout.{countField, writesField, readsField, putClientWord}
+use Rattle.tables.specs.Layout.{writesField, readsField}
 use Rattle.tables.specs.Tables.{Tables, tablesOf, methodOf, serversOf, writesOf, countOf}
-use Rattle.rules.specs.Common.{writing, startedClient, begunCounts, begunRecords}
-use Rattle.rules.specs.Begin.{storedSetpoints, sentSets, begunWrite, Asking, asking, askingByA, askingByB, askingByC, askingBy, begunRead}
+use Rattle.rules.specs.Common.{begunCounts, begunRecords}
+use Rattle.rules.specs.Begin.{storedSetpoints, sentSets, startedWriter, begunWrite, Asking, asking, askingByA, askingByB, askingByC}
+use Rattle.rules.specs.Begin.{askingBy}
+use Rattle.rules.specs.Begin.{begunRead}
 
 -- what a WRITE leaves in the client's row
-abbrev pub startedWrite : ℕ → ℕ → ℕ → ℕ → List ℕ → ℕ → List ℕ → List ℕ
-startedWrite q mask place count setpoints k clients = storedSetpoints q setpoints k (putClientWord (startedClient writing mask place q clients) q countField count)
+abbrev pub startedWrite : ℕ → ℕ → ℕ → ℕ → ℕ → List ℕ → ℕ → List ℕ → List ℕ
+startedWrite q mask place count badge setpoints k clients = storedSetpoints q setpoints k (startedWriter mask place count badge q clients)
 
 module _ (q mask : ℕ) (t : Tables) where
   -- the methods; m is what was read of the counts, x what was asked
@@ -36,7 +38,7 @@ module _ (q mask : ℕ) (t : Tables) where
 -- a WRITE: count and place are what was read
 pub write-begun : (q mask badge : ℕ) (setpoints : List ℕ) (t : Tables) {counts clients links writes : List ℕ} {n place : ℕ} {key : Key} →
     length setpoints ≡ serversOf t → n ≡ countOf t q → place ≡ writesOf t →
-    clients ≡ startedWrite q mask place (n + 1) setpoints (length setpoints) (t .clients) →
+    clients ≡ startedWrite q mask place (n + 1) badge setpoints (length setpoints) (t .clients) →
     key ≡ keyOf (n + 1) q → links ≡ sentSets q mask key badge setpoints (length setpoints) (t .links) →
     counts ≡ begunCounts writesField (t .counts) → writes ≡ begunRecords writesField (t .counts) q (n + 1) badge (t .writes) →
     tablesOf counts clients links (t .keys) (t .values) (t .log) writes (t .reads) ≡ begunWrite q mask badge setpoints t

@@ -7,13 +7,13 @@ ghost use mathlib.Core.Bool.{cond};
 ghost use Rattle.keys.specs.Masks.{hasServer};
 ghost use Rattle.tables.specs.Tables.{tablesOf};
 ghost use Rattle.tables.specs.Rows.{HasRow};
-ghost use Rattle.tables.specs.Layout.{clientWidth, tagsField, countWords, countAt, methodField, serversField, readsField};
+ghost use Rattle.tables.specs.Layout.{clientWidth, tagsField, askedField, countWords, countAt, methodField, serversField, readsField};
 ghost use Rattle.tables.specs.Links.{linkWidth, linkRow, HasLinks, putLink};
 ghost use Rattle.rules.specs.Common.{startedClient, request, setRequest};
 ghost use Rattle.coordinator.specs.Log.{HasEntry};
-ghost use Rattle.coordinator.specs.Latest.{latestTagAt};
+ghost use Rattle.coordinator.specs.Latest.{latestWord, latestTagAt};
 ghost use Rattle.rules.specs.Words.{keepWord};
-ghost use Rattle.rules.specs.Begin.{sentSets, sentGets, keptTags, sentAsks, sendGet, begunWrite};
+ghost use Rattle.rules.specs.Begin.{sentSets, sentGets, keptAsking, sentAsks, sendGet, begunWrite};
 ghost use Rattle.rules.specs.Begin.{asking, askingByA, askingByB, askingByC, askingBy, begunRead};
 ghost use Rattle.history.specs.Ready.{BeginReady};
 ghost use Rattle.begins.specs.Ready.{AskReady, WriteReady};
@@ -96,7 +96,7 @@ fn send_sets(links: &mut [u32], client: usize, mask: u32, key: Key, badge: u32, 
     }
 }
 
-// A get request, for its key at a tag, to a server that the mask has; the client keeps the tag that the key comes from.
+// A get request, for its key at a tag, to a server that the mask has; the client keeps the key, and the tag that it comes from.
 fn send_get(
     clients: &mut [u32],
     links: &mut [u32],
@@ -109,7 +109,10 @@ fn send_get(
     requires { ⌜ (HasRow clientWidth (now clients) client) × (HasRow linkWidth (now links) (linkRow client server)) ⌝ }
     requires { ⌜ (server < 16) × HasEntry (now log) tag ⌝ }
     ensures clients { λ _. ⌜ now (clients .exit)
-        ≡ cond (hasServer mask server) (keepWord tagsField (latestTagAt (now (log .entry)) tag) client server (now (clients .entry))) (now (clients .entry)) ⌝ }
+        ≡ cond (hasServer mask server)
+        (keepWord askedField (latestWord (now (log .entry)) tag) client server
+        (keepWord tagsField (latestTagAt (now (log .entry)) tag) client server (now (clients .entry))))
+        (now (clients .entry)) ⌝ }
     ensures links { λ _. ⌜ now (links .exit)
         ≡ cond (hasServer mask server) (sendGet client (now (log .entry)) tag server (now (links .entry))) (now (links .entry)) ⌝ }
 {
@@ -117,11 +120,12 @@ fn send_get(
         let latest = coordinator::latest_entry(log, server, tag);
         let key = latest.key;
         clients::put_client_word(clients, client, clients::TAGS + server, latest.tag);
+        clients::put_client_word(clients, client, clients::ASKED + server, key.word());
         send(links, client, server, key, 0);
     }
 }
 
-// A get request, for its key at a tag, to each masked server; the client keeps the tags that the keys come from.
+// A get request, for its key at a tag, to each masked server; the client keeps the keys, and the tags that they come from.
 pub fn send_gets(
     clients: &mut [u32],
     links: &mut [u32],
@@ -133,7 +137,7 @@ pub fn send_gets(
 )
     requires { ⌜ (HasRow clientWidth (now clients) client) × (HasLinks (now links) client) ⌝ }
     requires { ⌜ (servers ≤ 16) × HasEntry (now log) tag ⌝ }
-    ensures clients { λ _. ⌜ now (clients .exit) ≡ keptTags client mask (now (log .entry)) tag servers (now (clients .entry)) ⌝ }
+    ensures clients { λ _. ⌜ now (clients .exit) ≡ keptAsking client mask (now (log .entry)) tag servers (now (clients .entry)) ⌝ }
     ensures links { λ _. ⌜ now (links .exit) ≡ sentGets client mask (now (log .entry)) tag servers (now (links .entry)) ⌝ }
 {
     let mut server = 0;
@@ -155,20 +159,23 @@ fn send_asks(links: &mut [u32], client: usize, mask: u32, servers: usize)
     }
 }
 
-// A WRITE's client: its state, mask, count and setpoints.
+// A WRITE's client: its state, mask, count, badge and setpoints.
 fn start_write(
     clients: &mut [u32],
     client: usize,
     mask: u32,
     place: u32,
     count: u32,
+    badge: u32,
     setpoints: &[u32],
 )
     requires { ⌜ (HasRow clientWidth (now clients) client) × (length (now setpoints) ≤ 16) ⌝ }
-    ensures { λ _. ⌜ now (clients .exit) ≡ startedWrite client mask place count (now (setpoints .entry)) (length (now (setpoints .entry))) (now (clients .entry)) ⌝ }
+    ensures { λ _. ⌜ now (clients .exit)
+        ≡ startedWrite client mask place count badge (now (setpoints .entry)) (length (now (setpoints .entry))) (now (clients .entry)) ⌝ }
 {
     start_client(clients, client, states::WRITING, mask, place);
     clients::put_client_word(clients, client, clients::COUNT, count);
+    clients::put_client_word(clients, client, clients::WRITE_BADGE, badge);
     words::keep_words(
         clients,
         client,
@@ -198,7 +205,7 @@ pub fn begin_write(
 {
     let count = clients::client_word(clients, client, clients::COUNT) + 1;
     let place = counts::count_at(counts, counts::WRITES);
-    start_write(clients, client, mask, place, count, setpoints);
+    start_write(clients, client, mask, place, count, badge, setpoints);
     send_sets(
         links,
         client,

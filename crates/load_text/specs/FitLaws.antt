@@ -17,7 +17,7 @@ use Rattle.soundness.specs.Sound.{sound}
 use Rattle.soundness.specs.Facts.{Sound}
 use Rattle.soundness.specs.Room.{few-servers, few-clients}
 use Rattle.schedule.specs.declared.Step.{Step}
-use Rattle.schedule.specs.declared.Step.the-variants.{Unreadable, Open, BeginWrite, BeginRead, Request, Reply}
+use Rattle.schedule.specs.declared.Step.the-variants.{Unreadable, Open, BeginWrite, BeginRead, Request, Reply, Lose, Resend}
 use Rattle.schedule.specs.Decimal.{decimal, spacedAll}
 use Rattle.schedule.specs.DecimalLaws.{word-short, two-short}
 use Rattle.schedule.specs.Steps.{lineMost, Named, alone, lineNumbers, stepText}
@@ -58,7 +58,8 @@ number-short : (n most : ℕ) (rest : List ℕ) → length (decimal n) ≤ most 
 unfolding spacedAll
 number-short n most rest h = rw (length-append (decimal n) (spacedAll rest)) (omega (arith, h))
 
--- A step of a client, of two numbers and perhaps setpoints: beside 16 setpoints of any size a WRITE's client and badge have two digits.
+-- A step that the load may give, of two numbers and perhaps setpoints: beside 16 setpoints of any size a WRITE's client and badge have
+-- two digits. It gives no losses.
 abbrev pub Small : Step → Type 0
 Small Unreadable = ⊥
 Small (Open method servers clients) = ⊥
@@ -66,6 +67,8 @@ Small (BeginWrite client mask badge) = (client < 100) × ((mask ≤ 4294967295) 
 Small (BeginRead client mask) = (client ≤ 4294967295) × (mask ≤ 4294967295)
 Small (Request client target) = (client ≤ 4294967295) × (target ≤ 4294967295)
 Small (Reply client target) = (client ≤ 4294967295) × (target ≤ 4294967295)
+Small (Lose client target) = ⊥
+Small (Resend client target) = ⊥
 
 module _ (t : Tables) (k v : ℕ) (few : k ≤ 16) (fits : v ≤ 4294967295) where
   pub line-played : (step : Step) → Small step → playedLine (stepText (equally step k v)) t ≡ played step (replicate k v) t
@@ -93,6 +96,8 @@ module _ (t : Tables) (k v : ℕ) (few : k ≤ 16) (fits : v ≤ 4294967295) whe
   line-played (Reply q i) f =
       let n = alone (Reply q i) in
       back-played t n (record { numbers = (f .0, (f .1, tt)); size = short-line n (f .0, (f .1, tt)) (omega arith); shape = refl })
+  line-played (Lose q i) f = absurd f
+  line-played (Resend q i) f = absurd f
 
 -- the opening's numbers are small, and its setpoints 0
 zeros-short : (k : ℕ) → AllShort 2 (replicate k 0)

@@ -15,13 +15,14 @@ use Rattle.rules.specs.Reply.{said}
 use Rattle.soundness.specs.Sound.{sound}
 use Rattle.soundness.specs.Facts.{Sound, sound-facts}
 use Rattle.refusals.specs.Refusals.{openRefusal, writeRefusal, readRefusal, deliveryRefusal}
-use Rattle.refusals.specs.Steps.{unless, open′, beginWrite, beginRead, deliverRequest, deliverReply}
+use Rattle.refusals.specs.Steps.{unless, open′, beginWrite, beginRead, deliverRequest, deliverReply, lose, resend}
 use Rattle.keeping.specs.Accepted.{openable}
 use Rattle.keeping.specs.Opening.{opened-sound}
 use Rattle.keeping.specs.Steps.{open-keeps, beginWrite-sound, beginRead-sound, deliverRequest-sound, deliverReply-sound}
+use Rattle.keeping.specs.Steps.{lose-sound, resend-sound}
 use Rattle.ranges.specs.Tests.{by-test}
 use Rattle.schedule.specs.declared.Step.{Step}
-use Rattle.schedule.specs.declared.Step.the-variants.{Unreadable, Open, BeginWrite, BeginRead, Request, Reply}
+use Rattle.schedule.specs.declared.Step.the-variants.{Unreadable, Open, BeginWrite, BeginRead, Request, Reply, Lose, Resend}
 use Rattle.printing.specs.declared.Word.the-variants.{No}
 use Rattle.playing.specs.Played.{showing, plainly, noted, maskOrZero, played}
 use Rattle.playing.specs.Playable.{Playable}
@@ -54,6 +55,14 @@ module _ (t : Tables) (unopened : methodOf t ≡ 0) where
   unfolding deliverReply deliveryRefusal
   reply-unopened q i = rw not-sound
 
+  pub lose-unopened : (q i : ℕ) → lose q i t ≡ left (Refused 2) t
+  unfolding lose deliveryRefusal
+  lose-unopened q i = rw not-sound
+
+  pub resend-unopened : (q i : ℕ) → resend q i t ≡ left (Refused 2) t
+  unfolding resend deliveryRefusal
+  resend-unopened q i = rw not-sound
+
   -- "Before any opening, steps give 2."
   pub begin-write-early : (q mask badge : ℕ) (setpoints : List ℕ) →
       showing (plainly (No 2)) t ≡ played (BeginWrite q mask badge) setpoints t
@@ -73,6 +82,14 @@ module _ (t : Tables) (unopened : methodOf t ≡ 0) where
   unfolding played
   reply-early q i setpoints = rw (reply-unopened q i)
 
+  pub lose-early : (q i : ℕ) (setpoints : List ℕ) → showing (plainly (No 2)) t ≡ played (Lose q i) setpoints t
+  unfolding played
+  lose-early q i setpoints = rw (lose-unopened q i)
+
+  pub resend-early : (q i : ℕ) (setpoints : List ℕ) → showing (plainly (No 2)) t ≡ played (Resend q i) setpoints t
+  unfolding played
+  resend-early q i setpoints = rw (resend-unopened q i)
+
 -- every step keeps sound tables sound
 pub step-sound : (step : Step) (setpoints : List ℕ) (t : Tables) → Sound t → Sound (played step setpoints t .tables)
 unfolding played
@@ -82,6 +99,8 @@ step-sound (BeginWrite q mask badge) setpoints t s = beginWrite-sound q mask bad
 step-sound (BeginRead q mask) setpoints t s = beginRead-sound q mask t s
 step-sound (Request q i) setpoints t s = deliverRequest-sound q i t s
 step-sound (Reply q i) setpoints t s = deliverReply-sound q i t s
+step-sound (Lose q i) setpoints t s = lose-sound q i t s
+step-sound (Resend q i) setpoints t s = resend-sound q i t s
 
 module _ (t : Tables) (p : Playable t) where
   -- by whether the store was opened: of a step that is refused by 2 before, and keeps sound tables sound
@@ -108,3 +127,7 @@ module _ (t : Tables) (p : Playable t) where
       by-opening (λ e. ap (λ (l : Left). l .tables) (request-unopened t e q i)) (deliverRequest-sound q i t) (methodOf t) refl
   step-playable (Reply q i) setpoints =
       by-opening (λ e. ap (λ (a : Arrived). a .tables) (reply-unopened t e q i)) (deliverReply-sound q i t) (methodOf t) refl
+  step-playable (Lose q i) setpoints =
+      by-opening (λ e. ap (λ (l : Left). l .tables) (lose-unopened t e q i)) (lose-sound q i t) (methodOf t) refl
+  step-playable (Resend q i) setpoints =
+      by-opening (λ e. ap (λ (l : Left). l .tables) (resend-unopened t e q i)) (resend-sound q i t) (methodOf t) refl

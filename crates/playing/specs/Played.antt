@@ -12,9 +12,9 @@ use Rattle.rules.specs.declared.Answer.the-variants as answer
 use Rattle.rules.specs.declared.Arrival.{Arrival}
 use Rattle.rules.specs.declared.Arrival.the-variants as arrival
 use Rattle.rules.specs.Answers.{Left, Arrived}
-use Rattle.refusals.specs.Steps.{open′, beginWrite, beginRead, deliverRequest, deliverReply}
+use Rattle.refusals.specs.Steps.{open′, beginWrite, beginRead, deliverRequest, deliverReply, lose, resend}
 use Rattle.schedule.specs.declared.Step.{Step}
-use Rattle.schedule.specs.declared.Step.the-variants.{Unreadable, Open, BeginWrite, BeginRead, Request, Reply}
+use Rattle.schedule.specs.declared.Step.the-variants.{Unreadable, Open, BeginWrite, BeginRead, Request, Reply, Lose, Resend}
 use Rattle.schedule.specs.Steps.{stepOf}
 use Rattle.printing.specs.declared.Word.{Word}
 use Rattle.printing.specs.declared.Word.the-variants as print
@@ -50,7 +50,7 @@ noted w mask = record { word = w; mask = mask; setpoints = replicate 16 0; tags 
 abbrev pub plainly : Word → Shown
 plainly w = noted w 0
 
--- an opening, a begin and a delivered request show nothing
+-- an opening, a begin, a delivered request, a loss and a resend show nothing
 abbrev pub leftPlayed : Left → Played
 leftPlayed l = showing (plainly (answerWord (l .answer))) (l .tables)
 
@@ -65,7 +65,8 @@ arrivedPlayed mask a =
 abbrev pub maskOrZero : List ℕ → ℕ → ℕ
 maskOrZero clients client = cond (leb (length clients / clientWidth) client) 0 (clientWord clients client maskField)
 
--- "A line of any other shape, an empty or longer one too, is no step and gives 13."; each other line is its public step
+-- "A line of any other shape, an empty or longer one too, is no step and gives 13."; each other line is its public step, among them, by
+-- document 02: "Two steps are new: a link's request or reply is lost, and a panel sends a lost request again."
 unfoldable pub played : Step → List ℕ → Tables → Played
 played Unreadable setpoints t = showing (plainly (print.No 13)) t
 played (Open method servers clients) setpoints t = leftPlayed (open′ method servers clients setpoints t)
@@ -73,6 +74,8 @@ played (BeginWrite client mask badge) setpoints t = leftPlayed (beginWrite clien
 played (BeginRead client mask) setpoints t = leftPlayed (beginRead client mask t)
 played (Request client target) setpoints t = leftPlayed (deliverRequest client target t)
 played (Reply client target) setpoints t = arrivedPlayed (maskOrZero (t .clients) client) (deliverReply client target t)
+played (Lose client target) setpoints t = leftPlayed (lose client target t)
+played (Resend client target) setpoints t = leftPlayed (resend client target t)
 
 -- what a line shows and leaves
 abbrev pub playedLine : List ℕ → Tables → Played

@@ -30,7 +30,7 @@ pub struct Shown {
     pub badges: [u32; 16],
 }
 
-// The word of an opening, a begin and a delivered request.
+// The word of an opening, a begin, a delivered request, a loss and a resend.
 fn answer_word(answer: Answer) -> Word
     ensures { λ r. ⌜ r ≡ answerWord answer ⌝ }
 {
@@ -73,7 +73,7 @@ pub fn plain(word: Word) -> Shown
     noted(word, 0)
 }
 
-// What is printed of an opening, a begin and a delivered request.
+// What is printed of an opening, a begin, a delivered request, a loss and a resend.
 pub fn answered(answer: Answer) -> Shown
     ensures { λ r. ⌜ ((t : Tables) → showing r t ≡ leftPlayed (left answer t)) ⌝ }
 {
@@ -224,6 +224,30 @@ fn play_opened(
             client,
             target,
         ),
+        Step::Lose(client, target) => answered(store::lose_sound(
+            counts,
+            &*clients,
+            links,
+            &*keys,
+            &*values,
+            &*log,
+            &*writes,
+            &*reads,
+            client,
+            target,
+        )),
+        Step::Resend(client, target) => answered(store::resend_sound(
+            counts,
+            &*clients,
+            links,
+            &*keys,
+            &*values,
+            &*log,
+            &*writes,
+            &*reads,
+            client,
+            target,
+        )),
     }
 }
 
@@ -268,6 +292,8 @@ fn play_unopened(
             let mask = mask_of(&*clients, client);
             noted(Word::No(2), mask)
         }
+        Step::Lose(_, _) => plain(Word::No(2)),
+        Step::Resend(_, _) => plain(Word::No(2)),
     }
 }
 

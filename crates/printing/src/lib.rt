@@ -355,6 +355,8 @@ pub fn print_step(step: Step, setpoints: &[u32], out: &mut [u8], at: usize) -> u
         Step::BeginRead(client, mask) => print_pair(b'R', client, mask, out, at),
         Step::Request(client, target) => print_pair(b'>', client, target, out, at),
         Step::Reply(client, target) => print_pair(b'<', client, target, out, at),
+        Step::Lose(client, target) => print_pair(b'!', client, target, out, at),
+        Step::Resend(client, target) => print_pair(b'+', client, target, out, at),
     }
 }
 

@@ -1,6 +1,6 @@
 -- What ties the records of the tables to the history told, and that it gives the register the row's order.
 use Prim.Native.Nat.{ℕ, zero, suc, _-_, _≤_, _<_}
-use mathlib.Core.Path.{_≡_, sym, ap, ap₂, _∙_}
+use mathlib.Core.Path.{_≡_, refl, sym, ap, ap₂, _∙_}
 use mathlib.Core.Bool.{true, false}
 use mathlib.Core.Option.{Option, none, some}
 use mathlib.Core.List.{List, [], _∷_, _++_, map, map-map, map-append}
@@ -9,13 +9,12 @@ use lib.ListN.{length}
 use lib.Dec.{eqb}
 use borrow.Author.Tests.{eq-eqb, ne-eqb}
 use Rattle.ranges.specs.Each.{Each}
+use Rattle.ranges.specs.Tests.{not-both}
 use Rattle.tables.specs.Layout.{recordWord, numberOfRecord, tagOfRecord, beginOfRecord}
 use Rattle.tables.specs.Tables.{Tables, clientsOf, stepOf, entriesOf, writesOf, readsOf, stateOf, recordOf}
-use Rattle.rules.specs.Common.{idle, entering, coordinator}
-use Rattle.rules.specs.Common as rules
-use Rattle.soundness.specs.Sound.{isReading}
+use Rattle.rules.specs.Common.{idle}
+use Rattle.soundness.specs.Sound.{isWriting, isReading}
 use Rattle.soundness.specs.Facts.{Sound}
-use Rattle.keeping.specs.Links.{kindOn, numberOn}
 use Rattle.listing.specs.Register.{hasTag, finishedBelow, write, read, readsOfTag, writesOfTag, listedTo, register}
 use Rattle.listing.specs.Changes.{places-one, ByBegin, by-begin-sorted}
 use Rattle.serial.specs.History.{Transaction, Doing, nothing, writing, tagged, reading, History}
@@ -57,39 +56,39 @@ ofRead reads place = ofRecord false (recordWord reads place numberOfRecord) read
 abbrev pub ReadsTold : List ℕ → ℕ → List ℕ → List Transaction → Type 0
 ReadsTold reads begun numbers xs = Both (λ place x. Tells numbers x (ofRead reads place)) (finishedBelow reads begun) xs
 
--- What a client is at, by its state and its record in progress.
-module _ (t : Tables) (numbers : List ℕ) (q : ℕ) (doing : Doing) where
+-- What a client is at, and its record in progress.
+module _ (t : Tables) (numbers : List ℕ) (q : ℕ) where
   -- a WRITE without a tag
-  pub record Untagged : Type 0 where
-    pub mask : ℕ
-    pub badge : ℕ
-    pub setpoints : List ℕ
-    pub begin : ℕ
-    pub is : doing ≡ writing mask badge setpoints begin
+  pub record Untagged (begin : ℕ) : Type 0 where
+    pub writes : isWriting (stateOf t q) ≡ true
     pub tag : recordWord (t .writes) (recordOf t q) tagOfRecord ≡ 0
     pub start : recordWord (t .writes) (recordOf t q) beginOfRecord ≡ numberAt numbers begin
     pub known : begin < length numbers
 
-  -- a WRITE whose tag is under way to the client
-  pub record Tagged : Type 0 where
-    pub is : doing ≡ tagged (numberOn t q coordinator)
-    pub tag : recordWord (t .writes) (recordOf t q) tagOfRecord ≡ numberOn t q coordinator
+  -- a WRITE that has its tag, whether or not the client knows it
+  pub record Tagged (n : ℕ) : Type 0 where
+    pub writes : isWriting (stateOf t q) ≡ true
+    pub tag : recordWord (t .writes) (recordOf t q) tagOfRecord ≡ n
 
-  pub record Reading : Type 0 where
-    pub mask : ℕ
-    pub begin : ℕ
-    pub deliveries : ℕ
-    pub is : doing ≡ reading mask begin deliveries
+  pub record Reading (mask begin : ℕ) : Type 0 where
+    pub reads : isReading (stateOf t q) ≡ true
     pub masked : recordWord (t .reads) (recordOf t q) numberOfRecord ≡ mask
     pub start : recordWord (t .reads) (recordOf t q) beginOfRecord ≡ numberAt numbers begin
     pub known : begin < length numbers
 
-  pub record Activity : Type 0 where
-    pub resting : stateOf t q ≡ idle → doing ≡ nothing
-    pub storing : stateOf t q ≡ rules.writing → Untagged
-    pub asking : stateOf t q ≡ entering → kindOn t q coordinator ≡ 1 → Untagged
-    pub tagged : stateOf t q ≡ entering → kindOn t q coordinator ≡ 2 → Tagged
-    pub reading : isReading (stateOf t q) ≡ true → Reading
+  -- neither a READ's deliveries nor its lost replies are in its record
+  abbrev pub Activity : Doing → Type 0
+  Activity nothing = stateOf t q ≡ idle
+  Activity (writing mask badge setpoints begin) = Untagged begin
+  Activity (tagged tag) = Tagged tag
+  Activity (reading mask begin deliveries losses) = Reading mask begin
+
+  -- an idle client is at nothing
+  pub at-rest : (d : Doing) → Activity d → stateOf t q ≡ idle → d ≡ nothing
+  at-rest nothing a e = refl
+  at-rest (writing mask badge setpoints begin) a e = absurd (not-both (a .writes) (rw e))
+  at-rest (tagged tag) a e = absurd (not-both (a .writes) (rw e))
+  at-rest (reading mask begin deliveries losses) a e = absurd (not-both (a .reads) (rw e))
 
 pub record Agrees (t : Tables) (h : History) (numbers : List ℕ) : Type 0 where
   pub sound : Sound t

@@ -1,6 +1,6 @@
 -- Begins keep the tie: the record stands in the next place, and the step's number is the transaction's begin.
-use Prim.Native.Nat.{ℕ, suc, _+_, _≤_, _<_}
-use mathlib.Core.Path.{_≡_, refl, _∙_, subst}
+use Prim.Native.Nat.{ℕ, suc, _+_, _<_}
+use mathlib.Core.Path.{_≡_, refl, _∙_}
 use mathlib.Core.Bool.{true}
 use mathlib.Core.List.{List, [], _∷_}
 use native.Mathlib.Nat.{mod-lt}
@@ -10,15 +10,15 @@ use lib.ListN.{getD}
 use lib.Dec.{eqb}
 use Rattle.ranges.specs.Tests.{either}
 use Rattle.keys.specs.Masks.{hasServer}
-use Rattle.coordinator.specs.Latest.{latestTagAt}
+use Rattle.coordinator.specs.Latest.{latestTagAt, latestWord}
 use Rattle.tables.specs.Layout.{clientWidth, clientWord, stateField, countField, maskField, tagField, recordField, setpointsField}
-use Rattle.tables.specs.Layout.{tagsField, entriesField, writesField, readsField, putBegun}
+use Rattle.tables.specs.Layout.{tagsField, writeBadgeField, askedField, entriesField, writesField, readsField, putBegun}
 use Rattle.tables.specs.Tables.{Tables, methodOf, serversOf, clientsOf, stepOf, entriesOf, writesOf, readsOf}
 use Rattle.rules.specs.Words.{every}
 use Rattle.rules.specs.WordsLaws.{kept-other}
 use Rattle.rules.specs.Common.{askingKeys, askingSetpoints, askingAll}
 use Rattle.rules.specs.Common as rules
-use Rattle.rules.specs.Begin.{nextCount, begunWrite, keptTags, Asking, askingByA, askingBy, lastTag, begunRead}
+use Rattle.rules.specs.Begin.{nextCount, begunWrite, keptTags, keptAsking, Asking, askingByA, askingBy, lastTag, begunRead}
 use Rattle.soundness.specs.Sound.{isReading}
 use Rattle.soundness.specs.Room.{few-servers, client-row}
 use Rattle.rules.specs.declared.Answer.the-variants.{Ok}
@@ -30,27 +30,31 @@ use Rattle.keeping.specs.Rows.{Put, put, putAll, lastPut, inRow, put-read}
 use Rattle.serial.specs.Steps.{begun-write, begun-read}
 use Rattle.refusals.specs.Steps.{badgeOf}
 use Rattle.serial.specs.History.{writing, reading, History, begun, after}
-use Rattle.register_order.specs.Agreement.{Agrees}
+use Rattle.register_order.specs.Agreement.{at-rest, Agrees}
 use Rattle.register_order.specs.Machines.{Follows}
 use Rattle.register_order.specs.Grown.{more}
-use Rattle.register_order.specs.Laws.{Counts, write-begins, read-begins}
+use Rattle.register_order.specs.Laws.{Counts, as-next, write-begins, read-begins}
 
 module _ (t : Tables) (h : History) (numbers : List ℕ) (a : Agrees t h numbers) where
-  -- the rules' step + 1 is the count's next
-  pub as-next : (t′ : Tables) (h′ : History) → Agrees t′ h′ (more numbers (stepOf t + 1)) → Agrees t′ h′ (more numbers (suc (stepOf t)))
-  as-next t′ h′ b = subst (λ (n : ℕ). Agrees t′ h′ (more numbers n)) (add-one (stepOf t)) b
-
-  -- the tags that a client keeps stand behind its state and the place of its record
-  pub tags-behind : (q mask tag : ℕ) (clients : List ℕ) (f : ℕ) → f < tagsField →
-      clientWord (keptTags q mask (t .log) tag (serversOf t) clients) q f ≡ clientWord clients q f
-  tags-behind q mask tag clients f l =
-      let room : tagsField + serversOf t ≤ clientWidth = omega (arith, few-servers t (a .sound)) in
-      kept-other tagsField (hasServer mask) (latestTagAt (t .log) tag) q (serversOf t) room clients q f
+  -- the tags and keys that a client keeps stand behind its state and the place of its record
+  pub asked-behind : (q mask tag : ℕ) (clients : List ℕ) (f : ℕ) → f < tagsField →
+      clientWord (keptAsking q mask (t .log) tag (serversOf t) clients) q f ≡ clientWord clients q f
+  asked-behind q mask tag clients f l =
+      let few = few-servers t (a .sound) in
+      kept-other askedField (hasServer mask) (latestWord (t .log) tag) q (serversOf t) (omega arith)
+      (keptTags q mask (t .log) tag (serversOf t) clients) q f (omega arith) (λ e. omega (arith, e .1))
+      ∙ kept-other tagsField (hasServer mask) (latestTagAt (t .log) tag) q (serversOf t) (omega arith) clients q f
       (omega arith) (λ e. omega (arith, e .1))
 
   module _ (q mask badge : ℕ) (setpoints : List ℕ) (b : Writable q mask setpoints t) where
     abbrev puts : List Put
-    puts = put stateField rules.writing ∷ put maskField mask ∷ put recordField (writesOf t) ∷ put countField (nextCount t q) ∷ []
+    puts =
+        put stateField rules.writing
+        ∷ put maskField mask
+        ∷ put recordField (writesOf t)
+        ∷ put countField (nextCount t q)
+        ∷ put writeBadgeField (badgeOf badge)
+        ∷ []
 
     client : q < clientsOf t
     client = b .begin .client
@@ -87,7 +91,7 @@ module _ (t : Tables) (h : History) (numbers : List ℕ) (a : Agrees t h numbers
         Agrees (begunWrite q mask (badgeOf badge) setpoints t)
         (begun (h .doing q) q (writing mask (badgeOf badge) setpoints (h .clock)) h) (more numbers (stepOf t + 1))
     write-agrees =
-        rw (a .clients q client .resting (b .begin .free))
+        rw (at-rest t numbers q (h .doing q) (a .clients q client) (b .begin .free))
         (write-begins t (begunWrite q mask (badgeOf badge) setpoints t) h numbers a q client
         (begunWrite-kept q mask (badgeOf badge) setpoints t (a .sound) b (mod-lt badge (omega arith)))
         (nextCount t q) (badgeOf badge) begun-records same-reads write-counts (b .few)
@@ -99,7 +103,9 @@ module _ (t : Tables) (h : History) (numbers : List ℕ) (a : Agrees t h numbers
     pub write-follows : Follows t h numbers
         (record { event = begun-write q mask badge setpoints Ok; tables = begunWrite q mask (badgeOf badge) setpoints t })
     write-follows = record {
-      agrees = as-next (begunWrite q mask (badgeOf badge) setpoints t) (after (begun-write q mask badge setpoints Ok) h) write-agrees;
+      agrees =
+          as-next t h numbers a (begunWrite q mask (badgeOf badge) setpoints t)
+          (after (begun-write q mask badge setpoints Ok) h) write-agrees;
       step = write-step;
     }
 
@@ -117,7 +123,7 @@ module _ (t : Tables) (h : History) (numbers : List ℕ) (a : Agrees t h numbers
     asked puts inside f l = put-read q puts (t .clients) f _ (client-row t (a .sound) q reader) inside l refl
 
     askedA : (f : ℕ) → f < tagsField → clientWord (askingByA q mask t .clients) q f ≡ lastPut readPutsA (clientWord (t .clients) q f) f
-    askedA f l = tags-behind q mask (lastTag t) (putAll readPutsA q (t .clients)) f l ∙ asked readPutsA refl f (omega arith)
+    askedA f l = asked-behind q mask (lastTag t) (putAll readPutsA q (t .clients)) f l ∙ asked readPutsA refl f (omega arith)
 
     -- whatever the method, the client reads and knows the place of its record
     abbrev Asks : Asking → Type 0
@@ -142,10 +148,10 @@ module _ (t : Tables) (h : History) (numbers : List ℕ) (a : Agrees t h numbers
           step = begun-step readsField (t .counts) long (omega arith) (λ z. omega arith);
         }
 
-    read-agrees : Agrees (begunRead q mask t) (begun (h .doing q) q (reading mask (h .clock) 0) h) (more numbers (stepOf t + 1))
+    read-agrees : Agrees (begunRead q mask t) (begun (h .doing q) q (reading mask (h .clock) 0 0) h) (more numbers (stepOf t + 1))
     unfolding begunRead
     read-agrees =
-        rw (a .clients q reader .resting (b .begin .free))
+        rw (at-rest t numbers q (h .doing q) (a .clients q reader) (b .begin .free))
         (read-begins t (begunRead q mask t) h numbers a q reader (begunRead-kept q mask t (a .sound) b)
         mask refl refl read-counts (b .few) (asks .0) (asks .1))
 
@@ -154,6 +160,6 @@ module _ (t : Tables) (h : History) (numbers : List ℕ) (a : Agrees t h numbers
 
     pub read-follows : Follows t h numbers (record { event = begun-read q mask Ok; tables = begunRead q mask t })
     read-follows = record {
-      agrees = as-next (begunRead q mask t) (after (begun-read q mask Ok) h) read-agrees;
+      agrees = as-next t h numbers a (begunRead q mask t) (after (begun-read q mask Ok) h) read-agrees;
       step = read-step;
     }

@@ -13,23 +13,20 @@ use Rattle.ranges.specs.Tests.{by-equal, by-test, not-both}
 use Rattle.ranges.specs.Each.{Each, each-append, each-map}
 use Rattle.ranges.specs.Inserted.{inserted}
 use Rattle.tables.specs.Rows.{word-other}
-use Rattle.tables.specs.Layout.{recordWidth, recordWord, clientOfRecord, numberOfRecord, tagOfRecord, beginOfRecord, endOfRecord, clientWidth, clientWord, stateField, recordField, putBegun}
-use Rattle.tables.specs.Links.{linkWidth}
+use Rattle.tables.specs.Layout.{recordWidth, recordWord, clientOfRecord, numberOfRecord, tagOfRecord, beginOfRecord, endOfRecord, putBegun}
 use Rattle.tables.specs.Tables.{Tables, stateOf, recordOf}
-use Rattle.rules.specs.Common.{idle, entering, coordinator, endedRecord, taggedRecord}
-use Rattle.rules.specs.Common as rules
+use Rattle.rules.specs.Common.{idle, endedRecord, taggedRecord}
 use Rattle.soundness.specs.Sound.{isWriting, isReading}
-use Rattle.keeping.specs.Links.{linkWord, kindOn, numberOn}
 use Rattle.keeping.specs.Records.{begun-word, tagged-other}
 use Rattle.listing.specs.Register.{isFinished, beginIn, finishedBelow}
 use Rattle.listing.specs.Places.{each-passes, places-more}
 use Rattle.listing.specs.Changes.{places-same, places-added, ByBegin}
-use Rattle.serial.specs.History.{Transaction, Doing, nothing, reading, ended}
+use Rattle.serial.specs.History.{Transaction, Doing, nothing, writing, tagged, reading}
 use Rattle.serial.proofs.Lists.{pairs-append, pairs-at}
 use Rattle.register_order.specs.Order.{Particulars, ofRecord, numberAt, endNumber}
 use Rattle.register_order.specs.Lists.{Both, both-map, both-inserted}
 use Rattle.register_order.specs.Agreement.{Numbered, EndKnown, Tells, OneWrite, ofRead, ReadsTold}
-use Rattle.register_order.specs.Agreement.{Untagged, Tagged, Reading, Activity}
+use Rattle.register_order.specs.Agreement.{Activity}
 
 -- ---- the step numbers, with one more
 
@@ -187,94 +184,45 @@ module _ (reads reads′ : List ℕ) (here : ℕ) (but : But reads reads′ here
 
 -- ---- what a client is at
 
-module _ (t : Tables) (numbers : List ℕ) (q : ℕ) (d : Doing) where
-  pub be-idle : stateOf t q ≡ idle → d ≡ nothing → Activity t numbers q d
-  be-idle s e = record {
-    resting = λ z. e;
-    storing = λ z. let w : ⊥ = omega arith in absurd w;
-    asking = λ z k. let w : ⊥ = omega arith in absurd w;
-    tagged = λ z k. let w : ⊥ = omega arith in absurd w;
-    reading = λ z. absurd (not-both z (rw s));
-  }
+-- a client goes on with it: its record is where it was, and it still writes, reads or rests
+pub record GoesOn (t t′ : Tables) (q : ℕ) : Type 0 where
+  pub place : recordOf t′ q ≡ recordOf t q
+  pub rests : stateOf t q ≡ idle → stateOf t′ q ≡ idle
+  pub writes : isWriting (stateOf t q) ≡ true → isWriting (stateOf t′ q) ≡ true
+  pub reads : isReading (stateOf t q) ≡ true → isReading (stateOf t′ q) ≡ true
 
-  pub be-storing : stateOf t q ≡ rules.writing → Untagged t numbers q d → Activity t numbers q d
-  be-storing s u = record {
-    resting = λ z. let w : ⊥ = omega arith in absurd w;
-    storing = λ z. u;
-    asking = λ z k. u;
-    tagged = λ z k. let w : ⊥ = omega arith in absurd w;
-    reading = λ z. absurd (not-both z (rw s));
-  }
+module _ {t t′ : Tables} {q : ℕ} (place : recordOf t′ q ≡ recordOf t q) where
+  -- in the same state
+  pub goes-same : stateOf t′ q ≡ stateOf t q → GoesOn t t′ q
+  goes-same e = record { place = place; rests = λ z. e ∙ z; writes = λ z. rw e z; reads = λ z. rw e z }
 
-  pub be-asking : stateOf t q ≡ entering → kindOn t q coordinator ≡ 1 → Untagged t numbers q d → Activity t numbers q d
-  be-asking s k u = record {
-    resting = λ z. let w : ⊥ = omega arith in absurd w;
-    storing = λ z. u;
-    asking = λ z y. u;
-    tagged = λ z y. let w : ⊥ = omega arith in absurd w;
-    reading = λ z. absurd (not-both z (rw s));
-  }
+  -- in another one of its kind
+  pub goes-to : (state state′ : ℕ) → stateOf t q ≡ state → stateOf t′ q ≡ state′ → (state ≡ idle → state′ ≡ idle) →
+      (isWriting state ≡ true → isWriting state′ ≡ true) → (isReading state ≡ true → isReading state′ ≡ true) → GoesOn t t′ q
+  goes-to state state′ e e′ i w r =
+      record { place = place; rests = λ z. e′ ∙ i (sym e ∙ z); writes = λ z. rw e′ (w (rw e at z)); reads = λ z. rw e′ (r (rw e at z)) }
 
-  pub be-tagged : stateOf t q ≡ entering → kindOn t q coordinator ≡ 2 → Tagged t numbers q d → Activity t numbers q d
-  be-tagged s k u = record {
-    resting = λ z. let w : ⊥ = omega arith in absurd w;
-    storing = λ z. let w : ⊥ = omega arith in absurd w;
-    asking = λ z y. let w : ⊥ = omega arith in absurd w;
-    tagged = λ z y. u;
-    reading = λ z. absurd (not-both z (rw s));
-  }
-
-  pub be-reading : isReading (stateOf t q) ≡ true → Reading t numbers q d → Activity t numbers q d
-  be-reading s u = record {
-    resting = λ z. absurd (not-both s (rw z));
-    storing = λ z. absurd (not-both s (rw z));
-    asking = λ z y. absurd (not-both s (rw z));
-    tagged = λ z y. absurd (not-both s (rw z));
-    reading = λ z. u;
-  }
-
-module _ (t t′ : Tables) (numbers : List ℕ) (n q : ℕ) (here : recordOf t′ q ≡ recordOf t q) where
-  pub untagged-on : (d : Doing) → Alike (t .writes) (t′ .writes) (recordOf t q) → Untagged t numbers q d → Untagged t′ (more numbers n) q d
-  untagged-on d w u = record {
-    mask = u .mask;
-    badge = u .badge;
-    setpoints = u .setpoints;
-    begin = u .begin;
-    is = u .is;
-    tag = rw here (w tagOfRecord (omega arith) ∙ u .tag);
-    start = rw here (w beginOfRecord (omega arith) ∙ u .start ∙ sym (number-more numbers n (u .begin) (u .known)));
-    known = omega (arith, more-length numbers n, u .known);
-  }
-
-  -- with as many deliveries as there are now
-  pub reading-on : (d : Doing) → Alike (t .reads) (t′ .reads) (recordOf t q) → (r : Reading t numbers q d) (deliveries : ℕ) → Reading t′ (more numbers n) q (reading (r .mask) (r .begin) deliveries)
-  reading-on d w r deliveries = record {
-    mask = r .mask;
-    begin = r .begin;
-    deliveries = deliveries;
-    is = refl;
-    masked = rw here (w numberOfRecord (omega arith) ∙ r .masked);
-    start = rw here (w beginOfRecord (omega arith) ∙ r .start ∙ sym (number-more numbers n (r .begin) (r .known)));
-    known = omega (arith, more-length numbers n, r .known);
-  }
-
-  pub same-reading : (d : Doing) → Alike (t .reads) (t′ .reads) (recordOf t q) → Reading t numbers q d → Reading t′ (more numbers n) q d
-  same-reading d w r = rw (r .is) (reading-on d w r (r .deliveries))
-
--- another client, whose row and coordinator's link and record in progress stay
-pub activity-on : (t t′ : Tables) (numbers : List ℕ) (n q : ℕ) (d : Doing) → ((f : ℕ) → f < clientWidth → clientWord (t′ .clients) q f ≡ clientWord (t .clients) q f) →
-    ((f : ℕ) → f < linkWidth → linkWord (t′ .links) q coordinator f ≡ linkWord (t .links) q coordinator f) →
-    (isWriting (stateOf t q) ≡ true → Alike (t .writes) (t′ .writes) (recordOf t q)) → (isReading (stateOf t q) ≡ true → Alike (t .reads) (t′ .reads) (recordOf t q)) →
-    Activity t numbers q d → Activity t′ (more numbers n) q d
-activity-on t t′ numbers n q d row link writes reads a =
-    let state : stateOf t′ q ≡ stateOf t q = row stateField (omega arith) in
-    let here : recordOf t′ q ≡ recordOf t q = row recordField (omega arith) in
-    let kind : kindOn t′ q coordinator ≡ kindOn t q coordinator = link 0 (omega arith) in
-    let number : numberOn t′ q coordinator ≡ numberOn t q coordinator = link 2 (omega arith) in
-    record {
-      resting = λ s. a .resting (sym state ∙ s);
-      storing = λ s. let was = sym state ∙ s in untagged-on t t′ numbers n q here d (writes (rw was)) (a .storing was);
-      asking = λ s k. let was = sym state ∙ s in untagged-on t t′ numbers n q here d (writes (rw was)) (a .asking was (sym kind ∙ k));
-      tagged = λ s k. let was = sym state ∙ s in let g = a .tagged was (sym kind ∙ k) in record { is = rw number (g .is); tag = rw (number, here) (writes (rw was) tagOfRecord (omega arith) ∙ g .tag) };
-      reading = λ s. let was : isReading (stateOf t q) ≡ true = rw state at s in same-reading t t′ numbers n q here d (reads was) (a .reading was);
-    }
+-- then it is at the same, where its record in progress stays
+module _ (t t′ : Tables) (numbers : List ℕ) (n q : ℕ) (g : GoesOn t t′ q)
+    (writes : isWriting (stateOf t q) ≡ true → Alike (t .writes) (t′ .writes) (recordOf t q))
+    (reads : isReading (stateOf t q) ≡ true → Alike (t .reads) (t′ .reads) (recordOf t q)) where
+  pub activity-on : (d : Doing) → Activity t numbers q d → Activity t′ (more numbers n) q d
+  activity-on nothing a = g .rests a
+  activity-on (writing mask badge setpoints begin) a =
+      let w = writes (a .writes) in
+      record {
+        writes = g .writes (a .writes);
+        tag = rw (g .place) (w tagOfRecord (omega arith) ∙ a .tag);
+        start = rw (g .place) (w beginOfRecord (omega arith) ∙ a .start ∙ sym (number-more numbers n begin (a .known)));
+        known = omega (arith, more-length numbers n, a .known);
+      }
+  activity-on (tagged tag) a =
+      record { writes = g .writes (a .writes); tag = rw (g .place) (writes (a .writes) tagOfRecord (omega arith) ∙ a .tag) }
+  activity-on (reading mask begin deliveries losses) a =
+      let w = reads (a .reads) in
+      record {
+        reads = g .reads (a .reads);
+        masked = rw (g .place) (w numberOfRecord (omega arith) ∙ a .masked);
+        start = rw (g .place) (w beginOfRecord (omega arith) ∙ a .start ∙ sym (number-more numbers n begin (a .known)));
+        known = omega (arith, more-length numbers n, a .known);
+      }

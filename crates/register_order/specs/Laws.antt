@@ -1,18 +1,20 @@
 -- The laws of the step: one for each way in which a step changes the records. Whatever else it changes is the step's client's own.
 use Prim.Native.Nat.{ℕ, suc, _+_, _≤_, _<_}
-use mathlib.Core.Path.{_≡_, refl, sym, ap, _∙_}
-use mathlib.Core.Bool.{true}
+use mathlib.Core.Path.{_≡_, refl, sym, ap, _∙_, subst}
+use mathlib.Core.Bool.{Bool, true}
 use mathlib.Core.Option.{none}
 use mathlib.Core.List.{List, [], _∷_}
 use native.Mathlib.Omega.{arith}
+use native.Mathlib.Numerals.{add-one}
 use lib.ListN.{length, getD}
 use lib.Dec.{eqb, ltb}
 use borrow.Author.Tests.{eqb-true}
 use Rattle.ranges.specs.Tests.{by-equal, both-right}
 use Rattle.tables.specs.Rows.{HasRow, word-same, word-length}
-use Rattle.tables.specs.Layout.{recordPlaces, recordWidth, recordWord, clientOfRecord, numberOfRecord, tagOfRecord, beginOfRecord, endOfRecord, putBegun}
+use Rattle.tables.specs.Layout.{recordPlaces, recordWidth, recordWord, clientOfRecord, numberOfRecord, tagOfRecord, beginOfRecord}
+use Rattle.tables.specs.Layout.{endOfRecord, putBegun, stateField, recordField}
 use Rattle.tables.specs.Tables.{Tables, clientsOf, stepOf, entriesOf, writesOf, readsOf, stateOf, recordOf}
-use Rattle.rules.specs.Common.{idle, entering, coordinator, endedRecord, taggedRecord}
+use Rattle.rules.specs.Common.{idle, endedRecord, taggedRecord}
 use Rattle.rules.specs.Common as rules
 use Rattle.rules.specs.declared.Delivered.{Delivered}
 use Rattle.soundness.specs.Sound.{isWriting, isReading, isOpen}
@@ -20,17 +22,17 @@ use Rattle.soundness.specs.Facts as underway
 use Rattle.soundness.specs.Room.{write-open, read-open, write-row, read-row, next-write, next-read}
 use Rattle.keeping.specs.Records.{open-client, begun-here, tagged-here, tagged-word, ended-word}
 use Rattle.keeping.specs.Frame.{Kept}
-use Rattle.keeping.specs.Links.{kindOn, numberOn}
 use Rattle.listing.specs.Register.{beginIn}
 use Rattle.listing.specs.Changes.{ByBegin, begins-on, begins-more}
 use Rattle.serial.specs.History.{valueWritten, valueShown, changed, Transaction, Doing, nothing, writing, tagged, reading, History}
-use Rattle.serial.specs.History.{historyOf, passed, turned, writeOf, readOf, given, wrote, showed, ended}
+use Rattle.serial.specs.History.{historyOf, passed, turned, delivered, entered, missed, lostOf, repeated, marked, writeOf, readOf, given}
+use Rattle.serial.specs.History.{wrote, showed, ended}
 use Rattle.serial.proofs.Places.{changed-other, changed-all}
 use Rattle.register_order.specs.Order.{Particulars, particulars, ofRecord, numberAt}
-use Rattle.register_order.specs.Agreement.{Numbered, Tells, OneWrite, ofRead, ReadsTold, Untagged, Reading, Activity, Agrees}
+use Rattle.register_order.specs.Agreement.{Numbered, Tells, OneWrite, ofRead, ReadsTold, Untagged, Tagged, Reading, Activity, Agrees}
 use Rattle.register_order.specs.Grown.{more, more-length, number-more, number-last, numbered-more, begun-before, tells-more, tells-as}
 use Rattle.register_order.specs.Grown.{But, Alike, begun-but, tagged-but, ended-but, one-but, one-more, reads-more, reads-begun}
-use Rattle.register_order.specs.Grown.{reads-ended, be-idle, be-storing, be-tagged, be-reading, activity-on}
+use Rattle.register_order.specs.Grown.{reads-ended, GoesOn, goes-same, activity-on}
 
 -- what a step of client q leaves of the others' records in progress
 pub record Leaves (q : ℕ) (t t′ : Tables) : Type 0 where
@@ -53,9 +55,17 @@ others-alike : (records records′ : List ℕ) (begun p q place place′ : ℕ) 
 others-alike records records′ begun p q place place′ other own but d f h =
     but place f h (λ e. d (sym (open-client records p place (other .here)) ∙ ap (λ (n : ℕ). recordWord records n clientOfRecord) e ∙ open-client records q place′ (own .here)))
 
--- a history in which only what the clients are at has changed
-abbrev pub movedOn : History → (ℕ → Doing) → History
-movedOn h doing = historyOf (h .initial) (h .extra) (suc (h .clock)) (h .tags) (h .write) (h .said) (h .reads) doing (h .astray)
+-- a history in which only what the clients are at has changed, and how many steps fit none of it
+abbrev pub movedOn : History → (ℕ → Doing) → ℕ → History
+movedOn h doing astray =
+    historyOf (h .initial) (h .extra) (suc (h .clock)) (h .tags) (h .write) (h .said) (h .reads) doing (h .answered) astray
+
+-- a delivered request at target 16 gives a tag to a WRITE that has none, and to nothing else
+abbrev pub NoTagDue : Doing → Type 0
+NoTagDue nothing = Unit {0}
+NoTagDue (writing mask badge setpoints begin) = ⊥
+NoTagDue (tagged tag) = Unit {0}
+NoTagDue (reading mask begin deliveries losses) = Unit {0}
 
 -- a step refused leaves all as before
 module _ (t : Tables) (h : History) (numbers : List ℕ) (a : Agrees t h numbers) where
@@ -68,8 +78,26 @@ module _ (t : Tables) (h : History) (numbers : List ℕ) (a : Agrees t h numbers
     begins = a .begins;
     writes = λ tag l u. one-more (t .writes) (writesOf t) numbers tag (h .write tag) (stepOf t) (a .writes tag l u);
     reads = reads-more (t .reads) (readsOf t) numbers (h .reads) (stepOf t) (a .reads);
-    clients = λ q l. activity-on t t numbers (stepOf t) q (h .doing q) (λ f g. refl) (λ f g. refl) (λ w f g. refl) (λ w f g. refl) (a .clients q l);
+    clients = λ q l.
+        activity-on t t numbers (stepOf t) q (goes-same refl refl) (λ w f g. refl) (λ w f g. refl) (h .doing q) (a .clients q l);
   }
+
+  -- what the last step on a link was is in no record
+  pub marked-agrees : (q i : ℕ) (request : Bool) → Agrees t (marked q i request h) numbers
+  marked-agrees q i request = record {
+    sound = a .sound;
+    clock = a .clock;
+    numbered = a .numbered;
+    entries = a .entries;
+    begins = a .begins;
+    writes = a .writes;
+    reads = a .reads;
+    clients = a .clients;
+  }
+
+  -- the rules' step + 1 is the count's next
+  pub as-next : (t′ : Tables) (h′ : History) → Agrees t′ h′ (more numbers (stepOf t + 1)) → Agrees t′ h′ (more numbers (suc (stepOf t)))
+  as-next t′ h′ b = subst (λ (n : ℕ). Agrees t′ h′ (more numbers n)) (add-one (stepOf t)) b
 
 module _ (t t′ : Tables) (h : History) (numbers : List ℕ) (a : Agrees t h numbers) (q : ℕ) (client : q < clientsOf t) (k : Kept q t t′) where
   abbrev step′ : ℕ
@@ -95,7 +123,10 @@ module _ (t t′ : Tables) (h : History) (numbers : List ℕ) (a : Agrees t h nu
   clients-on : Leaves q t t′ → (d : Doing) → Activity t′ numbers′ q d → (p : ℕ) → p < clientsOf t′ → Activity t′ numbers′ p (changed (h .doing) q d p)
   clients-on leaves d own p l =
       changed-all (h .doing) q d (λ r x. r < clientsOf t → Activity t′ numbers′ r x) (λ z. own)
-      (λ r apart z. activity-on t t′ numbers step′ r (h .doing r) (λ f g. k .grows .row r f apart g) (λ f g. k .grows .link r coordinator f apart (omega arith) g) (leaves .writes r z apart) (leaves .reads r z apart) (a .clients r z))
+      (λ r apart z.
+      let row = k .grows .row r in
+      let on : GoesOn t t′ r = goes-same (row recordField apart (omega arith)) (row stateField apart (omega arith)) in
+      activity-on t t′ numbers step′ r on (leaves .writes r z apart) (leaves .reads r z apart) (h .doing r) (a .clients r z))
       p (rw (k .grows .numbers .clients) at l)
 
   numbered-now : Numbered numbers′ step′
@@ -118,8 +149,9 @@ module _ (t t′ : Tables) (h : History) (numbers : List ℕ) (a : Agrees t h nu
     pub all-stay : Leaves q t t′
     all-stay = record { writes = λ p l d w f g. rw same-writes; reads = λ p l d w f g. rw same-reads }
 
-    quiet : (doing : ℕ → Doing) → ((p : ℕ) → p < clientsOf t′ → Activity t′ numbers′ p (doing p)) → Agrees t′ (movedOn h doing) numbers′
-    quiet doing clients = record {
+    quiet : (doing : ℕ → Doing) (astray : ℕ) → ((p : ℕ) → p < clientsOf t′ → Activity t′ numbers′ p (doing p)) →
+        Agrees t′ (movedOn h doing astray) numbers′
+    quiet doing astray clients = record {
       sound = k .sound;
       clock = clock-on;
       numbered = numbered-on (c .step);
@@ -130,17 +162,55 @@ module _ (t t′ : Tables) (h : History) (numbers : List ℕ) (a : Agrees t h nu
       clients = clients;
     }
 
-    -- the client is at something else, or has one delivery more
-    pub quiet-turned : (d : Doing) → Activity t′ numbers′ q d → Agrees t′ (turned q d h) numbers′
-    quiet-turned d own = quiet (changed (h .doing) q d) (clients-on all-stay d own)
+    -- The client goes on with what it is at.
+    module _ (on : GoesOn t t′ q) where
+      own-stays : (d : Doing) → Activity t numbers q d → Activity t′ numbers′ q d
+      own-stays = activity-on t t′ numbers step′ q on (λ w f g. rw same-writes) (λ w f g. rw same-reads)
 
-    -- the client is at what it was at
-    pub quiet-passed : Activity t′ numbers′ q (h .doing q) → Agrees t′ (passed h) numbers′
-    quiet-passed own =
-        quiet (h .doing)
-        (λ p l. by-equal p q
-        (λ e. rw e own)
-        (λ d. rw (changed-other (h .doing) q (h .doing q) p d) at (clients-on all-stay (h .doing q) own p l)))
+      -- with nothing else, though a step may fit no transaction
+      still : (astray : ℕ) → Agrees t′ (movedOn h (h .doing) astray) numbers′
+      still astray =
+          quiet (h .doing) astray
+          (λ p l. by-equal p q
+          (λ e. rw e (own-stays (h .doing q) (a .clients q client)))
+          (λ d.
+          let others = clients-on all-stay (h .doing q) (own-stays (h .doing q) (a .clients q client)) p l in
+          rw (changed-other (h .doing) q (h .doing q) p d) at others))
+
+      -- or with one delivery more, or one lost reply
+      counts-on : (mask begin deliveries losses deliveries′ losses′ : ℕ) → h .doing q ≡ reading mask begin deliveries losses →
+          Agrees t′ (turned q (reading mask begin deliveries′ losses′) h) numbers′
+      counts-on mask begin deliveries losses deliveries′ losses′ e =
+          let own : Reading t′ numbers′ q mask begin = own-stays (reading mask begin deliveries losses) (rw e at (a .clients q client)) in
+          quiet (changed (h .doing) q (reading mask begin deliveries′ losses′)) (h .astray)
+          (clients-on all-stay (reading mask begin deliveries′ losses′) own)
+
+      pub quiet-delivered : (d : Doing) → h .doing q ≡ d → Agrees t′ (delivered d q h) numbers′
+      quiet-delivered nothing e = still (suc (h .astray))
+      quiet-delivered (writing mask badge setpoints begin) e = still (h .astray)
+      quiet-delivered (tagged tag) e = still (h .astray)
+      quiet-delivered (reading mask begin deliveries losses) e = counts-on mask begin deliveries losses (suc deliveries) losses e
+
+      pub quiet-entered : (d : Doing) → h .doing q ≡ d → NoTagDue d → Agrees t′ (entered d q h) numbers′
+      quiet-entered nothing e n = still (suc (h .astray))
+      quiet-entered (writing mask badge setpoints begin) e n = absurd n
+      quiet-entered (tagged tag) e n = still (h .astray)
+      quiet-entered (reading mask begin deliveries losses) e n = counts-on mask begin deliveries losses (suc deliveries) losses e
+
+      -- a loss, of a request or of a reply
+      pub quiet-missed : (reply : Bool) (d : Doing) → h .doing q ≡ d → Agrees t′ (missed reply d q h) numbers′
+      quiet-missed reply nothing e = still (suc (h .astray))
+      quiet-missed reply (writing mask badge setpoints begin) e = still (h .astray)
+      quiet-missed reply (tagged tag) e = still (h .astray)
+      quiet-missed reply (reading mask begin deliveries losses) e =
+          counts-on mask begin deliveries losses deliveries (lostOf reply losses) e
+
+      -- and a request sent again
+      pub quiet-repeated : (d : Doing) → Agrees t′ (repeated d h) numbers′
+      quiet-repeated nothing = still (suc (h .astray))
+      quiet-repeated (writing mask badge setpoints begin) = still (h .astray)
+      quiet-repeated (tagged tag) = still (h .astray)
+      quiet-repeated (reading mask begin deliveries losses) = still (h .astray)
 
   -- a WRITE begins
   module _ (number badge : ℕ) (begins : t′ .writes ≡ putBegun (t .writes) (writesOf t) q number step′ badge)
@@ -169,16 +239,12 @@ module _ (t t′ : Tables) (h : History) (numbers : List ℕ) (a : Agrees t h nu
         reads = λ p l d w f g. rw same-reads;
       })
           (writing mask badge setpoints (h .clock))
-          (be-storing t′ numbers′ q (writing mask badge setpoints (h .clock)) state (record {
-            mask = mask;
-            badge = badge;
-            setpoints = setpoints;
-            begin = h .clock;
-            is = refl;
+          (record {
+            writes = rw state;
             tag = rw here (write-word tagOfRecord (omega arith));
             start = rw here (write-word beginOfRecord (omega arith) ∙ sym number-now);
             known = now-known;
-          }));
+          });
     }
 
   -- a READ begins
@@ -191,7 +257,7 @@ module _ (t t′ : Tables) (h : History) (numbers : List ℕ) (a : Agrees t h nu
     read-but : But (t .reads) (t′ .reads) (readsOf t)
     read-but place f g d = rw begins (begun-but (t .reads) (readsOf t) q mask step′ 0 place f g d)
 
-    pub read-begins : Agrees t′ (turned q (reading mask (h .clock) 0) h) numbers′
+    pub read-begins : Agrees t′ (turned q (reading mask (h .clock) 0 0) h) numbers′
     read-begins = record {
       sound = k .sound;
       clock = clock-on;
@@ -207,42 +273,40 @@ module _ (t t′ : Tables) (h : History) (numbers : List ℕ) (a : Agrees t h nu
         writes = λ p l d w f g. rw same-writes;
         reads = λ p l d w f g. read-but (recordOf t p) f g (λ e. omega (arith, read-open t (a .sound) p l w .within));
       })
-          (reading mask (h .clock) 0)
-          (be-reading t′ numbers′ q (reading mask (h .clock) 0) state (record {
-            mask = mask;
-            begin = h .clock;
-            deliveries = 0;
-            is = refl;
+          (reading mask (h .clock) 0 0)
+          (record {
+            reads = state;
             masked = rw here (read-word numberOfRecord (omega arith));
             start = rw here (read-word beginOfRecord (omega arith) ∙ sym number-now);
             known = now-known;
-          }));
+          });
     }
 
   -- a WRITE gets its tag
-  module _ (w : isWriting (stateOf t q) ≡ true) (u : Untagged t numbers q (h .doing q)) (tags : t′ .writes ≡ taggedRecord (recordOf t q) (entriesOf t) (t .writes)) (same-reads : t′ .reads ≡ t .reads)
-      (c : Counts t t′ (entriesOf t + 1) (writesOf t) (readsOf t)) (state : stateOf t′ q ≡ entering) (here : recordOf t′ q ≡ recordOf t q) (kind : kindOn t′ q coordinator ≡ 2) (number : numberOn t′ q coordinator ≡ entriesOf t) where
+  module _ (mask badge : ℕ) (setpoints : List ℕ) (begin : ℕ) (u : Untagged t numbers q begin)
+      (tags : t′ .writes ≡ taggedRecord (recordOf t q) (entriesOf t) (t .writes)) (same-reads : t′ .reads ≡ t .reads)
+      (c : Counts t t′ (entriesOf t + 1) (writesOf t) (readsOf t)) (on : GoesOn t t′ q) where
     open-here : underway.Doing (t .writes) (writesOf t) q own-place
-    open-here = write-open t (a .sound) q client w
+    open-here = write-open t (a .sound) q client (u .writes)
 
     tag-but : But (t .writes) (t′ .writes) own-place
     tag-but place f g d = rw tags (tagged-but (t .writes) own-place (entriesOf t) place f g d)
 
     tag-here : recordWord (t′ .writes) own-place tagOfRecord ≡ suc (h .tags)
-    tag-here = rw tags (tagged-here (t .writes) own-place (entriesOf t) (write-row t (a .sound) q client w)) ∙ a .entries
+    tag-here = rw tags (tagged-here (t .writes) own-place (entriesOf t) (write-row t (a .sound) q client (u .writes))) ∙ a .entries
 
     tag-beside : (f : ℕ) → f < recordWidth → (f ≡ tagOfRecord → ⊥) → recordWord (t′ .writes) own-place f ≡ recordWord (t .writes) own-place f
     tag-beside f g d = rw tags (tagged-word (t .writes) own-place (entriesOf t) own-place f g d)
 
     abbrev new : Transaction
-    new = writeOf q (u .mask) (valueWritten (suc (h .tags)) (u .badge) (u .setpoints)) (suc (h .tags)) (u .begin) none
+    new = writeOf q mask (valueWritten (suc (h .tags)) badge setpoints) (suc (h .tags)) begin none
 
     new-tells : Tells numbers′ new (ofRecord true 0 (t′ .writes) own-place)
     new-tells = record {
       is = sym (rw (
         tag-here,
         tag-beside clientOfRecord (omega arith) (λ e. omega arith) ∙ open-client (t .writes) q own-place (open-here .here),
-        tag-beside beginOfRecord (omega arith) (λ e. omega arith) ∙ u .start ∙ sym (number-more numbers step′ (u .begin) (u .known)),
+        tag-beside beginOfRecord (omega arith) (λ e. omega arith) ∙ u .start ∙ sym (number-more numbers step′ begin (u .known)),
         tag-beside endOfRecord (omega arith) (λ e. omega arith) ∙ open-end (t .writes) q own-place (open-here .here),
       ));
       begun = omega (arith, u .known, clock-on, a .clock);
@@ -258,7 +322,7 @@ module _ (t t′ : Tables) (h : History) (numbers : List ℕ) (a : Agrees t h nu
       tells = new-tells;
     }
 
-    pub write-tags : Agrees t′ (given q (u .mask) (u .badge) (u .setpoints) (u .begin) h) numbers′
+    pub write-tags : Agrees t′ (given q mask badge setpoints begin h) numbers′
     write-tags = record {
       sound = k .sound;
       clock = clock-on;
@@ -274,12 +338,18 @@ module _ (t t′ : Tables) (h : History) (numbers : List ℕ) (a : Agrees t h nu
       reads = rw (same-reads, c .reads) reads-on;
       clients = clients-on (record { writes = λ p l d v. others-alike (t .writes) (t′ .writes) (writesOf t) p q (recordOf t p) own-place (write-open t (a .sound) p l v) open-here tag-but d; reads = λ p l d v f g. rw same-reads })
           (tagged (suc (h .tags)))
-          (be-tagged t′ numbers′ q (tagged (suc (h .tags))) state kind (record { is = ap tagged (sym (number ∙ a .entries)); tag = rw here (tag-here ∙ sym (number ∙ a .entries)) }));
+          (record { writes = on .writes (u .writes); tag = rw (on .place) tag-here });
     }
 
   -- a WRITE ends
-  module _ (w : isWriting (stateOf t q) ≡ true) (tag : ℕ) (some-tag : 1 ≤ tag) (logged : tag ≤ h .tags) (bears-tag : recordWord (t .writes) (recordOf t q) tagOfRecord ≡ tag)
+  module _ (tag answer : ℕ) (some-tag : 1 ≤ tag) (logged : tag ≤ h .tags) (g : Tagged t numbers q tag)
       (ends : t′ .writes ≡ endedRecord (recordOf t q) step′ (t .writes)) (same-reads : t′ .reads ≡ t .reads) (c : Counts t t′ (entriesOf t) (writesOf t) (readsOf t)) (state : stateOf t′ q ≡ idle) where
+    abbrev w : isWriting (stateOf t q) ≡ true
+    w = g .writes
+
+    abbrev bears-tag : recordWord (t .writes) own-place tagOfRecord ≡ tag
+    bears-tag = g .tag
+
     abbrev ending : Particulars → Particulars
     ending e = particulars (e .isWrite) (e .tag) (e .client) (e .mask) (e .begin) step′
 
@@ -315,7 +385,7 @@ module _ (t t′ : Tables) (h : History) (numbers : List ℕ) (a : Agrees t h nu
       tells = end-tells;
     }
 
-    pub write-ends : Agrees t′ (wrote tag (tagged tag) q h) numbers′
+    pub write-ends : Agrees t′ (wrote answer (tagged tag) q h) numbers′
     write-ends = record {
       sound = k .sound;
       clock = clock-on;
@@ -330,20 +400,26 @@ module _ (t t′ : Tables) (h : History) (numbers : List ℕ) (a : Agrees t h nu
           (λ e. d (sym (o .bears) ∙ ap (λ (i : ℕ). recordWord (t .writes) i tagOfRecord) e ∙ bears-tag))
           (λ e. d (sym e ∙ end-beside own-place tagOfRecord (omega arith) (λ z. omega arith) ∙ bears-tag)) (omega arith) (λ i y z. y)));
       reads = rw (same-reads, c .reads) reads-on;
-      clients = clients-on (record { writes = λ p l d v. others-alike (t .writes) (t′ .writes) (writesOf t) p q (recordOf t p) own-place (write-open t (a .sound) p l v) (write-open t (a .sound) q client w) end-but d; reads = λ p l d v f g. rw same-reads }) nothing (be-idle t′ numbers′ q nothing state refl);
+      clients = clients-on (record {
+        writes = λ p l d v.
+            others-alike (t .writes) (t′ .writes) (writesOf t) p q (recordOf t p) own-place (write-open t (a .sound) p l v)
+            (write-open t (a .sound) q client w) end-but d;
+        reads = λ p l d v f g. rw same-reads;
+      })
+          nothing state;
     }
 
   -- a READ ends
-  module _ (w : isReading (stateOf t q) ≡ true) (r : Reading t numbers q (h .doing q)) (tag : ℕ) (shown : Delivered)
+  module _ (mask begin deliveries losses : ℕ) (r : Reading t numbers q mask begin) (tag : ℕ) (shown : Delivered)
       (ends : t′ .reads ≡ endedRecord (recordOf t q) step′ (taggedRecord (recordOf t q) tag (t .reads))) (same-writes : t′ .writes ≡ t .writes) (c : Counts t t′ (entriesOf t) (writesOf t) (readsOf t)) (state : stateOf t′ q ≡ idle) where
     abbrev with-tag : List ℕ
     with-tag = taggedRecord own-place tag (t .reads)
 
     open-read : underway.Doing (t .reads) (readsOf t) q own-place
-    open-read = read-open t (a .sound) q client w
+    open-read = read-open t (a .sound) q client (r .reads)
 
     room : HasRow recordWidth (t .reads) own-place
-    room = read-row t (a .sound) q client w
+    room = read-row t (a .sound) q client (r .reads)
 
     over-but : But (t .reads) (t′ .reads) own-place
     over-but place f g d = rw ends (ended-but with-tag own-place step′ place f g d ∙ tagged-but (t .reads) own-place tag place f g d)
@@ -363,13 +439,13 @@ module _ (t t′ : Tables) (h : History) (numbers : List ℕ) (a : Agrees t h nu
     over-begin place = over-beside place beginOfRecord (omega arith) (λ e. omega arith) (λ e. omega arith)
 
     -- the step at which it began
-    over-start : numberAt numbers′ (r .begin) ≡ beginIn (t .reads) own-place
-    over-start = number-more numbers step′ (r .begin) (r .known) ∙ sym (r .start)
+    over-start : numberAt numbers′ begin ≡ beginIn (t .reads) own-place
+    over-start = number-more numbers step′ begin (r .known) ∙ sym (r .start)
 
     abbrev finished : Transaction
-    finished = readOf q (r .mask) (valueShown shown) tag (r .begin) (h .clock) (suc (r .deliveries))
+    finished = readOf q mask (valueShown shown) tag begin (h .clock) (suc deliveries) losses
 
-    begun-known : r .begin < length numbers′
+    begun-known : begin < length numbers′
     begun-known = omega (arith, r .known, clock-on, a .clock)
 
     over-tells : Tells numbers′ finished (ofRead (t′ .reads) own-place)
@@ -389,12 +465,12 @@ module _ (t t′ : Tables) (h : History) (numbers : List ℕ) (a : Agrees t h nu
 
     -- it began before another READ exactly where its record stands before the other's
     over-order : (p : ℕ) (y : Transaction) → p < readsOf t → (p ≡ own-place → ⊥) → Tells numbers′ y (ofRead (t .reads) p) →
-        ltb own-place p ≡ ltb (r .begin) (y .begin)
+        ltb own-place p ≡ ltb begin (y .begin)
     over-order p y l d told =
         begun-before (t .reads) (readsOf t) (stepOf t) (a .begins) numbers′ step′ numbered-now own-place p (open-read .within) l d
-        (r .begin) (y .begin) begun-known (told .begun) over-start (ap (λ (e : Particulars). e .begin) (told .is))
+        begin (y .begin) begun-known (told .begun) over-start (ap (λ (e : Particulars). e .begin) (told .is))
 
-    pub read-ends : Agrees t′ (showed tag shown (reading (r .mask) (r .begin) (r .deliveries)) q h) numbers′
+    pub read-ends : Agrees t′ (showed tag shown (reading mask begin deliveries losses) q h) numbers′
     read-ends = record {
       sound = k .sound;
       clock = clock-on;
@@ -405,5 +481,11 @@ module _ (t t′ : Tables) (h : History) (numbers : List ℕ) (a : Agrees t h nu
       reads = rw (c .reads)
           (reads-ended (t .reads) (t′ .reads) own-place over-but numbers′ (h .reads) (readsOf t) (open-read .within)
           (open-end (t .reads) q own-place (open-read .here)) (λ e. omega (arith, over-end)) finished over-tells over-order reads-on);
-      clients = clients-on (record { writes = λ p l d v f g. rw same-writes; reads = λ p l d v. others-alike (t .reads) (t′ .reads) (readsOf t) p q (recordOf t p) own-place (read-open t (a .sound) p l v) open-read over-but d }) nothing (be-idle t′ numbers′ q nothing state refl);
+      clients = clients-on (record {
+        writes = λ p l d v f g. rw same-writes;
+        reads = λ p l d v.
+            others-alike (t .reads) (t′ .reads) (readsOf t) p q (recordOf t p) own-place (read-open t (a .sound) p l v) open-read
+            over-but d;
+      })
+          nothing state;
     }

@@ -1,7 +1,7 @@
 -- The register's order is the row's order. To believe: Order; to see that it means it: Sample, and Wrong, for each part of it (Parts) a
 -- wrong listing (WrongListings). The rest is the proof, and `Theorem` has the one theorem, `SameOrder register play`: what ties records and
 -- history (Lists, Agreement), any machine that keeps the tie (Machines), the tie over a step by what becomes of a record (Grown, Laws),
--- each step (Begins to Replies).
+-- a step that changes one link (Placed), a WRITE that waits for its tag (Heads), each step (Begins to Losses).
 pub mod Order
 pub mod Sample
 pub mod Parts
@@ -12,7 +12,10 @@ pub mod Agreement
 pub mod Machines
 pub mod Grown
 pub mod Laws
+pub mod Placed
+pub mod Heads
 pub mod Begins
 pub mod Requests
 pub mod Replies
+pub mod Losses
 pub mod Theorem

@@ -9,7 +9,7 @@ use Rattle.tables.specs.Layout.{recordWord, clientOfRecord, numberOfRecord, tag
 use Rattle.tables.specs.Tables.{Tables}
 use Rattle.rules.specs.declared.Answer.the-variants.{Ok, Refused}
 use Rattle.listing.specs.Register.{Line, write, read}
-use Rattle.serial.specs.Steps.{Event, opened, begun-write, begun-read, requested, replied, Played, Machine, leftBy}
+use Rattle.serial.specs.Steps.{Event, opened, begun-write, begun-read, requested, replied, lost, resent, Played, Machine, leftBy}
 use Rattle.serial.specs.History.{Transaction, history, BehindOpenings}
 use Rattle.serial.specs.Row.{row}
 use Rattle.serial.specs.Consequences.{accepted}
@@ -50,6 +50,8 @@ numbered (begun-write q mask badge setpoints a) numbers n = numbers ++ (accepted
 numbered (begun-read q mask a) numbers n = numbers ++ (accepted (begun-read q mask a) n ∷ [])
 numbered (requested q i a) numbers n = numbers ++ (accepted (requested q i a) n ∷ [])
 numbered (replied q i d) numbers n = numbers ++ (accepted (replied q i d) n ∷ [])
+numbered (lost q i a) numbers n = numbers ++ (accepted (lost q i a) n ∷ [])
+numbered (resent q i a) numbers n = numbers ++ (accepted (resent q i a) n ∷ [])
 
 -- of a list of steps, behind `numbers` and step number n
 abbrev pub stepNumbers : List Played → List ℕ → ℕ → List ℕ

@@ -14,20 +14,22 @@ use Rattle.server.specs.Held.{appended}
 use Rattle.coordinator.specs.Log as log
 use Rattle.rules.specs.declared.Answer.the-variants.{Ok}
 use Rattle.rules.specs.Begin.{begunWrite, begunRead}
-use Rattle.rules.specs.Request.{onSet, onEnter, onWhichKeys, onGet, onGetAll, onRequestIn, requestDelivered}
+use Rattle.rules.specs.Request.{onSet, onNewSet, onEnter, onNewEnter, onWhichKeys, onGet, onGetAll, onRequestIn, requestDelivered}
 use Rattle.rules.specs.Reply.{onSetDone, onEntered, onKeys, onGot, onAll, onReplyIn, replyDelivered}
+use Rattle.rules.specs.Loss.{linkLost, sentIn, linkResent}
 use Rattle.soundness.specs.Sound.{longEnough, pressFits, scalarsSound, keyInRange, serverSound, entrySound, logSound, stateAllowed}
 use Rattle.soundness.specs.Sound.{uses, requestSound, replySound, contentSound, linkSound, receivedSound, clientSound, writeSound}
 use Rattle.soundness.specs.Sound.{readSound, openSound, recordsSound, sound}
 use Rattle.refusals.specs.Refusals.{openRefusal, writeRefusal, readRefusal, deliveryRefusal}
-use Rattle.refusals.specs.Steps.{open′, beginWrite, beginRead, deliverRequest, deliverReply}
+use Rattle.refusals.specs.Steps.{open′, beginWrite, beginRead, deliverRequest, deliverReply, lose, resend}
 use Rattle.listing.specs.Register.{placesBelow, passing, insertedAll, listedTo, register}
 use Rattle.serial.specs.Steps.{opened, play}
 use Rattle.serial.specs.History.{changed}
 use Rattle.serial.specs.Row as row
 use Rattle.serial.specs.Sample.{zeros, laterFirst}
-use Rattle.serial.specs.WrongStores.{first}
-use Rattle.serial.specs.Wrong.{thenReadByA, thenReadByB, thenReadByC, twoReads, replyLess, requestOnly, overtaken}
+use Rattle.serial.specs.WrongStores.{first, enteringTwice}
+use Rattle.serial.specs.Wrong.{thenReadByA, thenReadByB, thenReadByC, twoReads, replyLess, requestOnly, overtaken, lossyByB}
+use Rattle.serial.specs.Wrong.{enteredAgain, enteredBetween}
 use Rattle.register_order.specs.Parts as part
 use Rattle.register_order.specs.Parts.{lines, rowed, Differs, Computed, differs}
 use Rattle.register_order.specs.Parts.{Part}
@@ -64,14 +66,17 @@ record Tested : Type 0 where
   not-begin-of-write : Computed register (miswritten beginOfRecord 1) 3 thenReadByC (part.begin ∷ [])
   not-end-of-read : Computed register (misread endOfRecord 99) 3 thenReadByC (part.end ∷ [])
   not-end-of-write : Computed register (miswritten endOfRecord 0) 2 thenReadByB (part.end ∷ [])
+  not-entered-twice : Computed register enteringTwice 3 enteredAgain (part.tag ∷ [])
+  right-lossy : Computed register play 2 lossyByB []
+  right-between : Computed register play 3 enteredBetween []
 
 tested : Tested
 unfolding zeros laterFirst lines rowed changed row.readsOf row.rowTo open′ beginWrite beginRead deliverRequest deliverReply openRefusal
     writeRefusal readRefusal deliveryRefusal longEnough pressFits turns sound scalarsSound keyInRange serverSound entrySound
     logSound stateAllowed uses requestSound replySound contentSound linkSound receivedSound clientSound writeSound readSound
     openSound recordsSound allBelow anyBelow sumBelow linkAt putLink firstFrom lastBelow appended log.entered begunWrite
-    begunRead onSet onEnter onWhichKeys onGet onGetAll onRequestIn requestDelivered onSetDone onEntered onKeys onGot onAll
-    onReplyIn replyDelivered placesBelow passing inserted insertedAll listedTo
+    begunRead onSet onNewSet onEnter onNewEnter onWhichKeys onGet onGetAll onRequestIn requestDelivered onSetDone onEntered onKeys onGot
+    onAll onReplyIn replyDelivered linkLost sentIn linkResent lose resend placesBelow passing inserted insertedAll listedTo
 tested = record {
   byA = refl;
   byB = refl;
@@ -93,6 +98,9 @@ tested = record {
   not-begin-of-write = refl;
   not-end-of-read = refl;
   not-end-of-write = refl;
+  not-entered-twice = refl;
+  right-lossy = refl;
+  right-between = refl;
 }
 
 -- each opens as the store does
@@ -104,6 +112,11 @@ opensB = ap (opened 2 2 2 first) (tested .byB)
 
 opensC : opened 3 2 2 first (open′ 3 2 2 first zeros .answer) ≡ opened 3 2 2 first Ok
 opensC = ap (opened 3 2 2 first) (tested .byC)
+
+-- with every request and every reply lost once, and with a WRITE of another client between an enter request and the same sent again, the
+-- register and the row agree in every part
+pub agrees-lossy : Computed register play 2 lossyByB [] × Computed register play 3 enteredBetween []
+agrees-lossy = (tested .right-lossy, tested .right-between)
 
 -- ---- the wrong listings and records, by part
 
@@ -171,3 +184,7 @@ not-end-of-read = differs register (misread endOfRecord 99) 3 thenReadByC part.e
 
 pub not-end-of-write : Differs register (miswritten endOfRecord 0) 2 thenReadByB (part.end ∷ [])
 not-end-of-write = differs register (miswritten endOfRecord 0) 2 thenReadByB part.end [] opensB (tested .not-end-of-write)
+
+-- an enter request that is sent again gives its WRITE a second tag
+pub not-entered-twice : Differs register enteringTwice 3 enteredAgain (part.tag ∷ [])
+not-entered-twice = differs register enteringTwice 3 enteredAgain part.tag [] opensC (tested .not-entered-twice)

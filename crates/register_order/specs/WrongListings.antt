@@ -9,7 +9,7 @@ use Rattle.rules.specs.declared.Arrival.the-variants.{Wait, Next, Write, Read, 
 use Rattle.refusals.specs.Steps.{deliverReply}
 use Rattle.listing.specs.Register.{placesBelow, passing, insertedAll, isFinished, finishedBelow, hasTag, Line, write, read}
 use Rattle.listing.specs.Register.{writesOfTag, readsOfTag, register}
-use Rattle.serial.specs.Steps.{Step, opening, beginning-write, beginning-read, request, reply, Machine, play}
+use Rattle.serial.specs.Steps.{Step, opening, beginning-write, beginning-read, request, reply, losing, resending, Machine, play}
 
 -- ---- wrong listings
 
@@ -85,6 +85,8 @@ recording f (request q i) t = play (request q i) t
 recording f (reply q i) t =
     let x = play (reply q i) t in
     record { event = x .event; tables = atRead (deliverReply q i t .delivered .arrival) f (x .tables) }
+recording f (losing q i) t = play (losing q i) t
+recording f (resending q i) t = play (resending q i) t
 
 abbrev pub misread : ℕ → ℕ → Machine Step
 misread field word = recording (λ t. withReads (putRecordWord (t .reads) 0 field word) t)

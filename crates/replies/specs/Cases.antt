@@ -1,6 +1,6 @@
 -- The cases of a reply's delivery, as the code meets them.
 use Prim.Native.Nat.{ℕ, _-_}
-use mathlib.Core.Path.{_≡_, sym, _∙_, ap}
+use mathlib.Core.Path.{_≡_, refl, sym, _∙_, ap}
 use mathlib.Core.Bool.{Bool, true, false, cond}
 use mathlib.Core.List.{List}
 use native.Mathlib.Omega.{arith}
@@ -11,7 +11,7 @@ use Rattle.tables.specs.Links.{putLink, linkAt}
 use Rattle.tables.specs.Tables.{Tables, tablesOf, serversOf, stateOf, countOf, maskOf, tagOf, recordOf}
 use Rattle.tables.specs.declared.links.Contents.{Contents}
 use Rattle.tables.specs.declared.links.Content.{Content}
-use Rattle.tables.specs.declared.links.Content.the-variants.{Nothing, Request, Reply}
+use Rattle.tables.specs.declared.links.Content.the-variants.{Nothing, Request, Reply, Lost}
 use Rattle.tables.specs.declared.links.Link.{Link}
 use Rattle.rules.specs.declared.Arrival.{Arrival}
 use Rattle.rules.specs.declared.Arrival.the-variants.{Wait, Next, Write, Refused}
@@ -19,7 +19,7 @@ use Rattle.rules.specs.declared.Delivered.{Delivered}
 use Rattle.rules.specs.WordsLaws.{shown-other}
 use Rattle.rules.specs.Answers.{Arrived, arrived, nothingShown}
 use Rattle.rules.specs.Common.{idle, writing, entering, askingKeys, askingSetpoints, coordinator, request, pending, endedRecord, taggedRecord}
-use Rattle.rules.specs.Begin.{sentGets, keptTags}
+use Rattle.rules.specs.Begin.{sentGets, keptAsking}
 use Rattle.rules.specs.Reply.{said, emptied, onSetDone, onEntered, onKeys, gotValue, onGot, gotNumber, onAll}
 use Rattle.rules.specs.Reply.{onReplyIn, onReply, replyDelivered}
 use Rattle.replies.specs.Ready.{Settled, rowShown, FinishedByC}
@@ -95,7 +95,9 @@ module _ (q i : ℕ) (t : Tables) {step : ℕ} {counts links : List ℕ} (s : Se
 
   -- state 3
   pub keys-ask : (w : Contents) {clients links′ : List ℕ} {mask k : ℕ} → mask ≡ maskOf t q → k ≡ serversOf t →
-      clients ≡ keptTags q mask (t .log) (w .number - 1) k (putClientWord (putClientWord (t .clients) q tagField (w .number - 1)) q stateField askingSetpoints) →
+      clients
+      ≡ keptAsking q mask (t .log) (w .number - 1) k
+      (putClientWord (putClientWord (t .clients) q tagField (w .number - 1)) q stateField askingSetpoints) →
       links′ ≡ sentGets q mask (t .log) (w .number - 1) k links →
       said Next (tablesOf counts clients links′ (t .keys) (t .values) (t .log) (t .writes) (t .reads)) ≡ onKeys w q i t
   unfolding onKeys
@@ -131,11 +133,16 @@ module _ (q i : ℕ) (t : Tables) {l : Link} (d : l ≡ linkAt (t .links) q i) w
   by-content e f = f ∙ ap (λ (c : Content). onReply c q i t) (sym e ∙ ap (λ (k : Link). k .content) d)
 
   -- no reply is there
-  pub by-nothing : {x : Delivered} → l .content ≡ Nothing → x ≡ nothingShown (Refused 9) → arrived x t ≡ replyDelivered q i t
-  by-nothing e f = by-content e (rw f)
+  none-of : (c : Content) {x : Delivered} → l .content ≡ c → ((w : Contents) → c ≡ Reply w → ⊥) → x ≡ nothingShown (Refused 9) →
+      arrived x t ≡ replyDelivered q i t
+  none-of Nothing e n f = by-content e (rw f)
+  none-of (Request w) e n f = by-content e (rw f)
+  none-of (Reply w) e n f = absurd (n w refl)
+  none-of Lost e n f = by-content e (rw f)
 
-  pub by-request : {x : Delivered} {w : Contents} → l .content ≡ Request w → x ≡ nothingShown (Refused 9) → arrived x t ≡ replyDelivered q i t
-  by-request e f = by-content e (rw f)
+  pub by-none : {x : Delivered} → ((w : Contents) → l .content ≡ Reply w → ⊥) → x ≡ nothingShown (Refused 9) →
+      arrived x t ≡ replyDelivered q i t
+  by-none n f = none-of (l .content) refl n f
 
   pub by-reply : {w : Contents} {x : Arrived} → l .content ≡ Reply w → x ≡ onReplyIn (stateOf t q) w q i t → x ≡ replyDelivered q i t
   by-reply e f = by-content e f

@@ -13,7 +13,7 @@ use Rattle.rules.specs.Common.{counted, idle, writing, entering, askingKeys, as
 use Rattle.rules.specs.Choice.{qualifies, chosenTag, chosenSetpoint, chosenBadge}
 use Rattle.rules.specs.Reply.{shownTags, readShown, receivedIn, putReceived, tagFrom, concludedRow, chosenTags}
 use Rattle.choice.specs.Ready.{ChoiceReady}
-use Rattle.requests.specs.Ready.{Answerable}
+use Rattle.rules.specs.Filled.{Fillable}
 use Rattle.ranges.specs.LastLaws.{last-below, last-passes}
 use mathlib.Core.Bool.{Bool, true, false}
 
@@ -109,7 +109,7 @@ pub record Brings (counts clients links keys values log writes reads : List ℕ)
       (clientWord clients q stateField ≡ askingSetpoints → ⊥) → AllReady counts clients links keys values log reads q i number
 
 pub record ReplyReady (counts clients links keys values log writes reads : List ℕ) (q i : ℕ) : Type 0 where
-  pub answerable : Answerable counts links q i
+  pub fillable : Fillable counts links q i
   pub row : HasRow clientWidth clients q
   pub linked : HasLinks links q
   pub brings : (w : Contents) → linkAt links q i .content ≡ Reply w → Brings counts clients links keys values log writes reads q i (w .number)

@@ -14,7 +14,7 @@ ghost use Rattle.rules.specs.Common.{idle, entering, coordinator, request, ende
 ghost use Rattle.rules.specs.Reply.{onSetDone, onEntered, onKeys, onGot, onAll};
 ghost use Rattle.replies.specs.Ready.{Settled, CountFits, GotReady, KeysReady, rowShown, Concludable, FinishedByC, AllReady};
 ghost use Rattle.choice.specs.Ready.{ChoiceReady};
-ghost use Rattle.requests.specs.Ready.{Answerable};
+ghost use Rattle.rules.specs.Filled.{Fillable};
 use keys::Key;
 use rules::Arrival;
 use rules::Delivered;
@@ -28,20 +28,10 @@ use tables::records;
 
 // The link holds nothing now, and the step counts. The answer is the step's number.
 fn settle(counts: &mut [u32], links: &mut [u32], client: usize, target: usize) -> u32
-    requires { ⌜ Answerable (now counts) (now links) client target ⌝ }
+    requires { ⌜ Fillable (now counts) (now links) client target ⌝ }
     ensures { λ r. ⌜ Settled (now (counts .entry)) (now (links .entry)) client target r (now (counts .exit)) (now (links .exit)) ⌝ }
 {
-    links::put_link(
-        links,
-        client,
-        target,
-        links::Link {
-            content: links::Content::Nothing,
-        },
-    );
-    let step = counts::count_at(counts, counts::STEP) + 1;
-    counts::put_count(counts, counts::STEP, step);
-    step
+    rules::fill(counts, links, client, target, links::Content::Nothing)
 }
 
 // The second round of a WRITE: its key and mask go to the coordinator.
@@ -72,7 +62,7 @@ pub fn set_done(
     client: usize,
     target: usize,
 ) -> Arrival
-    requires { ⌜ Answerable (now counts) (now links) client target ⌝ }
+    requires { ⌜ Fillable (now counts) (now links) client target ⌝ }
     requires { ⌜ CountFits (now clients) client ⌝ }
     requires { ⌜ HasLinks (now links) client ⌝ }
     ensures { λ r. ⌜ ((keys values log writes reads : List ℕ) →
@@ -98,7 +88,7 @@ pub fn entered(
     target: usize,
     contents: Contents,
 ) -> Arrival
-    requires { ⌜ Answerable (now counts) (now links) client target ⌝ }
+    requires { ⌜ Fillable (now counts) (now links) client target ⌝ }
     requires { ⌜ GotReady (now clients) (now writes) client ⌝ }
     ensures { λ r. ⌜ ((keys values log reads : List ℕ) →
         arrived (nothingShown r)
@@ -124,7 +114,7 @@ pub fn keys_told(
     target: usize,
     contents: Contents,
 ) -> Arrival
-    requires { ⌜ Answerable (now counts) (now links) client target ⌝ }
+    requires { ⌜ Fillable (now counts) (now links) client target ⌝ }
     requires { ⌜ HasLinks (now links) client ⌝ }
     requires { ⌜ KeysReady (now counts) (now clients) (now log) client (contents .number) ⌝ }
     ensures { λ r. ⌜ ((keys values writes reads : List ℕ) →
@@ -172,7 +162,7 @@ pub fn got(
     target: usize,
     contents: Contents,
 ) -> bool
-    requires { ⌜ Answerable (now counts) (now links) client target ⌝ }
+    requires { ⌜ Fillable (now counts) (now links) client target ⌝ }
     requires { ⌜ (HasLinks (now links) client) × (target < 16) ⌝ }
     requires { ⌜ GotReady (now clients) (now reads) client ⌝ }
     ensures { λ r. ⌜ ((keys values log writes : List ℕ) →
@@ -266,7 +256,7 @@ pub fn all_told(
     target: usize,
     contents: Contents,
 ) -> Delivered
-    requires { ⌜ Answerable (now counts) (now links) client target ⌝ }
+    requires { ⌜ Fillable (now counts) (now links) client target ⌝ }
     requires { ⌜ AllReady (now counts) (now clients) (now links) (now keys) (now values) (now log) (now reads) client target (contents .number) ⌝ }
     ensures { λ r. ⌜ ((writes : List ℕ) →
         arrived r (tablesOf (now (counts .exit)) (now (clients .exit)) (now (links .exit)) (now (keys .entry)) (now (values .entry)) (now (log .entry)) writes (now (reads .exit)))

@@ -8,8 +8,9 @@ ghost use Rattle.tables.specs.Layout.{clientWidth, clientWord, stateField};
 ghost use Rattle.tables.specs.Links.{targets};
 ghost use Rattle.rules.specs.Answers.{left};
 ghost use Rattle.rules.specs.Common.{reply, gotReply};
-ghost use Rattle.rules.specs.Request.{onSet, onEnter, onWhichKeys, onGet, onGetAll, onRequestIn, requestDelivered};
-ghost use Rattle.requests.specs.Ready.{Answerable, AtServer, Enterable, Asks, RequestReady};
+ghost use Rattle.rules.specs.Filled.{Fillable};
+ghost use Rattle.rules.specs.Request.{onNewSet, onSet, onNewEnter, onEnter, onWhichKeys, onGet, onGetAll, onRequestIn, requestDelivered};
+ghost use Rattle.requests.specs.Ready.{AtServer, Enterable, Asks, RequestReady};
 ghost use Rattle.requests.specs.Cases.{Answered};
 use keys::Key;
 use rules::Answer;
@@ -30,7 +31,7 @@ fn answer_badged(
     badge: u32,
     number: u32,
 ) -> Answer
-    requires { ⌜ Answerable (now counts) (now links) client target ⌝ }
+    requires { ⌜ Fillable (now counts) (now links) client target ⌝ }
     ensures { λ r. ⌜ Answered (now (counts .entry)) (now (links .entry)) client target (gotReply badge number) r
         (now (counts .exit)) (now (links .exit)) ⌝ }
 {
@@ -39,16 +40,7 @@ fn answer_badged(
         number: number,
         badge: badge,
     };
-    links::put_link(
-        links,
-        client,
-        target,
-        links::Link {
-            content: links::Content::Reply(reply),
-        },
-    );
-    let step = counts::count_at(counts, counts::STEP);
-    counts::put_count(counts, counts::STEP, step + 1);
+    rules::fill(counts, links, client, target, links::Content::Reply(reply));
     Answer::Ok
 }
 
@@ -60,15 +52,15 @@ fn answer(
     target: usize,
     number: u32,
 ) -> Answer
-    requires { ⌜ Answerable (now counts) (now links) client target ⌝ }
+    requires { ⌜ Fillable (now counts) (now links) client target ⌝ }
     ensures { λ r. ⌜ Answered (now (counts .entry)) (now (links .entry)) client target (reply number) r
         (now (counts .exit)) (now (links .exit)) ⌝ }
 {
     answer_badged(counts, links, client, target, 0, number)
 }
 
-// State 1: a set request appends its version.
-fn set(
+// A set request whose key the server does not hold appends its version.
+fn set_new(
     counts: &mut [u32],
     links: &mut [u32],
     keys: &mut [u32],
@@ -77,11 +69,12 @@ fn set(
     target: usize,
     contents: Contents,
 ) -> Answer
-    requires { ⌜ Answerable (now counts) (now links) client target ⌝ }
+    requires { ⌜ Fillable (now counts) (now links) client target ⌝ }
     requires { ⌜ AtServer (now counts) (now keys) (now values) target ⌝ }
     ensures { λ r. ⌜ ((clients log writes reads : List ℕ) →
         left r (tablesOf (now (counts .exit)) clients (now (links .exit)) (now (keys .exit)) (now (values .exit)) log writes reads)
-        ≡ onSet contents client target (tablesOf (now (counts .entry)) clients (now (links .entry)) (now (keys .entry)) (now (values .entry)) log writes reads)) ⌝ }
+        ≡ onNewSet contents client target (tablesOf (now (counts .entry)) clients (now (links .entry)) (now (keys .entry))
+        (now (values .entry)) log writes reads)) ⌝ }
 {
     let key = contents.key;
     if server::append(
@@ -98,8 +91,33 @@ fn set(
     Answer::Refused(8)
 }
 
-// State 2: an enter request appends to the log; the new place is the tag, and it goes into the WRITE's record.
-fn enter(
+// State 1: a set request whose key the server holds already is acknowledged, also where the server is full; any other appends its version.
+fn set(
+    counts: &mut [u32],
+    links: &mut [u32],
+    keys: &mut [u32],
+    values: &mut [u32],
+    client: usize,
+    target: usize,
+    contents: Contents,
+) -> Answer
+    requires { ⌜ Fillable (now counts) (now links) client target ⌝ }
+    requires { ⌜ AtServer (now counts) (now keys) (now values) target ⌝ }
+    ensures { λ r. ⌜ ((clients log writes reads : List ℕ) →
+        left r (tablesOf (now (counts .exit)) clients (now (links .exit)) (now (keys .exit)) (now (values .exit)) log writes reads)
+        ≡ onSet contents client target (tablesOf (now (counts .entry)) clients (now (links .entry)) (now (keys .entry))
+        (now (values .entry)) log writes reads)) ⌝ }
+{
+    let held = counts::count_at(counts, counts::HELD + target) as usize;
+    let key = contents.key;
+    if server::find(&*keys, target, held, key) < held {
+        return answer(counts, links, client, target, 0);
+    }
+    set_new(counts, links, keys, values, client, target, contents)
+}
+
+// An enter request whose key the log lacks appends to it; the new place is the tag, and it goes into the WRITE's record.
+fn enter_new(
     counts: &mut [u32],
     clients: &[u32],
     links: &mut [u32],
@@ -109,11 +127,12 @@ fn enter(
     target: usize,
     contents: Contents,
 ) -> Answer
-    requires { ⌜ Answerable (now counts) (now links) client target ⌝ }
+    requires { ⌜ Fillable (now counts) (now links) client target ⌝ }
     requires { ⌜ Enterable (now counts) (now clients) (now log) (now writes) client ⌝ }
     ensures { λ r. ⌜ ((keys values reads : List ℕ) →
         left r (tablesOf (now (counts .exit)) (now (clients .entry)) (now (links .exit)) keys values (now (log .exit)) (now (writes .exit)) reads)
-        ≡ onEnter contents client target (tablesOf (now (counts .entry)) (now (clients .entry)) (now (links .entry)) keys values (now (log .entry)) (now (writes .entry)) reads)) ⌝ }
+        ≡ onNewEnter contents client target (tablesOf (now (counts .entry)) (now (clients .entry)) (now (links .entry)) keys values
+        (now (log .entry)) (now (writes .entry)) reads)) ⌝ }
 {
     let tag = counts::count_at(counts, counts::ENTRIES);
     let key = contents.key;
@@ -125,9 +144,46 @@ fn enter(
     Answer::Refused(8)
 }
 
+// State 2: an enter request whose key the log has already is answered with its first tag, also where the log is full; any other appends.
+fn enter(
+    counts: &mut [u32],
+    clients: &[u32],
+    links: &mut [u32],
+    log: &mut [u32],
+    writes: &mut [u32],
+    client: usize,
+    target: usize,
+    contents: Contents,
+) -> Answer
+    requires { ⌜ Fillable (now counts) (now links) client target ⌝ }
+    requires { ⌜ Enterable (now counts) (now clients) (now log) (now writes) client ⌝ }
+    ensures { λ r. ⌜ ((keys values reads : List ℕ) →
+        left r (tablesOf (now (counts .exit)) (now (clients .entry)) (now (links .exit)) keys values (now (log .exit))
+        (now (writes .exit)) reads)
+        ≡ onEnter contents client target (tablesOf (now (counts .entry)) (now (clients .entry)) (now (links .entry)) keys values
+        (now (log .entry)) (now (writes .entry)) reads)) ⌝ }
+{
+    let entries = counts::count_at(counts, counts::ENTRIES) as usize;
+    let key = contents.key;
+    let tag = coordinator::find(&*log, entries, key);
+    if tag < entries {
+        return answer(counts, links, client, target, tag as u32);
+    }
+    enter_new(
+        counts,
+        clients,
+        links,
+        log,
+        writes,
+        client,
+        target,
+        contents,
+    )
+}
+
 // State 3: the keys are those of the log's entries of this moment.
 fn which_keys(counts: &mut [u32], links: &mut [u32], client: usize, target: usize) -> Answer
-    requires { ⌜ Answerable (now counts) (now links) client target ⌝ }
+    requires { ⌜ Fillable (now counts) (now links) client target ⌝ }
     ensures { λ r. ⌜ ((clients keys values log writes reads : List ℕ) →
         left r (tablesOf (now (counts .exit)) clients (now (links .exit)) keys values log writes reads)
         ≡ onWhichKeys client target (tablesOf (now (counts .entry)) clients (now (links .entry)) keys values log writes reads)) ⌝ }
@@ -146,7 +202,7 @@ fn get(
     target: usize,
     contents: Contents,
 ) -> Answer
-    requires { ⌜ Answerable (now counts) (now links) client target ⌝ }
+    requires { ⌜ Fillable (now counts) (now links) client target ⌝ }
     requires { ⌜ AtServer (now counts) (now keys) (now values) target ⌝ }
     ensures { λ r. ⌜ ((clients log writes reads : List ℕ) →
         left r (tablesOf (now (counts .exit)) clients (now (links .exit)) (now (keys .entry)) (now (values .entry)) log writes reads)
@@ -165,7 +221,7 @@ fn get(
 
 // State 5: the n of the moment of answering is that of the log's entries, or of the versions held.
 fn get_all(counts: &mut [u32], links: &mut [u32], client: usize, target: usize) -> Answer
-    requires { ⌜ Answerable (now counts) (now links) client target ⌝ }
+    requires { ⌜ Fillable (now counts) (now links) client target ⌝ }
     requires { ⌜ target < targets ⌝ }
     ensures { λ r. ⌜ ((clients keys values log writes reads : List ℕ) →
         left r (tablesOf (now (counts .exit)) clients (now (links .exit)) keys values log writes reads)
@@ -192,7 +248,7 @@ fn answer_in_state(
     target: usize,
     contents: Contents,
 ) -> Answer
-    requires { ⌜ Answerable (now counts) (now links) client target ⌝ }
+    requires { ⌜ Fillable (now counts) (now links) client target ⌝ }
     requires { ⌜ (HasRow clientWidth (now clients) client) × (target < targets) ⌝ }
     requires { ⌜ Asks (now counts) (now clients) (now keys) (now values) (now log) (now writes) client target ⌝ }
     ensures { λ r. ⌜ ((reads : List ℕ) →
@@ -248,6 +304,7 @@ pub fn deliver_request(
     match content {
         links::Content::Nothing => Answer::Refused(9),
         links::Content::Reply(_) => Answer::Refused(9),
+        links::Content::Lost => Answer::Refused(9),
         links::Content::Request(contents) => answer_in_state(
             counts,
             clients,

@@ -17,7 +17,7 @@ use Rattle.tables.specs.Tables.{Tables, tablesOf, heldOf, contentAt}
 use Rattle.tables.specs.declared.links.Content.{Content}
 use Rattle.rules.specs.Common.{coordinator, request, setRequest, reply, gotReply}
 use Rattle.rules.specs.Begin.{keptTags}
-use Rattle.rules.specs.Request.{onNewSet, onSet, onNewEnter, onEnter, onGet}
+use Rattle.rules.specs.Request.{onNewSet, onSet, onNewEnter, onEnter, onWhichKeys, onGet}
 use Rattle.rules.specs.Loss.{sentIn}
 use Rattle.rules.specs.Reply.{gotValue, endedByC, shownTags, chosenTags}
 
@@ -58,12 +58,13 @@ placed = tablesOf (replicate countWords 0) (rising clientWidth 0) [] [] [] [] []
 abbrev setting : ℕ → Tables
 setting count = onSet (record { key = keyOf count 0; number = 45; badge = 5 }) 0 0 two .tables
 
--- client 0 enters a mask with the key of a count, in a log of three entries that has the key of count 1 twice
+-- client 0, whose record is at place 7, enters a mask with the key of a count, in a log of three entries that has the key of count 1 twice
 abbrev twice : List ℕ
 twice = 0 ∷ 3 ∷ 256 ∷ 1 ∷ 256 ∷ 2 ∷ []
 
 abbrev three : Tables
-three = tablesOf (replicate entriesField 0 ++ (3 ∷ [])) row (replicate (linkWidth * targets) 0) [] [] twice (replicate recordWidth 7) []
+three = tablesOf (replicate entriesField 0 ++ (3 ∷ [])) row (replicate (linkWidth * targets) 0) [] [] twice
+    (replicate (recordWidth * 8) 7) []
 
 abbrev entering : ℕ → Tables
 entering count = onEnter (record { key = keyOf count 0; number = 2; badge = 0 }) 0 coordinator three .tables
@@ -93,7 +94,9 @@ pub record Examples : Type 0 where
   -- "a head that has it answers its first tag", and log and record stay
   pub first : contentAt (entering 1) 0 coordinator ≡ reply 1
   pub same : entering 1 .log ≡ twice
-  pub unrecorded : entering 1 .writes ≡ replicate recordWidth 7
+  pub unrecorded : entering 1 .writes ≡ replicate (recordWidth * 8) 7
+  -- "READ requests are answered as new": a head with three entries answers three, however often it is asked
+  pub anew : contentAt (onWhichKeys 0 coordinator three .tables) 0 coordinator ≡ reply 3
   -- a panel's row gives what is sent again: to station 2 its own setpoint, and the key that it asks that station for
   pub sentSet : sentIn 1 0 2 placed ≡ setRequest (keyOf countField 0) writeBadgeField (setpointsField + 2)
   pub sentEnter : sentIn 2 0 coordinator placed ≡ request (keyOf countField 0) maskField
@@ -101,7 +104,7 @@ pub record Examples : Type 0 where
   pub sentAsk : sentIn 5 0 2 placed ≡ request opening 0
 
 pub examples : Examples
-unfolding turns lastBelow firstFrom linkAt putLink onGet onSet onNewSet onEnter onNewEnter appended entered sentIn
+unfolding turns lastBelow firstFrom linkAt putLink onGet onSet onNewSet onEnter onNewEnter onWhichKeys appended entered sentIn
 examples =
     record {
       got = refl;
@@ -119,6 +122,7 @@ examples =
       first = refl;
       same = refl;
       unrecorded = refl;
+      anew = refl;
       sentSet = refl;
       sentEnter = refl;
       sentGet = refl;

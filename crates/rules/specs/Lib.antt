@@ -7,6 +7,7 @@ pub mod Common
 pub mod Open
 pub mod Begin
 pub mod Request
+pub mod Filled
 pub mod Choice
 pub mod Reply
 pub mod Loss

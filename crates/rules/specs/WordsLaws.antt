@@ -1,10 +1,11 @@
 -- Laws of `Words`, over every field: which words a client's row has after words were kept, and which a row of 16 shows.
 use Prim.Native.Nat.{ℕ, zero, suc, _+_, _*_, _≤_, _<_}
-use mathlib.Core.Path.{_≡_, refl, _∙_}
+use mathlib.Core.Path.{_≡_, refl, _∙_, ap}
 use mathlib.Core.Bool.{Bool, true, false, cond}
-use mathlib.Core.List.{List}
+use mathlib.Core.List.{List, [], _∷_}
 use native.Mathlib.Omega.{arith}
-use lib.ListN.{getD, length, replicate, length-set}
+use native.Mathlib.Numerals.{add-one}
+use lib.ListN.{getD, set, length, replicate, length-set}
 use lib.Seq.{getD-set-same, getD-set-other}
 use Rattle.ranges.specs.Tests.{either}
 use Rattle.ranges.specs.All.{allBelow}
@@ -70,6 +71,43 @@ module _ (field q : ℕ) (wanted wanted′ : ℕ → Bool) (word word′ : ℕ �
   kept-same (suc k) e f =
       rw (e k (omega arith))
       (same-turn (wanted′ k) k (f k (omega arith)) (kept-same k (λ i l. e i (omega arith)) (λ i l. f i (omega arith))))
+
+-- Words kept from two fields on, one behind the other: a loop may keep both of a server in one turn.
+set-swap : (l : List ℕ) (i j a b : ℕ) → (i ≡ j → ⊥) → set (set l i a) j b ≡ set (set l j b) i a
+set-swap [] i j a b d = refl
+set-swap (x ∷ xs) zero zero a b d = absurd (d refl)
+set-swap (x ∷ xs) zero (suc j) a b d = refl
+set-swap (x ∷ xs) (suc i) zero a b d = refl
+set-swap (x ∷ xs) (suc i) (suc j) a b d = rw (set-swap xs i j a b (λ e. d (ap suc e)))
+
+module _ (field field′ : ℕ) (wanted : ℕ → Bool) (word word′ : ℕ → ℕ) (q : ℕ) where
+  swap-turn : (b : Bool) (i f v : ℕ) (xs : List ℕ) {ys : List ℕ} → f < field′ + i → ys ≡ putClientWord xs q f v →
+      cond b (keepWord field′ word′ q i ys) ys ≡ putClientWord (cond b (keepWord field′ word′ q i xs) xs) q f v
+  swap-turn true i f v xs l e =
+      rw e (set-swap xs (clientWidth * q + f) (clientWidth * q + (field′ + i)) v (word′ i) (λ z. omega arith))
+  swap-turn false i f v xs l e = e
+
+  -- a word ahead of the field may be put before the words are kept, or behind
+  kept-put : (k f v : ℕ) (xs : List ℕ) → f < field′ →
+      keptWords field′ wanted word′ q k (putClientWord xs q f v) ≡ putClientWord (keptWords field′ wanted word′ q k xs) q f v
+  unfolding turns
+  kept-put zero f v xs l = refl
+  kept-put (suc k) f v xs l = swap-turn (wanted k) k f v (keptWords field′ wanted word′ q k xs) (omega arith) (kept-put k f v xs l)
+
+  abbrev keptBoth : ℕ → List ℕ → List ℕ
+  keptBoth k clients = keptWords field′ wanted word′ q k (keptWords field wanted word q k clients)
+
+  both-turn : (b : Bool) (n : ℕ) (xs : List ℕ) {y z : List ℕ} → field + n < field′ → y ≡ keptWords field′ wanted word′ q n xs →
+      z ≡ cond b (keepWord field′ word′ q n (keepWord field word q n y)) y →
+      z ≡ cond b (keepWord field′ word′ q n (keptWords field′ wanted word′ q n (cond b (keepWord field word q n xs) xs)))
+      (keptWords field′ wanted word′ q n (cond b (keepWord field word q n xs) xs))
+  both-turn true n xs l d e = e ∙ rw (d, kept-put n (field + n) (word n) xs l)
+  both-turn false n xs l d e = e ∙ d
+
+  pub kept-both-more : (n : ℕ) (clients : List ℕ) {y z : List ℕ} → field + n < field′ → y ≡ keptBoth n clients →
+      z ≡ cond (wanted n) (keepWord field′ word′ q n (keepWord field word q n y)) y → z ≡ keptBoth (n + 1) clients
+  unfolding turns
+  kept-both-more n clients l d e = rw (add-one n) (both-turn (wanted n) n (keptWords field wanted word q n clients) l d e)
 
 -- a row of 16 has 16 words
 pub laid-length : (wanted : ℕ → Bool) (word : ℕ → ℕ) (k : ℕ) → length (laidWords wanted word k) ≡ 16

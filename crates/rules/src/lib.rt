@@ -3,10 +3,12 @@ ghost use mathlib.Core.Path.{_≡_};
 ghost use Rattle.tables.specs.Links.{HasLinks};
 ghost use Rattle.rules.specs.Answers.{nothingShown};
 ghost use Rattle.rules.specs.Common.{pending};
+ghost use Rattle.rules.specs.Filled.{Fillable, Filled};
 
 pub mod states;
 pub mod words;
 
+use tables::counts;
 use tables::links;
 
 // What an opening, a begin and a delivered request answer.
@@ -58,4 +60,21 @@ pub fn is_pending(links: &[u32], client: usize) -> bool
         target += 1;
     }
     false
+}
+
+// A link gets a content, and the step counts. The answer is the step's number.
+pub fn fill(
+    counts: &mut [u32],
+    links: &mut [u32],
+    client: usize,
+    target: usize,
+    content: links::Content,
+) -> u32
+    requires { ⌜ Fillable (now counts) (now links) client target ⌝ }
+    ensures { λ r. ⌜ Filled (now (counts .entry)) (now (links .entry)) client target content r (now (counts .exit)) (now (links .exit)) ⌝ }
+{
+    links::put_link(links, client, target, links::Link { content: content });
+    let step = counts::count_at(counts, counts::STEP) + 1;
+    counts::put_count(counts, counts::STEP, step);
+    step
 }

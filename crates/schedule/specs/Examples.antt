@@ -1,7 +1,7 @@
 -- Lines and the steps they name, worked out by the definition: the readings that a schedule's author may ask about.
 use mathlib.Core.Path.{_≡_, refl}
 use mathlib.Core.List.{[], _∷_}
-use Rattle.schedule.specs.declared.Step.the-variants.{Open, BeginWrite, BeginRead, Request, Reply}
+use Rattle.schedule.specs.declared.Step.the-variants.{Open, BeginWrite, BeginRead, Request, Reply, Lose, Resend}
 use Rattle.schedule.specs.Numbers.{digitOf, readOn, numberOf, spacedOf, numbersBehind}
 use Rattle.schedule.specs.Steps.{alone, unreadable, stepOf}
 
@@ -23,10 +23,24 @@ pub record Readable : Type 0 where
   pub request : stepOf (62 ∷ 32 ∷ 48 ∷ 32 ∷ 49 ∷ 54 ∷ []) ≡ alone (Request 0 16)
   -- `< 4294967295 0`
   pub largest : stepOf (60 ∷ 32 ∷ 52 ∷ 50 ∷ 57 ∷ 52 ∷ 57 ∷ 54 ∷ 55 ∷ 50 ∷ 57 ∷ 53 ∷ 32 ∷ 48 ∷ []) ≡ alone (Reply 4294967295 0)
+  -- `! 0 16`
+  pub lose : stepOf (33 ∷ 32 ∷ 48 ∷ 32 ∷ 49 ∷ 54 ∷ []) ≡ alone (Lose 0 16)
+  -- `+ 0 16`
+  pub resend : stepOf (43 ∷ 32 ∷ 48 ∷ 32 ∷ 49 ∷ 54 ∷ []) ≡ alone (Resend 0 16)
 
 readable : Readable
 unfolding stepOf numbersBehind spacedOf numberOf readOn digitOf
-readable = record { opens = refl; setpoints = refl; write = refl; badge = refl; read = refl; request = refl; largest = refl }
+readable = record {
+  opens = refl;
+  setpoints = refl;
+  write = refl;
+  badge = refl;
+  read = refl;
+  request = refl;
+  largest = refl;
+  lose = refl;
+  resend = refl;
+}
 
 -- lines that name none
 pub record Refused : Type 0 where
@@ -44,6 +58,14 @@ pub record Refused : Type 0 where
   pub noReadMask : stepOf (82 ∷ 32 ∷ 48 ∷ []) ≡ unreadable
   -- `R 0 1 5`: too many
   pub third : stepOf (82 ∷ 32 ∷ 48 ∷ 32 ∷ 49 ∷ 32 ∷ 53 ∷ []) ≡ unreadable
+  -- `! 0`: no target
+  pub noTarget : stepOf (33 ∷ 32 ∷ 48 ∷ []) ≡ unreadable
+  -- `! 0 16 1`: one number too many
+  pub loseThird : stepOf (33 ∷ 32 ∷ 48 ∷ 32 ∷ 49 ∷ 54 ∷ 32 ∷ 49 ∷ []) ≡ unreadable
+  -- `+ 0`
+  pub noResendTarget : stepOf (43 ∷ 32 ∷ 48 ∷ []) ≡ unreadable
+  -- `+ 0 16 1`
+  pub resendThird : stepOf (43 ∷ 32 ∷ 48 ∷ 32 ∷ 49 ∷ 54 ∷ 32 ∷ 49 ∷ []) ≡ unreadable
   -- `R 0 1 `: a space at the end
   pub behind : stepOf (82 ∷ 32 ∷ 48 ∷ 32 ∷ 49 ∷ 32 ∷ []) ≡ unreadable
   -- `R 0  1`: two spaces
@@ -75,6 +97,10 @@ refused = record {
   badge = refl;
   noReadMask = refl;
   third = refl;
+  noTarget = refl;
+  loseThird = refl;
+  noResendTarget = refl;
+  resendThird = refl;
   behind = refl;
   twoSpaces = refl;
   front = refl;

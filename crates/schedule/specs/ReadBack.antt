@@ -17,7 +17,7 @@ use Rattle.schedule.specs.Lines.{linesOf}
 use Rattle.schedule.specs.Decimal.{glyph, digits, decimal, spacedAll}
 use Rattle.schedule.specs.DecimalLaws.{decimal-one, decimal-more}
 use Rattle.schedule.specs.declared.Step.{Step}
-use Rattle.schedule.specs.declared.Step.the-variants.{Unreadable, Open, BeginWrite, BeginRead, Request, Reply}
+use Rattle.schedule.specs.declared.Step.the-variants.{Unreadable, Open, BeginWrite, BeginRead, Request, Reply, Lose, Resend}
 use Rattle.schedule.specs.Steps.{lineMost, badgeMost}
 use Rattle.schedule.specs.Steps.{Named, unreadable, namedOpen, namedWrite, namedPair, named, stepOf, lineByte, lineNumbers, stepText}
 use Rattle.schedule.specs.StepLaws.{step-read}
@@ -115,6 +115,8 @@ Shaped (BeginWrite client mask badge) setpoints = badge ≤ badgeMost
 Shaped (BeginRead client mask) setpoints = setpoints ≡ []
 Shaped (Request client target) setpoints = setpoints ≡ []
 Shaped (Reply client target) setpoints = setpoints ≡ []
+Shaped (Lose client target) setpoints = setpoints ≡ []
+Shaped (Resend client target) setpoints = setpoints ≡ []
 
 pub record FitsLine (n : Named) : Type 0 where
   pub numbers : AllFit (lineNumbers (n .step) (n .setpoints))
@@ -129,6 +131,8 @@ named-back (BeginWrite client mask badge) setpoints h = rw (le-leb _ _ h)
 named-back (BeginRead client mask) setpoints h = rw h
 named-back (Request client target) setpoints h = rw h
 named-back (Reply client target) setpoints h = rw h
+named-back (Lose client target) setpoints h = rw h
+named-back (Resend client target) setpoints h = rw h
 
 -- A step printed as a line is read back as that step.
 pub step-back : (n : Named) → FitsLine n → stepOf (stepText n) ≡ n
@@ -167,6 +171,8 @@ byte-no-ten (BeginWrite client mask badge) e = omega arith
 byte-no-ten (BeginRead client mask) e = omega arith
 byte-no-ten (Request client target) e = omega arith
 byte-no-ten (Reply client target) e = omega arith
+byte-no-ten (Lose client target) e = omega arith
+byte-no-ten (Resend client target) e = omega arith
 
 first-line : (text rest : List ℕ) → NoTen text → linesOf (text ++ (10 ∷ rest)) ≡ text ∷ linesOf rest
 unfolding linesOf
@@ -282,7 +288,9 @@ module _ (byte : ℕ) where
   told-pair (a ∷ b ∷ []) =
       by-test (eqb byte 82) (λ e. rw e (inr (rw (eqb-true byte 82 e))))
       (λ d. rw d (by-test (eqb byte 62) (λ e. rw e (inr (rw (eqb-true byte 62 e))))
-      (λ f. rw f (by-test (eqb byte 60) (λ e. rw e (inr (rw (eqb-true byte 60 e)))) (λ e. rw e (inl refl))))))
+      (λ f. rw f (by-test (eqb byte 60) (λ e. rw e (inr (rw (eqb-true byte 60 e))))
+      (λ g. rw g (by-test (eqb byte 33) (λ e. rw e (inr (rw (eqb-true byte 33 e))))
+      (λ h. rw h (by-test (eqb byte 43) (λ e. rw e (inr (rw (eqb-true byte 43 e)))) (λ e. rw e (inl refl))))))))))
   told-pair (a ∷ b ∷ c ∷ l) = inl refl
 
   told-named : (l : List ℕ) → Told (byte ∷ spacedAll l) (named byte l)

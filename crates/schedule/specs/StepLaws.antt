@@ -82,7 +82,9 @@ pair-alone : (byte a b : ℕ) → pairNamed byte a b .setpoints ≡ []
 pair-alone byte a b =
     either (λ (n : Named). n .setpoints ≡ []) (eqb byte 82) refl
     (either (λ (n : Named). n .setpoints ≡ []) (eqb byte 62) refl
-    (either (λ (n : Named). n .setpoints ≡ []) (eqb byte 60) refl refl))
+    (either (λ (n : Named). n .setpoints ≡ []) (eqb byte 60) refl
+    (either (λ (n : Named). n .setpoints ≡ []) (eqb byte 33) refl
+    (either (λ (n : Named). n .setpoints ≡ []) (eqb byte 43) refl refl))))
 
 pair : (byte : ℕ) (l : List ℕ) → (byte ≡ 79 → ⊥) → (byte ≡ 87 → ⊥) → named byte l ≡ namedPair byte l
 pair byte l d e = rw (ne-eqb _ _ d, ne-eqb _ _ e)

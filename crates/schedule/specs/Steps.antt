@@ -1,5 +1,6 @@
 -- "lines of at most 200 bytes before byte 10: `O method k p setpoints`, `W panel mask setpoints`, `R panel mask`, `> panel target`
--- (request), `< panel target` (reply)"; document 02: "In the yard's input W line it stands after the mask", the badge
+-- (request), `< panel target` (reply)"; document 02: "In the yard's input W line it stands after the mask", the badge; of a frame that is
+-- lost and of one that is sent again: "In the yard these are `! panel target` and `+ panel target`"
 use Prim.Native.Nat.{ℕ, _-_, _/_}
 use mathlib.Core.Path.{_≡_}
 use mathlib.Core.Bool.{cond}
@@ -7,7 +8,7 @@ use mathlib.Core.List.{List, [], _∷_, _++_}
 use lib.Dec.{eqb, leb}
 use lib.ListN.{length, drop}
 use Rattle.schedule.specs.declared.Step.{Step}
-use Rattle.schedule.specs.declared.Step.the-variants.{Unreadable, Open, BeginWrite, BeginRead, Request, Reply}
+use Rattle.schedule.specs.declared.Step.the-variants.{Unreadable, Open, BeginWrite, BeginRead, Request, Reply, Lose, Resend}
 use Rattle.schedule.specs.declared.Reading.{Reading}
 use Rattle.schedule.specs.Decimal.{spacedAll}
 use Rattle.schedule.specs.Numbers.{Read, numbersOf}
@@ -54,12 +55,15 @@ namedWrite (client ∷ mask ∷ []) = unreadable
 namedWrite (client ∷ mask ∷ badge ∷ setpoints) =
     cond (leb badge badgeMost) (record { step = BeginWrite client mask badge; setpoints = setpoints }) unreadable
 
--- the step of a first byte and just two numbers: R, > and < are 82, 62 and 60
+-- the step of a first byte and just two numbers: R, > and < are 82, 62 and 60;
+-- "In the yard these are `! panel target` and `+ panel target`": ! and + are 33 and 43
 abbrev pub pairNamed : ℕ → ℕ → ℕ → Named
 pairNamed byte client second =
     cond (eqb byte 82) (alone (BeginRead client second))
     (cond (eqb byte 62) (alone (Request client second))
-    (cond (eqb byte 60) (alone (Reply client second)) unreadable))
+    (cond (eqb byte 60) (alone (Reply client second))
+    (cond (eqb byte 33) (alone (Lose client second))
+    (cond (eqb byte 43) (alone (Resend client second)) unreadable))))
 
 abbrev pub namedPair : ℕ → List ℕ → Named
 namedPair byte [] = unreadable
@@ -100,6 +104,8 @@ lineByte (BeginWrite client mask badge) = 87
 lineByte (BeginRead client mask) = 82
 lineByte (Request client target) = 62
 lineByte (Reply client target) = 60
+lineByte (Lose client target) = 33
+lineByte (Resend client target) = 43
 
 abbrev pub lineNumbers : Step → List ℕ → List ℕ
 lineNumbers Unreadable setpoints = []
@@ -108,6 +114,8 @@ lineNumbers (BeginWrite client mask badge) setpoints = client ∷ mask ∷ badge
 lineNumbers (BeginRead client mask) setpoints = client ∷ mask ∷ []
 lineNumbers (Request client target) setpoints = client ∷ target ∷ []
 lineNumbers (Reply client target) setpoints = client ∷ target ∷ []
+lineNumbers (Lose client target) setpoints = client ∷ target ∷ []
+lineNumbers (Resend client target) setpoints = client ∷ target ∷ []
 
 abbrev pub stepText : Named → List ℕ
 stepText n = lineByte (n .step) ∷ spacedAll (lineNumbers (n .step) (n .setpoints))

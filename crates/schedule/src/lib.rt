@@ -156,6 +156,10 @@ pub enum Step {
     Request(u32, u32),
     // client, target
     Reply(u32, u32),
+    // client, target
+    Lose(u32, u32),
+    // client, target
+    Resend(u32, u32),
 }
 
 // What reading a line gives: the step, and how many setpoints its line has. They stand in the place that was lent for them.
@@ -239,6 +243,18 @@ fn name_pair(byte: u8, first: u32, second: u32) -> Reading
     if byte == b'<' {
         return Reading {
             step: Step::Reply(first, second),
+            setpoints: 0,
+        };
+    }
+    if byte == b'!' {
+        return Reading {
+            step: Step::Lose(first, second),
+            setpoints: 0,
+        };
+    }
+    if byte == b'+' {
+        return Reading {
+            step: Step::Resend(first, second),
             setpoints: 0,
         };
     }

@@ -2,7 +2,7 @@
 -- fields of the claim that say the same: `whole` and `complete`.
 use Prim.Native.Nat.{ℕ, zero, suc, _+_, _≤_, _<_}
 use mathlib.Core.Path.{_≡_, refl}
-use mathlib.Core.Bool.{true, false}
+use mathlib.Core.Bool.{Bool, true, false}
 use mathlib.Core.Option.{none, some, Option·none-ne-some, Option·some-injective}
 use mathlib.Core.List.{List, [], _∷_}
 use native.Mathlib.Omega.{arith}
@@ -16,11 +16,12 @@ use Rattle.rules.specs.declared.Answer.the-variants as answer
 use Rattle.rules.specs.declared.Arrival.{Arrival}
 use Rattle.rules.specs.declared.Arrival.the-variants as arrival
 use Rattle.rules.specs.declared.Delivered.{Delivered}
-use Rattle.serial.specs.Steps.{Event, opened, begun-write, begun-read, requested, replied, Played}
+use Rattle.serial.specs.Steps.{Event, opened, begun-write, begun-read, requested, replied, lost, resent, Played}
 use Rattle.refusals.specs.Steps.{badgeOf}
 use Rattle.serial.specs.History.{valueWritten, changed, Transaction, noWrite, Doing, nothing, writing, tagged, reading}
 use Rattle.serial.specs.History.{History, historyOf, turned, writeOf, given}
-use Rattle.serial.specs.History.{begun, delivered, entered, ended, wrote, showed, arrived, openedWith, atCoordinator, after, history}
+use Rattle.serial.specs.History.{begun, delivered, entered, ended, wrote, showed, marked, arrived, lostOf, missed, repeated}
+use Rattle.serial.specs.History.{openedWith, atCoordinator, after, history}
 use Rattle.serial.specs.Row.{readsOf, rowTo, row, at}
 use Rattle.serial.specs.Fields.{RealTimeOf}
 use Rattle.serial.proofs.Places.{changed-other, changed-all}
@@ -39,7 +40,7 @@ abbrev Begun : ℕ → Doing → Type 0
 Begun clock nothing = Unit {0}
 Begun clock (writing mask badge setpoints begin) = begin < clock
 Begun clock (tagged tag) = Unit {0}
-Begun clock (reading mask begin deliveries) = Unit {0}
+Begun clock (reading mask begin deliveries losses) = Unit {0}
 
 abbrev IsRead : Transaction → Type 0
 IsRead x = x .isWrite ≡ false
@@ -52,12 +53,16 @@ record Timely (h : History) : Type 0 where
   ends : (tag : ℕ) → tag ≤ h .tags → (end : ℕ) → h .write tag .end ≡ some end →
       (other : ℕ) → 1 ≤ other → other ≤ tag → h .write other .begin ≤ end
 
+-- what is kept of links is no part of it
+marked-timely : (q i : ℕ) (request : Bool) (h : History) → Timely h → Timely (marked q i request h)
+marked-timely q i request h ok = record { reads = ok .reads; doing = ok .doing; begun = ok .begun; ends = ok .ends }
+
 module _ (h : History) (ok : Timely h) where
   begun-on : (clock : ℕ) (d : Doing) → Begun clock d → Begun (suc clock) d
   begun-on clock nothing b = tt
   begun-on clock (writing mask badge setpoints begin) b = omega (arith, b)
   begun-on clock (tagged tag) b = tt
-  begun-on clock (reading mask begin deliveries) b = tt
+  begun-on clock (reading mask begin deliveries losses) b = tt
 
   old-doing : (q : ℕ) → Begun (suc (h .clock)) (h .doing q)
   old-doing q = begun-on (h .clock) (h .doing q) (ok .doing q)
@@ -67,7 +72,8 @@ module _ (h : History) (ok : Timely h) where
 
   -- WRITEs and READs are as they were
   kept : (doing : ℕ → Doing) (astray : ℕ) → ((q : ℕ) → Begun (suc (h .clock)) (doing q)) →
-      Timely (historyOf (h .initial) (h .extra) (suc (h .clock)) (h .tags) (h .write) (h .said) (h .reads) doing astray)
+      Timely (historyOf (h .initial) (h .extra) (suc (h .clock)) (h .tags) (h .write) (h .said) (h .reads) doing
+      (h .answered) astray)
   kept doing astray b = record {
     reads = ok .reads;
     doing = b;
@@ -76,7 +82,8 @@ module _ (h : History) (ok : Timely h) where
   }
 
   stays : (astray : ℕ) →
-      Timely (historyOf (h .initial) (h .extra) (suc (h .clock)) (h .tags) (h .write) (h .said) (h .reads) (h .doing) astray)
+      Timely (historyOf (h .initial) (h .extra) (suc (h .clock)) (h .tags) (h .write) (h .said) (h .reads) (h .doing)
+      (h .answered) astray)
   stays astray = kept (h .doing) astray old-doing
 
   turns : (q : ℕ) (d : Doing) → Begun (suc (h .clock)) d → Timely (turned q d h)
@@ -86,13 +93,13 @@ module _ (h : History) (ok : Timely h) where
   begun-timely nothing d q b = turns q d b
   begun-timely (writing mask badge setpoints begin) d q b = stays (suc (h .astray))
   begun-timely (tagged tag) d q b = stays (suc (h .astray))
-  begun-timely (reading mask begin deliveries) d q b = stays (suc (h .astray))
+  begun-timely (reading mask begin deliveries losses) d q b = stays (suc (h .astray))
 
   delivered-timely : (c : Doing) (q : ℕ) → Timely (delivered c q h)
   delivered-timely nothing q = stays (suc (h .astray))
   delivered-timely (writing mask badge setpoints begin) q = stays (h .astray)
   delivered-timely (tagged tag) q = stays (h .astray)
-  delivered-timely (reading mask begin deliveries) q = turns q (reading mask begin (suc deliveries)) tt
+  delivered-timely (reading mask begin deliveries losses) q = turns q (reading mask begin (suc deliveries) losses) tt
 
   -- a WRITE gets its tag, and has no end
   given-timely : (q mask badge : ℕ) (setpoints : List ℕ) (begin : ℕ) → begin < h .clock → Timely (given q mask badge setpoints begin h)
@@ -118,7 +125,7 @@ module _ (h : History) (ok : Timely h) where
   entered-timely (writing mask badge setpoints begin) q e =
       given-timely q mask badge setpoints begin (let b : Begun (h .clock) (writing mask badge setpoints begin) = rw e at (ok .doing q) in b)
   entered-timely (tagged tag) q e = stays (h .astray)
-  entered-timely (reading mask begin deliveries) q e = turns q (reading mask begin (suc deliveries)) tt
+  entered-timely (reading mask begin deliveries losses) q e = turns q (reading mask begin (suc deliveries) losses) tt
 
   -- a WRITE ends now, when all that have a tag had begun
   wrote-timely : (a : ℕ) (c : Doing) (q : ℕ) → Timely (wrote a c q h)
@@ -139,22 +146,34 @@ module _ (h : History) (ok : Timely h) where
             omega (arith, begins other, ok .begun other (omega arith) k, Option·some-injective (h .clock) end e))
             (λ tag ne l end e other k u. omega (arith, begins other, ok .ends tag l end e other k u));
       }
-  wrote-timely a (reading mask begin deliveries) q = stays (suc (h .astray))
+  wrote-timely a (reading mask begin deliveries losses) q = stays (suc (h .astray))
 
   showed-timely : (tag : ℕ) (d : Delivered) (c : Doing) (q : ℕ) → Timely (showed tag d c q h)
   showed-timely tag d nothing q = stays (suc (h .astray))
   showed-timely tag d (writing mask badge setpoints begin) q = stays (suc (h .astray))
   showed-timely tag d (tagged t) q = stays (suc (h .astray))
-  showed-timely tag d (reading mask begin deliveries) q =
+  showed-timely tag d (reading mask begin deliveries losses) q =
       let k = kept (changed (h .doing) q nothing) (h .astray) (new-doing q nothing tt) in
       record { reads = each-inserted _ IsRead _ (h .reads) refl (ok .reads); doing = k .doing; begun = k .begun; ends = k .ends }
 
-  arrived-timely : (a : Arrival) (d : Delivered) (q : ℕ) → Timely (arrived a d q h)
-  arrived-timely arrival.Wait d q = delivered-timely (h .doing q) q
-  arrived-timely arrival.Next d q = delivered-timely (h .doing q) q
-  arrived-timely (arrival.Write tag) d q = wrote-timely tag (h .doing q) q
-  arrived-timely (arrival.Read tag) d q = showed-timely tag d (h .doing q) q
-  arrived-timely (arrival.Refused n) d q = stays (h .astray)
+  arrived-timely : (a : Arrival) (d : Delivered) (q i : ℕ) → Timely (arrived a d q i h)
+  arrived-timely arrival.Wait d q i = marked-timely q i false _ (delivered-timely (h .doing q) q)
+  arrived-timely arrival.Next d q i = marked-timely q i false _ (delivered-timely (h .doing q) q)
+  arrived-timely (arrival.Write tag) d q i = marked-timely q i false _ (wrote-timely tag (h .doing q) q)
+  arrived-timely (arrival.Read tag) d q i = marked-timely q i false _ (showed-timely tag d (h .doing q) q)
+  arrived-timely (arrival.Refused n) d q i = stays (h .astray)
+
+  missed-timely : (reply : Bool) (c : Doing) (q : ℕ) → Timely (missed reply c q h)
+  missed-timely reply nothing q = stays (suc (h .astray))
+  missed-timely reply (writing mask badge setpoints begin) q = stays (h .astray)
+  missed-timely reply (tagged tag) q = stays (h .astray)
+  missed-timely reply (reading mask begin deliveries losses) q = turns q (reading mask begin deliveries (lostOf reply losses)) tt
+
+  repeated-timely : (c : Doing) → Timely (repeated c h)
+  repeated-timely nothing = stays (suc (h .astray))
+  repeated-timely (writing mask badge setpoints begin) = stays (h .astray)
+  repeated-timely (tagged tag) = stays (h .astray)
+  repeated-timely (reading mask begin deliveries losses) = stays (h .astray)
 
 fresh-timely : (method : ℕ) (setpoints : List ℕ) → Timely (openedWith method setpoints)
 fresh-timely method setpoints = record {
@@ -170,12 +189,17 @@ after-timely (opened method k p setpoints (answer.Refused n)) h ok = stays h ok 
 after-timely (begun-write q mask badge setpoints answer.Ok) h ok =
     begun-timely h ok (h .doing q) (writing mask (badgeOf badge) setpoints (h .clock)) q (omega arith)
 after-timely (begun-write q mask badge setpoints (answer.Refused n)) h ok = stays h ok (h .astray)
-after-timely (begun-read q mask answer.Ok) h ok = begun-timely h ok (h .doing q) (reading mask (h .clock) 0) q tt
+after-timely (begun-read q mask answer.Ok) h ok = begun-timely h ok (h .doing q) (reading mask (h .clock) 0 0) q tt
 after-timely (begun-read q mask (answer.Refused n)) h ok = stays h ok (h .astray)
 after-timely (requested q i answer.Ok) h ok =
-    either Timely (atCoordinator i) (entered-timely h ok (h .doing q) q refl) (delivered-timely h ok (h .doing q) q)
+    marked-timely q i true _
+    (either Timely (atCoordinator i) (entered-timely h ok (h .doing q) q refl) (delivered-timely h ok (h .doing q) q))
 after-timely (requested q i (answer.Refused n)) h ok = stays h ok (h .astray)
-after-timely (replied q i d) h ok = arrived-timely h ok (d .arrival) d q
+after-timely (replied q i d) h ok = arrived-timely h ok (d .arrival) d q i
+after-timely (lost q i answer.Ok) h ok = marked-timely q i false _ (missed-timely h ok _ (h .doing q) q)
+after-timely (lost q i (answer.Refused n)) h ok = stays h ok (h .astray)
+after-timely (resent q i answer.Ok) h ok = marked-timely q i false _ (repeated-timely h ok (h .doing q))
+after-timely (resent q i (answer.Refused n)) h ok = stays h ok (h .astray)
 
 history-timely : (steps : List Played) (h : History) → Timely h → Timely (history steps h)
 history-timely [] h ok = ok

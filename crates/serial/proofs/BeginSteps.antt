@@ -1,7 +1,7 @@
 -- Begins, on the tables.
 use Prim.Native.Nat.{ℕ, suc, _+_, _≤_, _<_}
 use mathlib.Core.Path.{_≡_, refl, sym, ap, _∙_, subst}
-use mathlib.Core.Bool.{true, false}
+use mathlib.Core.Bool.{true}
 use mathlib.Core.List.{List, [], _∷_}
 use native.Mathlib.Omega.{arith}
 use native.Mathlib.Numerals.{add-one}
@@ -14,21 +14,22 @@ use Rattle.keys.specs.Keys.{keyOf, opening, FitsByte}
 use Rattle.keys.specs.KeyLaws.{at-word-fits}
 use Rattle.keys.specs.Masks.{hasServer, serversIn, Within}
 use Rattle.keys.specs.MaskLaws.{some-server}
-use Rattle.coordinator.specs.Latest.{latestKey, latestTagAt}
+use Rattle.coordinator.specs.Latest.{latestKey, latestWord, latestTagAt}
 use Rattle.tables.specs.Rows.{HasRow, word-same, word-other, word-length}
 use Rattle.tables.specs.Layout.{clientWidth, clientWord, putClientWord, stateField, countField, maskField, tagField, recordField}
-use Rattle.tables.specs.Layout.{setpointsField, tagsField, writesField, readsField, recordPlaces, countWords}
+use Rattle.tables.specs.Layout.{setpointsField, tagsField, writeBadgeField, askedField, writesField, readsField, recordPlaces, countWords}
 use Rattle.tables.specs.Links.{targets, HasLinks, linkAt}
 use Rattle.tables.specs.Tables.{Tables, methodOf, serversOf, clientsOf, stepOf, writesOf, readsOf, countOf}
 use Rattle.tables.specs.declared.links.Content.{Content}
 use Rattle.tables.specs.declared.links.Content.the-variants.{Nothing}
 use Rattle.rules.specs.Answers.{left}
 use Rattle.rules.specs.Words.{every}
-use Rattle.rules.specs.WordsLaws.{kept-other}
+use Rattle.rules.specs.WordsLaws.{kept-other, kept-length}
 use Rattle.rules.specs.Common.{idle, askingKeys, askingSetpoints, askingAll, coordinator, request, setRequest, begunCounts, startedClient}
 use Rattle.rules.specs.Common as rules
-use Rattle.rules.specs.Begin.{storedSetpoints, nextCount, begunWrite, sentGets, keptTags, sendAsk, sentAsks, asking, lastTag, askingByA}
-use Rattle.rules.specs.Begin.{askingByB, askingByC, begunReadWith, begunRead}
+use Rattle.rules.specs.Begin.{storedSetpoints, startedWriter, nextCount, begunWrite, sentGets, keptTags, keptKeys, sendAsk, sentAsks}
+use Rattle.rules.specs.Begin.{asking}
+use Rattle.rules.specs.Begin.{lastTag, askingByA, askingByB, askingByC, begunReadWith, begunRead}
 use Rattle.rules.specs.declared.Answer.the-variants.{Ok}
 use Rattle.keeping.specs.Accepted.{Beginnable, Writable, Readable}
 use Rattle.keeping.specs.States.{masked-below}
@@ -43,8 +44,7 @@ use Rattle.serial.proofs.Loops.{sent-links, sent-others, kept-rows, kep
 use Rattle.serial.proofs.Ready.{Ready, few, in-range, has-row, has-link, has-links, row-at, link-at}
 use Rattle.serial.proofs.Invariant.{Idle, Tied}
 use Rattle.serial.proofs.Kept.{Kept, resting}
-use Rattle.serial.proofs.Links.{come-changed, come-none, no-coordinator, sends-come}
-use Rattle.serial.proofs.Budget.{Budget, no-rest, few-servers}
+use Rattle.serial.proofs.Budget.{Budget}
 use Rattle.serial.proofs.Fair.{Standing, Fair}
 use Rattle.serial.proofs.Spending.{write-budget, read-budget}
 use Rattle.serial.proofs.Begins.{write-kept, read-a-kept, read-b-kept, read-c-kept}
@@ -130,8 +130,15 @@ module _ (floor : ℕ → ℕ) (t : Tables) (h : History) (s : Standing floor t 
       ∙ ap (λ (x : Shared). renumbered step′ (x .writes) (x .reads) x) (shared-reads (t .counts) (readsOf t + 1) (t .keys) (t .values) (t .log) counts-long)
 
   module _ (badge : ℕ) (setpoints : List ℕ) (free : writesOf t < recordPlaces) where
+    -- the row with state, mask and place of its record, then with its count, and then with its WRITE's badge
+    abbrev firstRow : List ℕ
+    firstRow = startedClient rules.writing mask (writesOf t) q (t .clients)
+
+    abbrev countedRow : List ℕ
+    countedRow = putClientWord firstRow q countField (nextCount t q)
+
     abbrev begunClients : List ℕ
-    begunClients = putClientWord (startedClient rules.writing mask (writesOf t) q (t .clients)) q countField (nextCount t q)
+    begunClients = startedWriter mask (writesOf t) (nextCount t q) (badgeOf badge) q (t .clients)
 
     abbrev clients′ : List ℕ
     clients′ = storedSetpoints q setpoints (serversOf t) begunClients
@@ -139,20 +146,33 @@ module _ (floor : ℕ → ℕ) (t : Tables) (h : History) (s : Standing floor t 
     abbrev value : ℕ → ℕ
     value i = getD setpoints i 0
 
-    has-begun : HasRow clientWidth (startedClient rules.writing mask (writesOf t) q (t .clients)) q
+    has-begun : HasRow clientWidth firstRow q
     has-begun = started-has rules.writing mask (writesOf t) q (t .clients) (has-row t q ready)
+
+    has-counted : HasRow clientWidth countedRow q
+    has-counted = rw (word-length clientWidth firstRow q countField (nextCount t q)) has-begun
+
+    has-badge : HasRow clientWidth begunClients q
+    has-badge = rw (word-length clientWidth countedRow q writeBadgeField (badgeOf badge)) has-counted
 
     room : setpointsField + serversOf t ≤ clientWidth
     room = omega (arith, few t q ready)
 
     -- a word of the row but for the setpoints
-    begun-word : (f : ℕ) → f < setpointsField → rowOf clients′ q f ≡ clientWord begunClients q f
-    begun-word f l =
-        within-at clientWidth 0 (clientWord clients′ q) f (omega arith)
-        ∙ kept-other setpointsField every value q (serversOf t) room begunClients q f (omega arith) (λ e. omega (arith, e .1))
+    begun-word : (f : ℕ) → f < clientWidth → ((setpointsField ≤ f) × (f < setpointsField + serversOf t) → ⊥) →
+        rowOf clients′ q f ≡ clientWord begunClients q f
+    begun-word f l d =
+        within-at clientWidth 0 (clientWord clients′ q) f l
+        ∙ kept-other setpointsField every value q (serversOf t) room begunClients q f l (λ e. d (e .1, e .2))
 
-    other-word : (f : ℕ) → f < setpointsField → (f ≡ countField → ⊥) → rowOf clients′ q f ≡ clientWord (startedClient rules.writing mask (writesOf t) q (t .clients)) q f
-    other-word f l d = begun-word f l ∙ word-other clientWidth (startedClient rules.writing mask (writesOf t) q (t .clients)) q countField (nextCount t q) q f (omega arith) (omega arith) (λ e. d (e .1))
+    counted-word : (f : ℕ) → f < setpointsField → rowOf clients′ q f ≡ clientWord countedRow q f
+    counted-word f l =
+        begun-word f (omega arith) (λ e. omega (arith, e .0))
+        ∙ word-other clientWidth countedRow q writeBadgeField (badgeOf badge) q f (omega arith) (omega arith) (λ e. omega (arith, e .1))
+
+    other-word : (f : ℕ) → f < setpointsField → (f ≡ countField → ⊥) → rowOf clients′ q f ≡ clientWord firstRow q f
+    other-word f l d =
+        counted-word f l ∙ word-other clientWidth firstRow q countField (nextCount t q) q f (omega arith) (omega arith) (λ e. d (e .1))
 
     next-count : nextCount t q ≡ suc (countIn c)
     next-count = add-one (countOf t q) ∙ ap suc (sym (row-at t q countField (omega arith)))
@@ -179,12 +199,10 @@ module _ (floor : ℕ → ℕ) (t : Tables) (h : History) (s : Standing floor t 
         view-is t (begunWrite q mask (badgeOf badge) setpoints t) q writes-shared refl
         (sent-links q (sets (nextCount t q)) fits mask (serversOf t) small bound (t .links) long empty ∙ ap (λ (n : ℕ). sends mask (sets n)) next-count)
         (λ r d. kept-rows setpointsField every value q (serversOf t) room begunClients r d
-        ∙ row-put-other (startedClient rules.writing mask (writesOf t) q (t .clients)) q countField (nextCount t q) (omega arith) r d
+        ∙ row-put-other countedRow q writeBadgeField (badgeOf badge) (omega arith) r d
+        ∙ row-put-other firstRow q countField (nextCount t q) (omega arith) r d
         ∙ started-others rules.writing mask (writesOf t) q (t .clients) (has-row t q ready) r d)
         (λ r d. sent-others q (sets (nextCount t q)) fits mask (serversOf t) small bound (t .links) long empty r d)
-
-    none-there : hasServer mask coordinator ≡ false
-    none-there = no-coordinator mask (serversOf t) (few t q ready) bound
 
     write-begun : Begun (begun-write q mask badge setpoints Ok) (begunWrite q mask (badgeOf badge) setpoints t)
     write-begun = record {
@@ -192,11 +210,13 @@ module _ (floor : ℕ → ℕ) (t : Tables) (h : History) (s : Standing floor t 
           (write-kept floor (view t) h tied (few t q ready) q (in-range t q ready) resting-state mask bound some-masked (rowOf clients′ q)
           (other-word maskField (omega arith) (λ e. omega arith) ∙ started-mask rules.writing mask (writesOf t) q (t .clients) (has-row t q ready)) step′ (writesOf t + 1) (readsOf t)
           badge setpoints begun-state
-          (begun-word countField (omega arith) ∙ word-same clientWidth (startedClient rules.writing mask (writesOf t) q (t .clients)) q countField (nextCount t q) has-begun (omega arith) ∙ next-count)
-          few-counts);
-      budget = subst Budget (sym seen)
-          (write-budget (view t) budget q (in-range t q ready) free begun begun-state
-          (omega (arith, sends-come mask (sets (suc (countIn c))) (λ i. refl) none-there, few-servers mask)));
+          (counted-word countField (omega arith) ∙ word-same clientWidth firstRow q countField (nextCount t q) has-begun (omega arith)
+          ∙ next-count)
+          few-counts
+          (begun-word writeBadgeField (omega arith) (λ e. omega (arith, e .1, few t q ready))
+          ∙ word-same clientWidth countedRow q writeBadgeField (badgeOf badge) has-counted (omega arith))
+          (λ i l. kept-word setpointsField every value q (serversOf t) room begunClients has-badge i l refl));
+      budget = subst Budget (sym seen) (write-budget (view t) budget q (in-range t q ready) begun begun-state);
       answers = tt;
       room = λ z. omega arith;
       step = ap (λ (v : Press). v .shared .step) seen ∙ add-one (stepOf t);
@@ -237,10 +257,11 @@ module _ (floor : ℕ → ℕ) (t : Tables) (h : History) (s : Standing floor t 
   count-of : (state : ℕ) → clientWord (with-state state) q countField ≡ countIn c
   count-of state = started-count state mask (readsOf t) q (t .clients) (has-row t q ready) ∙ sym (row-at t q countField (omega arith))
 
-  a-fair : readsOf t < recordPlaces → h .extra ≡ 0 → Begun (begun-read q mask Ok) (begunReadWith q mask (askingByA q mask t) t)
-  a-fair free extra =
+  a-fair : h .extra ≡ 0 → Begun (begun-read q mask Ok) (begunReadWith q mask (askingByA q mask t) t)
+  a-fair extra =
       read-left clients′ (sentGets q mask (t .log) (lastTag t) (serversOf t) (t .links))
-      (λ r d. kept-rows tagsField (hasServer mask) (latestTagAt (t .log) (lastTag t)) q (serversOf t) room tagged r d
+      (λ r d. kept-rows askedField (hasServer mask) (latestWord (t .log) (lastTag t)) q (serversOf t) asked-room kept r d
+      ∙ kept-rows tagsField (hasServer mask) (latestTagAt (t .log) (lastTag t)) q (serversOf t) room tagged r d
       ∙ row-put-other (with-state askingSetpoints) q tagField (lastTag t) (omega arith) r d
       ∙ started-others askingSetpoints mask (readsOf t) q (t .clients) (has-row t q ready) r d)
       (sent-links q (gets (lastTag t)) (λ i. at-word-fits _) mask (serversOf t) small bound (t .links) long empty ∙ ap (λ (n : ℕ). sends mask (gets n)) (sym tag-is))
@@ -248,15 +269,17 @@ module _ (floor : ℕ → ℕ) (t : Tables) (h : History) (s : Standing floor t 
       (read-a-kept floor (view t) h tied (few t q ready) q (in-range t q ready) resting-state mask bound some-masked (rowOf clients′ q)
       (word maskField (omega arith) (λ e. omega arith) ∙ started-mask askingSetpoints mask (readsOf t) q (t .clients) (has-row t q ready)) step′ (writesOf t) (readsOf t + 1)
       (word countField (omega arith) (λ e. omega arith) ∙ count-of askingSetpoints)
-      extra state (tag-is ∙ last) tags-are)
-      (read-budget (view t) budget q (in-range t q ready) free asked askingSetpoints state (λ e. omega arith) (λ e. omega arith)
-      (omega (arith, no-rest asked askingSetpoints state (λ e. omega arith) (λ e. omega arith), sends-come mask (gets (rowOf clients′ q tagField)) (λ i. refl) (no-coordinator mask (serversOf t) (few t q ready) bound), few-servers mask)))
+      extra state (tag-is ∙ last) tags-are keys-are)
+      (read-budget (view t) budget q (in-range t q ready) asked askingSetpoints state (λ e. omega arith) (λ e. omega arith))
     where
       tagged : List ℕ
       tagged = putClientWord (with-state askingSetpoints) q tagField (lastTag t)
 
+      kept : List ℕ
+      kept = keptTags q mask (t .log) (lastTag t) (serversOf t) tagged
+
       clients′ : List ℕ
-      clients′ = keptTags q mask (t .log) (lastTag t) (serversOf t) tagged
+      clients′ = keptKeys q mask (t .log) (lastTag t) (serversOf t) kept
 
       started : HasRow clientWidth (with-state askingSetpoints) q
       started = started-has askingSetpoints mask (readsOf t) q (t .clients) (has-row t q ready)
@@ -264,13 +287,23 @@ module _ (floor : ℕ → ℕ) (t : Tables) (h : History) (s : Standing floor t 
       room : tagsField + serversOf t ≤ clientWidth
       room = omega (arith, few t q ready)
 
+      asked-room : askedField + serversOf t ≤ clientWidth
+      asked-room = omega (arith, few t q ready)
+
       gets : ℕ → ℕ → Content
       gets n i = request (latestKey (t .log) i n) 0
+
+      tagged-has : HasRow clientWidth tagged q
+      tagged-has = rw (word-length clientWidth (with-state askingSetpoints) q tagField (lastTag t)) started
+
+      kept-has : HasRow clientWidth kept q
+      kept-has = rw (kept-length tagsField (hasServer mask) (latestTagAt (t .log) (lastTag t)) q (serversOf t) room tagged) tagged-has
 
       -- a word ahead of the tags kept
       ahead : (f : ℕ) → f < tagsField → rowOf clients′ q f ≡ clientWord tagged q f
       ahead f l =
-          kept-ahead tagsField (hasServer mask) (latestTagAt (t .log) (lastTag t)) q (serversOf t) room tagged f l
+          kept-ahead askedField (hasServer mask) (latestWord (t .log) (lastTag t)) q (serversOf t) asked-room kept f (omega arith)
+          ∙ kept-ahead tagsField (hasServer mask) (latestTagAt (t .log) (lastTag t)) q (serversOf t) room tagged f l
           ∙ within-at clientWidth 0 (clientWord tagged q) f (omega arith)
 
       word : (f : ℕ) → f < tagsField → (f ≡ tagField → ⊥) → rowOf clients′ q f ≡ clientWord (with-state askingSetpoints) q f
@@ -292,15 +325,21 @@ module _ (floor : ℕ → ℕ) (t : Tables) (h : History) (s : Standing floor t 
       -- each wanted server's is the one that the log has at that tag
       tags-are : (i : ℕ) → hasServer mask i ≡ true → rowOf clients′ q (tagsField + i) ≡ latestTagAt (t .log) (rowOf clients′ q tagField) i
       tags-are i m =
-          kept-word tagsField (hasServer mask) (latestTagAt (t .log) (lastTag t)) q (serversOf t) room tagged
-          (rw (word-length clientWidth (with-state askingSetpoints) q tagField (lastTag t)) started) i (bound i m) m
+          kept-ahead askedField (hasServer mask) (latestWord (t .log) (lastTag t)) q (serversOf t) asked-room kept (tagsField + i)
+          (omega (arith, bound i m, few t q ready))
+          ∙ kept-word tagsField (hasServer mask) (latestTagAt (t .log) (lastTag t)) q (serversOf t) room tagged tagged-has i (bound i m) m
           ∙ ap (λ (n : ℕ). latestTagAt (t .log) n i) (sym tag-is)
+
+      keys-are : (i : ℕ) → hasServer mask i ≡ true → rowOf clients′ q (askedField + i) ≡ latestWord (t .log) (rowOf clients′ q tagField) i
+      keys-are i m =
+          kept-word askedField (hasServer mask) (latestWord (t .log) (lastTag t)) q (serversOf t) asked-room kept kept-has i (bound i m) m
+          ∙ ap (λ (n : ℕ). latestWord (t .log) n i) (sym tag-is)
 
       last : lastTag t ≡ h .tags
       last = omega (arith, tied .entries)
 
-  b-fair : readsOf t < recordPlaces → h .extra ≡ 2 → Begun (begun-read q mask Ok) (begunReadWith q mask (askingByB q mask t) t)
-  b-fair free extra =
+  b-fair : h .extra ≡ 2 → Begun (begun-read q mask Ok) (begunReadWith q mask (askingByB q mask t) t)
+  b-fair extra =
       read-left (with-state askingKeys) (sendAsk q coordinator (t .links))
       (started-others askingKeys mask (readsOf t) q (t .clients) (has-row t q ready))
       (link-put (t .links) q coordinator ask (omega arith) (has-link t q ready coordinator (omega arith)) ask-fits)
@@ -309,8 +348,7 @@ module _ (floor : ℕ → ℕ) (t : Tables) (h : History) (s : Standing floor t 
       masked step′ (writesOf t) (readsOf t + 1)
       (word-of askingKeys countField (omega arith) (count-of askingKeys))
       extra state)
-      (read-budget (view t) budget q (in-range t q ready) free asked askingKeys state (λ e. omega arith) (λ e. omega arith)
-      (rw (state, masked) (omega (arith, come-changed (c .link) coordinator ask (omega arith), come-none (c .link) (idling .links), few-servers mask))))
+      (read-budget (view t) budget q (in-range t q ready) asked askingKeys state (λ e. omega arith) (λ e. omega arith))
     where
       asked : Client
       asked = clientOf (rowOf (with-state askingKeys) q) (changed (c .link) coordinator ask)
@@ -321,8 +359,8 @@ module _ (floor : ℕ → ℕ) (t : Tables) (h : History) (s : Standing floor t 
       state : stateIn asked ≡ askingKeys
       state = word-of askingKeys stateField (omega arith) (started-state askingKeys mask (readsOf t) q (t .clients) (has-row t q ready))
 
-  c-fair : readsOf t < recordPlaces → h .extra ≡ 2 → Begun (begun-read q mask Ok) (begunReadWith q mask (askingByC q mask t) t)
-  c-fair free extra =
+  c-fair : h .extra ≡ 2 → Begun (begun-read q mask Ok) (begunReadWith q mask (askingByC q mask t) t)
+  c-fair extra =
       read-left (with-state askingAll) (sendAsk q coordinator sent)
       (started-others askingAll mask (readsOf t) q (t .clients) (has-row t q ready))
       (link-put sent q coordinator ask (omega arith) (rw (sent-length q (serversOf t) (hasServer mask) (λ i. ask) (t .links) small long) (has-link t q ready coordinator (omega arith))) ask-fits
@@ -332,8 +370,7 @@ module _ (floor : ℕ → ℕ) (t : Tables) (h : History) (s : Standing floor t 
       (word-of askingAll maskField (omega arith) (started-mask askingAll mask (readsOf t) q (t .clients) (has-row t q ready))) step′ (writesOf t) (readsOf t + 1)
       (word-of askingAll countField (omega arith) (count-of askingAll))
       extra state)
-      (read-budget (view t) budget q (in-range t q ready) free asked askingAll state (λ e. omega arith) (λ e. omega arith)
-      (omega (arith, no-rest asked askingAll state (λ e. omega arith) (λ e. omega arith), come-changed (sends mask (λ i. ask)) coordinator ask (omega arith), sends-come mask (λ i. ask) (λ i. refl) (no-coordinator mask (serversOf t) (few t q ready) bound), few-servers mask)))
+      (read-budget (view t) budget q (in-range t q ready) asked askingAll state (λ e. omega arith) (λ e. omega arith))
     where
       asked : Client
       asked = clientOf (rowOf (with-state askingAll) q) (changed (sends mask (λ i. ask)) coordinator ask)
@@ -344,15 +381,15 @@ module _ (floor : ℕ → ℕ) (t : Tables) (h : History) (s : Standing floor t 
       sent : List ℕ
       sent = sentAsks q mask (serversOf t) (t .links)
 
-  read-begun : readsOf t < recordPlaces → Begun (begun-read q mask Ok) (begunRead q mask t)
+  read-begun : Begun (begun-read q mask Ok) (begunRead q mask t)
   unfolding begunRead
-  read-begun free =
+  read-begun =
       let extra : h .extra ≡ extraOf (methodOf t) = tied .method in
       by-test (eqb (methodOf t) 1)
-      (λ a. rw a (a-fair free (rw a at extra)))
+      (λ a. rw a (a-fair (rw a at extra)))
       (λ a. by-test (eqb (methodOf t) 2)
-      (λ b. rw (a, b) (b-fair free (rw a at extra)))
-      (λ b. rw (a, b) (c-fair free (rw a at extra))))
+      (λ b. rw (a, b) (b-fair (rw a at extra)))
+      (λ b. rw (a, b) (c-fair (rw a at extra))))
 
 -- Begins, by facts: whichever refusals stand ahead of them.
 module _ (floor : ℕ → ℕ) (t : Tables) (h : History) (s : Standing floor t h) (q mask : ℕ) where
@@ -364,4 +401,4 @@ module _ (floor : ℕ → ℕ) (t : Tables) (h : History) (s : Standing floor t 
   write-fair badge setpoints a = write-begun floor t h s q mask (a .begin) badge setpoints (a .few)
 
   pub read-fair : Readable q mask t → Fair floor h (stepOf t) (record { event = begun-read q mask Ok; tables = begunRead q mask t })
-  read-fair a = read-begun floor t h s q mask (a .begin) (a .few)
+  read-fair a = read-begun floor t h s q mask (a .begin)

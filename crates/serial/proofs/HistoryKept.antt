@@ -12,15 +12,16 @@ use Rattle.rules.specs.declared.Answer.the-variants.{Ok, Refused}
 use Rattle.rules.specs.declared.Arrival.{Arrival}
 use Rattle.rules.specs.declared.Arrival.the-variants as arrival
 use Rattle.rules.specs.declared.Delivered.{Delivered}
-use Rattle.serial.specs.Steps.{Event, opened, begun-write, begun-read, requested, replied}
+use Rattle.serial.specs.Steps.{Event, opened, begun-write, begun-read, requested, replied, lost, resent}
 use Rattle.refusals.specs.Steps.{badgeOf}
 use Rattle.serial.specs.History.{Value, valueOpened, valueWritten, changed, Transaction, Doing, nothing, writing}
 use Rattle.serial.specs.History.{tagged, reading, History, historyOf, passed, turned, begun, delivered, writeOf, given, entered}
-use Rattle.serial.specs.History.{ended, wrote, showed, arrived, fresh, extraOf, atCoordinator, after}
+use Rattle.serial.specs.History.{ended, wrote, showed, marked, arrived, lostOf, missed, repeated, fresh, extraOf, atCoordinator}
+use Rattle.serial.specs.History.{after}
 use Rattle.serial.specs.Claim.{EndsAt, Unfinished}
 use Rattle.serial.proofs.Places.{changed-same, changed-other, changed-all, changed-both}
 use Rattle.serial.proofs.Lists.{pairs-inserted}
-use Rattle.serial.proofs.Owed.{valueAt, More, OwedRead, OwedArrival, Owed, floorAfter}
+use Rattle.serial.proofs.Owed.{valueAt, More, Busy, OwedRead, OwedArrival, Owed, floorAfter}
 use Rattle.serial.proofs.HistoryOk.{Timed, Rising, DoingOk, NoLater, Shown, WriteOk, HistoryOk}
 
 -- Values behind a tag go by masks and values of the WRITEs up to it.
@@ -75,7 +76,8 @@ module _ (tagsAt : ℕ → ℕ) (clock tags : ℕ) where
   doing-on old l floor (writing mask badge setpoints begin) h =
       (omega arith, omega (arith, before begin (omega (arith, h .0)), h .1), omega (arith, h .2))
   doing-on old l floor (tagged tag) h = (h .0, omega (arith, h .1))
-  doing-on old l floor (reading mask begin deliveries) h = (omega arith, omega (arith, before begin (omega (arith, h .0)), h .1), omega (arith, h .2))
+  doing-on old l floor (reading mask begin deliveries losses) h =
+      (omega arith, omega (arith, before begin (omega (arith, h .0)), h .1), omega (arith, h .2))
 
   rising-on : (old : ℕ) → old ≤ tags → tagsAt clock ≡ old → Rising clock tagsAt → Rising (suc clock) tagsAt′
   rising-on old l e r c d h k =
@@ -83,6 +85,27 @@ module _ (tagsAt : ℕ → ℕ) (clock tags : ℕ) where
       (λ q. rw (q, changed-same tagsAt (suc clock) tags)
       (changed-all tagsAt (suc clock) tags (λ x a. x ≤ suc clock → a ≤ tags) (λ m. omega arith) (λ j ne m. omega (arith, r j clock (omega arith) (omega arith))) c (omega arith)))
       (λ q. omega (arith, before c (omega arith), before d (omega arith), r c d h (omega arith)))
+
+-- what is kept of links is no part of it
+marked-ok : (tagsAt floor : ℕ → ℕ) (q i : ℕ) (request : Bool) (h : History) → HistoryOk tagsAt floor h →
+    HistoryOk tagsAt floor (marked q i request h)
+marked-ok tagsAt floor q i request h ok = record {
+  order = ok .order;
+  rising = ok .rising;
+  now = ok .now;
+  writes = ok .writes;
+  reads = ok .reads;
+  shown = ok .shown;
+  ends = ok .ends;
+  tags = ok .tags;
+  unfinished = ok .unfinished;
+  doing = ok .doing;
+  whose = ok .whose;
+}
+
+lost-more : (reply : Bool) (losses : ℕ) → losses ≤ lostOf reply losses
+lost-more true losses = omega arith
+lost-more false losses = omega arith
 
 module _ (tagsAt floor : ℕ → ℕ) (h : History) (ok : HistoryOk tagsAt floor h) where
   abbrev now′ : ℕ → ℕ
@@ -93,7 +116,8 @@ module _ (tagsAt floor : ℕ → ℕ) (h : History) (ok : HistoryOk tagsAt floor
 
   -- only what the clients are at has changed
   same-ok : (floor′ : ℕ → ℕ) (doing : ℕ → Doing) → ((q : ℕ) → Unfinished (h .extra) (doing q)) → ((q : ℕ) → DoingOk (suc (h .clock)) (h .tags) now′ (floor′ q) (doing q)) →
-      HistoryOk now′ floor′ (historyOf (h .initial) (h .extra) (suc (h .clock)) (h .tags) (h .write) (h .said) (h .reads) doing (h .astray))
+      HistoryOk now′ floor′ (historyOf (h .initial) (h .extra) (suc (h .clock)) (h .tags) (h .write) (h .said) (h .reads) doing
+      (h .answered) (h .astray))
   same-ok floor′ doing u d = record {
     rising = rising-on tagsAt (h .clock) (h .tags) (h .tags) (omega arith) (ok .now) (ok .rising);
     now = changed-same tagsAt (suc (h .clock)) (h .tags);
@@ -130,12 +154,16 @@ module _ (tagsAt floor : ℕ → ℕ) (h : History) (ok : HistoryOk tagsAt floor
   begin-now : (begin : ℕ) → begin ≡ h .clock → (begin < suc (h .clock)) × (now′ begin ≤ h .tags) × (h .tags ≤ h .tags)
   begin-now begin e = (omega arith, omega (arith, before tagsAt (h .clock) (h .tags) begin (omega arith), ap tagsAt e, ok .now), omega arith)
 
+  reading-on : (q mask begin deliveries losses : ℕ) → h .doing q ≡ reading mask begin deliveries losses →
+      DoingOk (suc (h .clock)) (h .tags) now′ (floor q) (reading mask begin deliveries losses)
+  reading-on q mask begin deliveries losses e = rw e at (old-doing q)
+
   delivered-ok : (q : ℕ) (c : Doing) → h .doing q ≡ c → More (h .extra) c → HistoryOk now′ floor (delivered c q h)
   delivered-ok q nothing e m = absurd m
   delivered-ok q (writing mask badge setpoints begin) e m = passed-ok
   delivered-ok q (tagged tag) e m = passed-ok
-  delivered-ok q (reading mask begin deliveries) e m =
-      turned-ok q (reading mask begin (suc deliveries)) m (let d : DoingOk (suc (h .clock)) (h .tags) now′ (floor q) (reading mask begin deliveries) = rw e at (old-doing q) in d)
+  delivered-ok q (reading mask begin deliveries losses) e m =
+      turned-ok q (reading mask begin (suc deliveries) losses) m (reading-on q mask begin deliveries losses e)
 
   given-ok : (q mask badge : ℕ) (setpoints : List ℕ) (begin : ℕ) → h .doing q ≡ writing mask badge setpoints begin →
       HistoryOk more floor (given q mask badge setpoints begin h)
@@ -227,19 +255,35 @@ module _ (tagsAt floor : ℕ → ℕ) (h : History) (ok : HistoryOk tagsAt floor
   entered-ok q nothing e m = absurd m
   entered-ok q (writing mask badge setpoints begin) e m = (more, given-ok q mask badge setpoints begin e)
   entered-ok q (tagged tag) e m = (now′, passed-ok)
-  entered-ok q (reading mask begin deliveries) e m = (now′, delivered-ok q (reading mask begin deliveries) e m)
+  entered-ok q (reading mask begin deliveries losses) e m = (now′, delivered-ok q (reading mask begin deliveries losses) e m)
 
   -- whichever target the test tells from the others
   requested-ok : (q : ℕ) (test : Bool) → More (h .extra) (h .doing q) → (t : ℕ → ℕ) × HistoryOk t floor (cond test (entered (h .doing q) q h) (delivered (h .doing q) q h))
   requested-ok q true m = entered-ok q (h .doing q) refl m
   requested-ok q false m = (now′, delivered-ok q (h .doing q) refl m)
 
-  arrived-ok : (q i : ℕ) (a : Arrival) (d : Delivered) → OwedArrival floor h a d q → HistoryOk now′ floor (arrived a d q h)
-  arrived-ok q i arrival.Wait d owed = delivered-ok q (h .doing q) refl owed
-  arrived-ok q i arrival.Next d owed = delivered-ok q (h .doing q) refl owed
-  arrived-ok q i (arrival.Write tag) d owed = rw owed (wrote-ok q tag owed)
-  arrived-ok q i (arrival.Read tag) d owed = showed-ok q tag d owed
+  arrived-ok : (q i : ℕ) (a : Arrival) (d : Delivered) → OwedArrival floor h a d q → HistoryOk now′ floor (arrived a d q i h)
+  arrived-ok q i arrival.Wait d owed = marked-ok now′ floor q i false _ (delivered-ok q (h .doing q) refl owed)
+  arrived-ok q i arrival.Next d owed = marked-ok now′ floor q i false _ (delivered-ok q (h .doing q) refl owed)
+  arrived-ok q i (arrival.Write tag) d owed = marked-ok now′ floor q i false _ (rw owed (wrote-ok q tag owed))
+  arrived-ok q i (arrival.Read tag) d owed = marked-ok now′ floor q i false _ (showed-ok q tag d owed)
   arrived-ok q i (arrival.Refused n) d owed = passed-ok
+
+  -- a loss only puts off the end of a READ
+  missed-ok : (q : ℕ) (reply : Bool) (c : Doing) → h .doing q ≡ c → Busy c → HistoryOk now′ floor (missed reply c q h)
+  missed-ok q reply nothing e b = absurd b
+  missed-ok q reply (writing mask badge setpoints begin) e b = passed-ok
+  missed-ok q reply (tagged tag) e b = passed-ok
+  missed-ok q reply (reading mask begin deliveries losses) e b =
+      let fewer : Unfinished (h .extra) (reading mask begin deliveries losses) = rw e at (ok .unfinished q) in
+      turned-ok q (reading mask begin deliveries (lostOf reply losses)) (omega (arith, fewer, lost-more reply losses))
+      (reading-on q mask begin deliveries losses e)
+
+  repeated-ok : (q : ℕ) (c : Doing) → Busy c → HistoryOk now′ floor (repeated c h)
+  repeated-ok q nothing b = absurd b
+  repeated-ok q (writing mask badge setpoints begin) b = passed-ok
+  repeated-ok q (tagged tag) b = passed-ok
+  repeated-ok q (reading mask begin deliveries losses) b = passed-ok
 
 pub fresh-ok : (floor : ℕ → ℕ) (initial : ℕ → Value) (extra : ℕ) → HistoryOk (λ c. 0) floor (fresh initial extra)
 fresh-ok floor initial extra = record {
@@ -265,8 +309,20 @@ after-ok tagsAt floor h ok (begun-write q mask badge setpoints Ok) owed = rw owe
       (begin-now tagsAt floor h ok (h .clock) refl),
 )
 after-ok tagsAt floor h ok (begun-write q mask badge setpoints (Refused n)) owed = (now′ tagsAt floor h ok, passed-ok tagsAt floor h ok)
-after-ok tagsAt floor h ok (begun-read q mask Ok) owed = rw (owed .0) (now′ tagsAt floor h ok, begun-ok tagsAt floor h ok q (reading mask (h .clock) 0) (owed .1) (begin-now tagsAt floor h ok (h .clock) refl))
+after-ok tagsAt floor h ok (begun-read q mask Ok) owed = rw (owed .0) (
+  now′ tagsAt floor h ok,
+  begun-ok tagsAt floor h ok q (reading mask (h .clock) 0 0) (owed .1) (begin-now tagsAt floor h ok (h .clock) refl),
+)
 after-ok tagsAt floor h ok (begun-read q mask (Refused n)) owed = (now′ tagsAt floor h ok, passed-ok tagsAt floor h ok)
-after-ok tagsAt floor h ok (requested q i Ok) owed = requested-ok tagsAt floor h ok q (atCoordinator i) owed
+after-ok tagsAt floor h ok (requested q i Ok) owed =
+    let r = requested-ok tagsAt floor h ok q (atCoordinator i) owed in (r .0, marked-ok (r .0) floor q i true _ (r .1))
 after-ok tagsAt floor h ok (requested q i (Refused n)) owed = (now′ tagsAt floor h ok, passed-ok tagsAt floor h ok)
 after-ok tagsAt floor h ok (replied q i d) owed = (now′ tagsAt floor h ok, arrived-ok tagsAt floor h ok q i (d .arrival) d owed)
+after-ok tagsAt floor h ok (lost q i Ok) owed = (
+  now′ tagsAt floor h ok,
+  marked-ok (now′ tagsAt floor h ok) floor q i false _ (missed-ok tagsAt floor h ok q _ (h .doing q) refl owed),
+)
+after-ok tagsAt floor h ok (lost q i (Refused n)) owed = (now′ tagsAt floor h ok, passed-ok tagsAt floor h ok)
+after-ok tagsAt floor h ok (resent q i Ok) owed =
+    (now′ tagsAt floor h ok, marked-ok (now′ tagsAt floor h ok) floor q i false _ (repeated-ok tagsAt floor h ok q (h .doing q) owed))
+after-ok tagsAt floor h ok (resent q i (Refused n)) owed = (now′ tagsAt floor h ok, passed-ok tagsAt floor h ok)

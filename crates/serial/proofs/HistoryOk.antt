@@ -31,7 +31,7 @@ abbrev pub DoingOk : ℕ → ℕ → (ℕ → ℕ) → ℕ → Doing → Type 0
 DoingOk clock tags tagsAt floor nothing = Unit {0}
 DoingOk clock tags tagsAt floor (writing mask badge setpoints begin) = (begin < clock) × (tagsAt begin ≤ floor) × (floor ≤ tags)
 DoingOk clock tags tagsAt floor (tagged tag) = (1 ≤ tag) × (tag ≤ tags)
-DoingOk clock tags tagsAt floor (reading mask begin deliveries) = (begin < clock) × (tagsAt begin ≤ floor) × (floor ≤ tags)
+DoingOk clock tags tagsAt floor (reading mask begin deliveries losses) = (begin < clock) × (tagsAt begin ≤ floor) × (floor ≤ tags)
 
 -- the first began no later than the second
 abbrev pub NoLater : Transaction → Transaction → Type 0

@@ -9,7 +9,7 @@ use Rattle.ranges.specs.SumLaws.{sum-more, sum-set, sum-part, sum-nothing, sum-
 use Rattle.keys.specs.Masks.{hasServer, serversIn}
 use Rattle.tables.specs.Links.{targets}
 use Rattle.tables.specs.declared.links.Content.{Content}
-use Rattle.tables.specs.declared.links.Content.the-variants.{Nothing, Request, Reply}
+use Rattle.tables.specs.declared.links.Content.the-variants.{Nothing, Request, Reply, Lost}
 use Rattle.rules.specs.Common.{coordinator}
 use Rattle.serial.specs.History.{changed}
 use Rattle.serial.proofs.Places.{changed-same, changed-other}
@@ -25,6 +25,7 @@ weight-zero : (l : Content) → weight l ≡ 0 → l ≡ Nothing
 weight-zero Nothing e = refl
 weight-zero (Request w) e = let z : ⊥ = omega arith in absurd z
 weight-zero (Reply w) e = let z : ⊥ = omega arith in absurd z
+weight-zero Lost e = let z : ⊥ = omega arith in absurd z
 
 -- nothing to come: no link holds anything
 pub all-empty : (link : ℕ → Content) → toCome link ≡ 0 → (i : ℕ) → i < targets → link i ≡ Nothing

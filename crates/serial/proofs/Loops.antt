@@ -18,7 +18,7 @@ use Rattle.tables.specs.Layout.{clientWidth, clientWord}
 use Rattle.tables.specs.Links.{targets, HasLinks, putLink, isEmpty, ContentFits}
 use Rattle.tables.specs.LinkLaws.{link-same, link-other, link-length}
 use Rattle.tables.specs.declared.links.Content.{Content}
-use Rattle.tables.specs.declared.links.Content.the-variants.{Nothing, Request, Reply}
+use Rattle.tables.specs.declared.links.Content.the-variants.{Nothing, Request, Reply, Lost}
 use Rattle.tables.specs.declared.links.Link.{Link}
 use Rattle.rules.specs.Words.{keptWords}
 use Rattle.rules.specs.WordsLaws.{kept-other, kept-there}
@@ -97,11 +97,13 @@ empty-weight : (l : Content) → isEmpty l ≡ true → weight l ≡ 0
 empty-weight Nothing e = refl
 empty-weight (Request w) e = absurd (false≢true e)
 empty-weight (Reply w) e = absurd (false≢true e)
+empty-weight Lost e = absurd (false≢true e)
 
 full-weight : (l : Content) → isEmpty l ≡ false → 0 < weight l
 full-weight Nothing e = absurd (false≢true (sym e))
 full-weight (Request w) e = omega arith
 full-weight (Reply w) e = omega arith
+full-weight Lost e = omega arith
 
 module _ (links : List ℕ) (q : ℕ) where
   abbrev full : ℕ → Bool

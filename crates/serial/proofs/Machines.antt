@@ -1,6 +1,6 @@
 -- Any machine whose every step is fair has demand 3, and what follows beside it: the one induction over lists of steps.
 use Prim.Native.Nat.{ℕ}
-use mathlib.Core.Path.{_≡_, subst}
+use mathlib.Core.Path.{_≡_, refl, subst}
 use mathlib.Core.List.{List, [], _∷_}
 use Rattle.ranges.specs.Each.{Each}
 use Rattle.tables.specs.Tables.{Tables, stepOf}
@@ -12,8 +12,6 @@ use Rattle.serial.specs.Consequences.{Consequences, Besides}
 use Rattle.serial.proofs.Owed.{floorAfter}
 use Rattle.serial.proofs.HistoryOk.{HistoryOk, claimed}
 use Rattle.serial.proofs.HistoryKept.{fresh-ok, after-ok}
-use Rattle.serial.proofs.Press.{view}
-use Rattle.serial.proofs.Budget.{taken-most}
 use Rattle.serial.proofs.Fair.{Standing, Fair}
 use Rattle.serial.proofs.Openings.{Starts}
 
@@ -29,30 +27,36 @@ pub record FairMachine {S : Type 0} (machine : Machine S) : Type 0 where
   pub sound : (step : S) (t : Tables) → Sound t → Sound (machine step t .tables)
 
 -- Along a whole list.
-pub record Ran (played : List Played) (h : History) (n : ℕ) : Type 0 where
+pub record Ran (start : Tables) (played : List Played) (h : History) (n : ℕ) : Type 0 where
   pub tagsAt : ℕ → ℕ
   pub floor : ℕ → ℕ
   pub history : HistoryOk tagsAt floor h
   pub answered : Each Answers played
-  pub consequences : Consequences played n
+  pub consequences : Consequences start played n
 
 module _ {S : Type 0} (machine : Machine S) (m : FairMachine machine) where
+  -- a step leaves tables that stand as those that it found
+  pub stands : (step : S) (floor : ℕ → ℕ) (t : Tables) (h : History) → Standing floor t h →
+      let x = machine step t in
+      Standing (floorAfter (x .event) h floor) (x .tables) (after (x .event) h)
+  stands step floor t h s =
+      let fair = m .fair step floor t h s in
+      record { sound = m .sound step t (s .sound); tied = fair .kept .1; budget = fair .budget }
+
   run-ok : (steps : List S) (tagsAt floor : ℕ → ℕ) (t : Tables) (h : History) → Standing floor t h → HistoryOk tagsAt floor h →
-      Ran (run machine steps t) (history (run machine steps t) h) (stepOf t)
+      Ran t (run machine steps t) (history (run machine steps t) h) (stepOf t)
   run-ok [] tagsAt floor t h s ok = record {
     tagsAt = tagsAt;
     floor = floor;
     history = ok;
     answered = tt;
-    consequences = record { room = tt; few = taken-most (view t) (s .budget); sound = tt };
+    consequences = record { room = tt; counted = refl; sound = tt };
   }
   run-ok (step ∷ steps) tagsAt floor t h s ok =
       let x = machine step t in
       let fair = m .fair step floor t h s in
-      let sound = m .sound step t (s .sound) in
       let next = after-ok tagsAt floor h ok (x .event) (fair .kept .0) in
-      let standing : Standing (floorAfter (x .event) h floor) (x .tables) (after (x .event) h)
-      = record { sound = sound; tied = fair .kept .1; budget = fair .budget } in
+      let standing = stands step floor t h s in
       let rest = run-ok steps (next .0) (floorAfter (x .event) h floor) (x .tables) (after (x .event) h) standing (next .1) in
       record {
         tagsAt = rest .tagsAt;
@@ -61,12 +65,12 @@ module _ {S : Type 0} (machine : Machine S) (m : FairMachine machine) where
         answered = (fair .answers, rest .answered);
         consequences = record {
           room = (fair .room, rest .consequences .room);
-          few = rw (fair .step) at (rest .consequences .few);
-          sound = (facts-sound (x .tables) sound, rest .consequences .sound);
+          counted = rw (fair .step) at (rest .consequences .counted);
+          sound = (facts-sound (x .tables) (standing .sound), rest .consequences .sound);
         };
       }
 
-  ran : BehindOpenings machine (λ start played h. Ran played (history played h) 1)
+  ran : BehindOpenings machine (λ start played h. Ran start played (history played h) 1)
   ran first t method k p setpoints e steps =
       let start = machine first t .tables in
       let s : Started (openedWith method setpoints) start = subst (λ (x : Event). Starts Started x start) e (m .starts first t) in

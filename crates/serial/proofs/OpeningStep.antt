@@ -1,6 +1,6 @@
 -- An accepted opening ties its tables to a history in which nothing has happened yet.
 use Prim.Native.Nat.{ℕ, _+_, _*_, _≤_, _<_}
-use mathlib.Core.Path.{_≡_, refl, ap, _∙_, ap₂}
+use mathlib.Core.Path.{_≡_, refl, sym, ap, _∙_, ap₂}
 use mathlib.Core.Option.{some}
 use mathlib.Core.List.{List, [], _∷_}
 use native.Mathlib.Omega.{arith}
@@ -9,6 +9,7 @@ use lib.Seq.{getD-set-other, sets}
 use lib.Dec.{ltb}
 use borrow.Author.Tests.{ltb-true, ltb-false, eq-eqb, eqb-true}
 use Rattle.ranges.specs.Tests.{by-test}
+use Rattle.ranges.specs.FirstLaws.{first-found}
 use Rattle.ranges.specs.Sum.{sumBelow}
 use Rattle.ranges.specs.SumLaws.{sum-nothing}
 use Rattle.ranges.specs.Turns.{turns-keep-below}
@@ -17,9 +18,10 @@ use Rattle.keys.specs.Keys.{keyOf, keyAtWord, opening}
 use Rattle.coordinator.specs.Latest.{latestKey, latestTag}
 use Rattle.coordinator.specs.LatestLaws.{latest-within}
 use Rattle.tables.specs.Rows.{sets-behind}
-use Rattle.tables.specs.Layout.{clientWidth, clientWord, heldField, versionWord, entryKey}
+use Rattle.tables.specs.Layout.{clientWidth, clientWord, heldField, versionWord, entryWord, entryKey}
 use Rattle.tables.specs.Links.{targets, linkAt}
-use Rattle.tables.specs.Tables.{Tables, heldOf}
+use Rattle.tables.specs.Tables.{Tables, entriesOf, heldOf}
+use Rattle.coordinator.specs.Log.{entryBears, firstEntry}
 use Rattle.tables.specs.declared.links.Content.the-variants.{Nothing}
 use Rattle.rules.specs.Common.{idle}
 use Rattle.rules.specs.Open.{cleared, holdOne, opened}
@@ -28,9 +30,9 @@ use Rattle.keeping.specs.Opening.{Opened, opened-words}
 use Rattle.serial.specs.History.{valueOpened, openedWith}
 use Rattle.serial.proofs.Owed.{valueAt}
 use Rattle.serial.proofs.Versions.{Version, versionOf, keptOf, find, is-found, found-is}
-use Rattle.serial.proofs.Press.{Client, stateIn, view}
-use Rattle.serial.proofs.Links.{come-none}
-use Rattle.serial.proofs.Budget.{waits, due, ahead, Budget, no-waits, no-due, no-rest}
+use Rattle.serial.proofs.Press.{Client, stateIn, isReply, sharedOf, view}
+use Rattle.serial.proofs.Entries.{tagOf, tag-found}
+use Rattle.serial.proofs.Budget.{waits, due, Budget, no-waits, no-due}
 use Rattle.serial.proofs.View.{within-at}
 use Rattle.serial.proofs.Invariant.{at-rest, Tied}
 
@@ -81,6 +83,17 @@ module _ (m k p : ℕ) (setpoints : List ℕ) (t : Tables) (o : Openable m k p s
       omega (arith, ap (λ (u : ℕ). versionWord (left .keys) i u) z, words .key i l))
       (λ b. let z : ⊥ = omega (arith, f .below, none-held i (ltb-false i k b)) in absurd z)
 
+  -- nor entered
+  entered : (q n tag : ℕ) → tagOf (left .log) (keyOf n q) (entriesOf left) ≡ some tag → n ≤ 0
+  entered q n tag e =
+      let f = tag-found (left .log) (keyOf n q) (entriesOf left) tag e in
+      let key = keyOf n q in
+      let l : firstEntry (left .log) key (entriesOf left) < entriesOf left = ltb-true _ _ (f .0) in
+      let z : firstEntry (left .log) key (entriesOf left) ≡ 0 = omega (arith, words .entries) in
+      let w : entryWord (left .log) (firstEntry (left .log) key (entriesOf left)) ≡ n * 256 + q =
+      eqb-true _ _ (first-found (entryBears (left .log) key) (entriesOf left) .here l) in
+      omega (arith, ap (λ (u : ℕ). entryWord (left .log) u) z, words .entrykey)
+
   row-zero : (q f : ℕ) → f < clientWidth → view left .client q .row f ≡ 0
   row-zero q f l = within-at clientWidth 0 (clientWord (left .clients) q) f l ∙ words .word q f
 
@@ -100,23 +113,25 @@ module _ (m k p : ℕ) (setpoints : List ℕ) (t : Tables) (o : Openable m k p s
     tags = λ tag l i. let z : tag ≡ 0 = omega arith in rw (z, tag-first i);
     clients = λ q l. record {
       latest = λ i n v e. omega (arith, latest q i n v e);
+      entered = λ n tag e. omega (arith, entered q n tag e);
       activity = at-rest (row-zero q 0 (omega arith)) (record { is = refl; links = link-none q });
     };
+    answered = λ q l i k. sym (ap isReply (link-none q i k));
   }
 
-  -- nothing waits, nothing is due, nothing is ahead
-  none-of : (f : Client → ℕ) → ((q : ℕ) → f (view left .client q) ≡ 0) → sumBelow (λ q. f (view left .client q)) 16 ≡ 0
-  none-of f e = sum-nothing (λ q. f (view left .client q)) 16 (λ q l. e q)
+  -- nothing waits, nothing is due
+  none-of : (f : ℕ → Client → ℕ) → ((q : ℕ) → f q (view left .client q) ≡ 0) → sumBelow (λ q. f q (view left .client q)) 16 ≡ 0
+  none-of f e = sum-nothing (λ q. f q (view left .client q)) 16 (λ q l. e q)
 
   pub opened-budget : Budget (view left)
   opened-budget =
-      let writes = words .writes in
-      let reads = words .reads in
+      let s = sharedOf left in
       let state : (q : ℕ) → stateIn (view left .client q) ≡ idle = λ q. row-zero q 0 (omega arith) in
+      let waiting : (i q : ℕ) → waits s i q (view left .client q) ≡ 0 =
+      λ i q. no-waits s q (view left .client q) idle (state q) (λ e. omega arith) i in
+      let owing : (q : ℕ) → due s q (view left .client q) ≡ 0 =
+      λ q. no-due s q (view left .client q) idle (state q) (λ e. omega arith) (λ e. omega arith) in
       record {
-        writes = omega (arith, writes);
-        reads = omega (arith, reads);
-        stored = λ i. omega (arith, writes, held-few i, none-of (waits i) (λ q. no-waits (view left .client q) idle (state q) (λ e. omega arith) i));
-        logged = omega (arith, writes, words .entries, none-of due (λ q. no-due (view left .client q) idle (state q) (λ e. omega arith) (λ e. omega arith)));
-        taken = omega (arith, writes, reads, words .step, none-of ahead (λ q. omega (arith, come-none (view left .client q .link) (link-none q), no-rest (view left .client q) idle (state q) (λ e. omega arith) (λ e. omega arith))));
+        stored = λ i. omega (arith, words .writes, held-few i, none-of (waits s i) (waiting i));
+        logged = omega (arith, words .writes, words .entries, none-of (due s) owing);
       }

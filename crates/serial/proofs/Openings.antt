@@ -9,8 +9,8 @@ use Rattle.refusals.specs.Refusals.{openRefusal}
 use Rattle.refusals.specs.Steps.{open′}
 use Rattle.refusals.specs.Either.{by-refusal}
 use Rattle.keeping.specs.Accepted.{Openable, openable}
-use Rattle.serial.specs.Steps.{Step, opening, beginning-write, beginning-read, request, reply, play}
-use Rattle.serial.specs.Steps.{Event, opened, begun-write, begun-read, requested, replied}
+use Rattle.serial.specs.Steps.{Step, opening, beginning-write, beginning-read, request, reply, losing, resending, play}
+use Rattle.serial.specs.Steps.{Event, opened, begun-write, begun-read, requested, replied, lost, resent}
 use Rattle.serial.specs.History.{History, openedWith}
 
 -- of the history that an opening begins and the tables that it leaves
@@ -23,6 +23,8 @@ module _ (P : History → Tables → Type 0) where
   Starts (begun-read q mask answer) t = Unit {0}
   Starts (requested q i answer) t = Unit {0}
   Starts (replied q i d) t = Unit {0}
+  Starts (lost q i answer) t = Unit {0}
+  Starts (resent q i answer) t = Unit {0}
 
   -- by the facts of an opening, of the store's machine
   abbrev pub ByFacts : Type 0
@@ -41,3 +43,5 @@ module _ (P : History → Tables → Type 0) where
   play-starts facts (beginning-read q mask) t = tt
   play-starts facts (request q i) t = tt
   play-starts facts (reply q i) t = tt
+  play-starts facts (losing q i) t = tt
+  play-starts facts (resending q i) t = tt

@@ -1,6 +1,6 @@
 -- The tables as the proof sees them: what all clients share, and each client with its row and its links, as functions of their places.
 use Prim.Native.Nat.{ℕ, _+_}
-use mathlib.Core.Bool.{cond}
+use mathlib.Core.Bool.{Bool, true, false, cond}
 use mathlib.Core.Option.{Option}
 use mathlib.Core.List.{List}
 use lib.Dec.{ltb}
@@ -9,15 +9,15 @@ use Rattle.keys.specs.declared.Key.{Key}
 use Rattle.keys.specs.Masks.{hasServer}
 use Rattle.coordinator.specs.Latest.{latestKey}
 use Rattle.tables.specs.Layout.{clientWidth, clientWord, stateField, countField, maskField, tagField, setpointsField, receivedField}
-use Rattle.tables.specs.Layout.{badgesField}
-use Rattle.tables.specs.Layout.{tagsField}
+use Rattle.tables.specs.Layout.{tagsField, badgesField, writeBadgeField, askedField}
 use Rattle.tables.specs.Links.{targets, linkAt}
 use Rattle.tables.specs.Tables.{Tables, methodOf, serversOf, stepOf, entriesOf, writesOf, readsOf, heldOf}
 use Rattle.tables.specs.declared.links.Contents.{Contents}
 use Rattle.tables.specs.declared.links.Content.{Content}
-use Rattle.tables.specs.declared.links.Content.the-variants.{Nothing, Request, Reply}
+use Rattle.tables.specs.declared.links.Content.the-variants.{Nothing, Request, Reply, Lost}
 use Rattle.serial.specs.History.{Value, History}
 use Rattle.serial.proofs.Versions.{Version, versionOf, keptOf, find}
+use Rattle.serial.proofs.Entries.{tagOf}
 use Rattle.serial.proofs.Owed.{valueIn}
 
 -- places from n on count for nothing
@@ -82,6 +82,13 @@ badgeIn c i = c .row (badgesField + i)
 abbrev pub keptTagIn : Client → ℕ → ℕ
 keptTagIn c i = c .row (tagsField + i)
 
+-- the badge of its WRITE, and the word of the key that it asks a server for
+abbrev pub writeBadgeIn : Client → ℕ
+writeBadgeIn c = c .row writeBadgeField
+
+abbrev pub askedIn : Client → ℕ → ℕ
+askedIn c i = c .row (askedField + i)
+
 -- the tables seen so
 abbrev pub rowOf : List ℕ → ℕ → ℕ → ℕ
 rowOf clients q = within clientWidth 0 (clientWord clients q)
@@ -98,14 +105,22 @@ sharedOf t = record { method = methodOf t; servers = serversOf t; step = stepOf 
 abbrev pub view : Tables → Press
 view t = pressOf (sharedOf t) (λ q. clientOf (rowOf (t .clients) q) (linksOf (t .links) q))
 
--- what a link has still to bring: a request two deliveries, a reply one
+-- what a link has still to bring: a request two deliveries, and so a lost one that is sent again; a reply one
 abbrev pub weight : Content → ℕ
 weight Nothing = 0
 weight (Request w) = 2
 weight (Reply w) = 1
+weight Lost = 2
 
 abbrev pub toCome : (ℕ → Content) → ℕ
 toCome link = sumBelow (λ i. weight (link i)) targets
+
+-- whether it holds a reply
+abbrev pub isReply : Content → Bool
+isReply Nothing = false
+isReply (Request w) = false
+isReply (Reply w) = true
+isReply Lost = false
 
 -- a request to each server of a mask
 unfoldable pub sends : ℕ → (ℕ → Content) → ℕ → Content
@@ -116,13 +131,21 @@ pub record World : Type 0 where
   pub servers : ℕ
   pub held : ℕ → ℕ
   pub lookup : ℕ → Key → ℕ → Option Version
+  pub entry : Key → Option ℕ
   pub tags : ℕ
   pub key : ℕ → ℕ → Key
   pub value : ℕ → ℕ → Value
 
 abbrev pub worldOf : Shared → ℕ → (ℕ → ℕ → Value) → World
-worldOf s tags value =
-    record { servers = s .servers; held = s .held; lookup = find (s .keys) (s .values); tags = tags; key = λ tag i. latestKey (s .log) i tag; value = value }
+worldOf s tags value = record {
+  servers = s .servers;
+  held = s .held;
+  lookup = find (s .keys) (s .values);
+  entry = λ key. tagOf (s .log) key (s .entries);
+  tags = tags;
+  key = λ tag i. latestKey (s .log) i tag;
+  value = value;
+}
 
 -- what is kept of the value of server i behind a tag
 abbrev pub keptAt : World → ℕ → ℕ → Version

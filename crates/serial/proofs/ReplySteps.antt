@@ -5,28 +5,27 @@ use mathlib.Core.Bool.{Bool, true, false}
 use mathlib.Core.List.{List}
 use native.Mathlib.Omega.{arith}
 use native.Mathlib.Numerals.{add-one}
-use lib.ListN.{getD, length}
+use lib.ListN.{getD}
 use Rattle.ranges.specs.Tests.{by-equal, by-test}
 use Rattle.keys.specs.Keys.{keyOf, FitsByte}
 use Rattle.keys.specs.KeyLaws.{at-word-fits}
 use Rattle.keys.specs.Masks.{hasServer}
-use Rattle.coordinator.specs.Latest.{latestKey, latestTagAt}
+use Rattle.coordinator.specs.Latest.{latestKey, latestWord, latestTagAt}
 use Rattle.tables.specs.Rows.{HasRow, word-same, word-other, word-length}
 use Rattle.tables.specs.Layout.{clientWidth, clientWord, putClientWord, stateField, countField, maskField, tagField, setpointsField}
-use Rattle.tables.specs.Layout.{badgesField}
-use Rattle.tables.specs.Layout.{receivedField, tagsField}
+use Rattle.tables.specs.Layout.{receivedField, tagsField, badgesField, askedField}
 use Rattle.tables.specs.Links.{targets, HasLinks, linkAt, putLink}
 use Rattle.tables.specs.LinkLaws.{link-length}
 use Rattle.tables.specs.Tables.{Tables, tablesOf, serversOf, stepOf, writesOf, readsOf, stateOf, countOf, maskOf, recordOf, contentAt}
 use Rattle.tables.specs.declared.links.Contents.{Contents}
 use Rattle.tables.specs.declared.links.Content.{Content}
-use Rattle.tables.specs.declared.links.Content.the-variants.{Nothing, Request, Reply}
+use Rattle.tables.specs.declared.links.Content.the-variants.{Nothing, Request, Reply, Lost}
 use Rattle.rules.specs.Answers.{Arrived, arrived, nothingShown}
 use Rattle.rules.specs.Words.{every, shownWords}
 use Rattle.rules.specs.WordsLaws.{kept-other, kept-length, kept-there, laid-at, shown-at}
 use Rattle.rules.specs.Common.{idle, entering, askingKeys, askingSetpoints, askingAll, coordinator, request, counted, nextStep, pending, endedRecord, taggedRecord}
 use Rattle.rules.specs.Common as rules
-use Rattle.rules.specs.Begin.{sentGets, keptTags}
+use Rattle.rules.specs.Begin.{sentGets, keptTags, keptKeys}
 use Rattle.rules.specs.Reply.{said, emptied, shownSetpoints, shownTags, shownBadges, readShown, onSetDone, onEntered, onKeys, gotValue}
 use Rattle.rules.specs.Reply.{onGot}
 use Rattle.rules.specs.Reply.{keptBadges, badgeAt}
@@ -42,11 +41,11 @@ use Rattle.serial.specs.Consequences.{numberOfArrival, countedArrival}
 use Rattle.serial.proofs.Places.{changed-same, changed-other}
 use Rattle.keeping.specs.Links.{link-asks, reply-kind}
 use Rattle.keeping.specs.States.{masked-server, uses-setpoints}
-use Rattle.serial.proofs.Press.{within, renumbered, Client, clientOf, Press, pressOf, stateIn, countIn, maskIn, tagIn, rowOf, linksOf, sharedOf, view, weight, toCome, sends}
+use Rattle.serial.proofs.Press.{within, renumbered, Client, clientOf, Press, pressOf, stateIn, countIn, maskIn, tagIn, rowOf}
+use Rattle.serial.proofs.Press.{linksOf, sharedOf, view, toCome, sends}
 use Rattle.serial.proofs.View.{within-at, row-put, row-put-other, link-put, link-put-other, view-is, shared-step}
-use Rattle.serial.proofs.Links.{come-changed, all-empty, no-coordinator, sends-come}
-use Rattle.serial.proofs.Budget.{Budget, no-rest}
-use Rattle.serial.proofs.Spending.{further, done-budget, last-budget}
+use Rattle.serial.proofs.Budget.{Budget}
+use Rattle.serial.proofs.Spending.{further, write-link-budget, last-budget}
 use Rattle.serial.proofs.Fair.{Standing, Fair}
 use Rattle.serial.proofs.Loops.{sent-links, sent-others, kept-rows, kept-ahead, kept-word, pending-come, none-come}
 use Rattle.serial.proofs.Ready.{Ready, few, in-range, has-row, has-link, has-links, row-at, link-at, not-empty, at-coordinator}
@@ -144,12 +143,9 @@ module _ (floor : ℕ → ℕ) (t : Tables) (h : History) (s : Standing floor t 
     none-left : pending (emptied q i t) q ≡ false → toCome gone ≡ 0
     none-left e = subst (λ (l : ℕ → Content). toCome l ≡ 0) gone-links (none-come (emptied q i t) q e)
 
-    -- one delivery further, where no second round is to come
-    gone-come : toCome gone + 1 ≡ toCome (c .link)
-    gone-come = omega (arith, come-changed (c .link) i Nothing hi, ap weight link)
-
-    gone-budget : (row : ℕ → ℕ) (state : ℕ) → row stateField ≡ state → (state ≡ rules.writing → ⊥) → (state ≡ entering → ⊥) → (state ≡ askingKeys → ⊥) → Budget (movedPress row gone)
-    gone-budget row state is a b d = further (view t) budget q (in-range t q ready) (clientOf row gone) state is a b (omega (arith, gone-come, no-rest (clientOf row gone) state is a d))
+    gone-budget : (row : ℕ → ℕ) (state : ℕ) → row stateField ≡ state → (state ≡ rules.writing → ⊥) → (state ≡ entering → ⊥) →
+        Budget (movedPress row gone)
+    gone-budget row state is a b = further (view t) budget q (in-range t q ready) (clientOf row gone) state is a b
 
     done-fair : stateIn c ≡ rules.writing → Does floor (view t) h q Writing → Okay (onSetDone q i t)
     unfolding onSetDone
@@ -158,7 +154,7 @@ module _ (floor : ℕ → ℕ) (t : Tables) (h : History) (s : Standing floor t 
         (λ b. rw b (
         moved-fair (t .clients) (emptied q i t) (t .writes) (t .reads) (nothingShown arrival.Wait) refl (λ r d. refl) gone-links gone-others (λ z. omega arith) refl
         (done-wait-kept floor (view t) h tied (few t q ready) q (in-range t q ready) (stepOf t + 1) (writesOf t) (readsOf t) i hi w link a state)
-        (done-budget (view t) budget q (in-range t q ready) i hi w link state)
+        (write-link-budget (view t) budget q (in-range t q ready) i Nothing state (omega arith))
         ))
         (λ b. rw b (
         moved-fair (putClientWord (t .clients) q stateField entering) (putLink (emptied q i t) q coordinator enter) (t .writes) (t .reads) (nothingShown arrival.Next)
@@ -167,15 +163,12 @@ module _ (floor : ℕ → ℕ) (t : Tables) (h : History) (s : Standing floor t 
         (λ r d. link-put-other (emptied q i t) q coordinator enter (omega arith) r d ∙ gone-others r d) (λ z. omega arith) refl
         (done-next-kept floor (view t) h tied (few t q ready) q (in-range t q ready) (stepOf t + 1) (writesOf t) (readsOf t) i hi w link a (none-left b) (changed (c .row) stateField entering)
         (changed-same (c .row) stateField entering) (changed-other (c .row) stateField entering countField (λ e. omega arith)) (changed-other (c .row) stateField entering maskField (λ e. omega arith)))
-        (last-budget (view t) budget q (in-range t q ready) (clientOf (changed (c .row) stateField entering) (changed gone coordinator (request (keyOf (countIn c) q) (maskIn c)))) (changed-same (c .row) stateField entering) state
-        (rw state (omega (arith, gone-come))) (entry-come (none-left b)))
+        (last-budget (view t) budget q (in-range t q ready) (clientOf (changed (c .row) stateField entering)
+        (changed gone coordinator (request (keyOf (countIn c) q) (maskIn c)))) (changed-same (c .row) stateField entering) state)
         ))
       where
         enter : Content
         enter = request (keyOf (countOf t q) q) (maskOf t q)
-
-        entry-come : toCome gone ≡ 0 → toCome (changed gone coordinator (request (keyOf (countIn c) q) (maskIn c))) ≡ 2
-        entry-come e = omega (arith, come-changed gone coordinator (request (keyOf (countIn c) q) (maskIn c)) (omega arith), ap weight (all-empty gone e coordinator (omega arith)))
 
         fits : FitsByte (keyOf (countOf t q) q)
         fits = record { count = rw (row-at t q countField (omega arith)) at (a .few); client = omega (arith, in-range t q ready) }
@@ -192,7 +185,8 @@ module _ (floor : ℕ → ℕ) (t : Tables) (h : History) (s : Standing floor t 
         (two-words tagField (w .number) stateField idle (omega arith) (omega arith)) (two-others tagField (w .number) stateField idle (omega arith) (omega arith)) gone-links gone-others (λ z. omega arith) refl
         (rw at (entered-kept floor (view t) h tied (few t q ready) q (in-range t q ready) (stepOf t + 1) (writesOf t) (readsOf t) w there a (changed (changed (c .row) tagField (w .number)) stateField idle)
         (changed-same (changed (c .row) tagField (w .number)) stateField idle) (left-by tagField (w .number) stateField idle countField (λ e. omega arith) (λ e. omega arith))))
-        (gone-budget (changed (changed (c .row) tagField (w .number)) stateField idle) idle (changed-same (changed (c .row) tagField (w .number)) stateField idle) (λ e. omega arith) (λ e. omega arith) (λ e. omega arith))
+        (gone-budget (changed (changed (c .row) tagField (w .number)) stateField idle) idle
+        (changed-same (changed (c .row) tagField (w .number)) stateField idle) (λ e. omega arith) (λ e. omega arith))
 
     mask-at : maskIn c ≡ maskOf t q
     mask-at = row-at t q maskField (omega arith)
@@ -206,20 +200,23 @@ module _ (floor : ℕ → ℕ) (t : Tables) (h : History) (s : Standing floor t 
         moved-fair clients′ (sentGets q (maskOf t q) (t .log) tag (serversOf t) (emptied q i t))
         (t .writes) (t .reads) (nothingShown arrival.Next)
         refl
-        (λ r d. kept-rows tagsField wanted (latestTagAt (t .log) tag) q (serversOf t) room turned r d
+        (λ r d. kept-rows askedField wanted (latestWord (t .log) tag) q (serversOf t) asked-room kept r d
+        ∙ kept-rows tagsField wanted (latestTagAt (t .log) tag) q (serversOf t) room turned r d
         ∙ two-others tagField tag stateField askingSetpoints (omega arith) (omega arith) r d)
         (sent-links q gets (λ j. at-word-fits _) (maskOf t q) (serversOf t) (omega (arith, few t q ready)) bound (emptied q i t) long (empty at) ∙ ap (λ (m : ℕ). sends m gets) (sym mask-at))
         (λ r d. sent-others q gets (λ j. at-word-fits _) (maskOf t q) (serversOf t) (omega (arith, few t q ready)) bound (emptied q i t) long (empty at) r d ∙ gone-others r d) (λ z. omega arith) refl
-        (keys-kept floor (view t) h tied (few t q ready) q (in-range t q ready) (stepOf t + 1) (writesOf t) (readsOf t) w there a
+        (rw at (keys-kept floor (view t) h tied (few t q ready) q (in-range t q ready) (stepOf t + 1) (writesOf t) (readsOf t) w there a
         (rowOf clients′ q) asked-state
         (word countField (omega arith) ∙ left-by tagField tag stateField askingSetpoints countField (λ e. omega arith) (λ e. omega arith))
         (word maskField (omega arith) ∙ left-by tagField tag stateField askingSetpoints maskField (λ e. omega arith) (λ e. omega arith))
         (word tagField (omega arith) ∙ changed-other (changed (c .row) tagField tag) stateField askingSetpoints tagField (λ e. omega arith)
         ∙ changed-same (c .row) tagField tag)
-        (λ j m. kept-word tagsField wanted (latestTagAt (t .log) tag) q (serversOf t) room turned turned-has
-        j (a .bound j m) (rw mask-at at m)))
-        (further (view t) budget q (in-range t q ready) asked askingSetpoints asked-state (λ e. omega arith) (λ e. omega arith)
-        (rw state (omega (arith, no-rest asked askingSetpoints asked-state (λ e. omega arith) (λ e. omega arith), sends-come (maskIn c) gets (λ j. refl) (no-coordinator (maskIn c) (serversOf t) (few t q ready) (a .bound)), gone-come))))
+        (λ j m. kept-ahead askedField wanted (latestWord (t .log) tag) q (serversOf t) asked-room kept (tagsField + j)
+        (omega (arith, a .bound j m, few t q ready))
+        ∙ kept-word tagsField wanted (latestTagAt (t .log) tag) q (serversOf t) room turned turned-has j (a .bound j m) (rw mask-at at m))
+        (λ j m. kept-word askedField wanted (latestWord (t .log) tag) q (serversOf t) asked-room kept kept-has
+        j (a .bound j m) (rw mask-at at m))))
+        (further (view t) budget q (in-range t q ready) asked askingSetpoints asked-state (λ e. omega arith) (λ e. omega arith))
       where
         tag : ℕ
         tag = w .number - 1
@@ -227,24 +224,34 @@ module _ (floor : ℕ → ℕ) (t : Tables) (h : History) (s : Standing floor t 
         wanted : ℕ → Bool
         wanted = hasServer (maskOf t q)
 
-        -- the row with its tag and state, and then with the tags of the wanted servers
+        -- the row with its tag and state, then with the tags of the wanted servers, and then with the keys
         turned : List ℕ
         turned = putClientWord (putClientWord (t .clients) q tagField tag) q stateField askingSetpoints
 
+        kept : List ℕ
+        kept = keptTags q (maskOf t q) (t .log) tag (serversOf t) turned
+
         clients′ : List ℕ
-        clients′ = keptTags q (maskOf t q) (t .log) tag (serversOf t) turned
+        clients′ = keptKeys q (maskOf t q) (t .log) tag (serversOf t) kept
 
         room : tagsField + serversOf t ≤ clientWidth
         room = omega (arith, few t q ready)
+
+        asked-room : askedField + serversOf t ≤ clientWidth
+        asked-room = omega (arith, few t q ready)
 
         turned-has : HasRow clientWidth turned q
         turned-has =
             let one = putClientWord (t .clients) q tagField tag in
             rw (word-length clientWidth one q stateField askingSetpoints, word-length clientWidth (t .clients) q tagField tag) (has-row t q ready)
 
+        kept-has : HasRow clientWidth kept q
+        kept-has = rw (kept-length tagsField wanted (latestTagAt (t .log) tag) q (serversOf t) room turned) turned-has
+
         word : (f : ℕ) → f < tagsField → rowOf clients′ q f ≡ changed (changed (c .row) tagField tag) stateField askingSetpoints f
         word f l =
-            kept-ahead tagsField wanted (latestTagAt (t .log) tag) q (serversOf t) room turned f l
+            kept-ahead askedField wanted (latestWord (t .log) tag) q (serversOf t) asked-room kept f (omega arith)
+            ∙ kept-ahead tagsField wanted (latestTagAt (t .log) tag) q (serversOf t) room turned f l
             ∙ ap (λ (row : ℕ → ℕ). row f) (two-words tagField tag stateField askingSetpoints (omega arith) (omega arith))
 
         gets : ℕ → Content
@@ -281,9 +288,9 @@ module _ (floor : ℕ → ℕ) (t : Tables) (h : History) (s : Standing floor t 
         (changed-same _ (badgesField + i) (w .badge))
         (λ j l d. other-word (badgesField + j) (λ e. omega (arith, server)) (λ e. d (omega arith)))
         (λ j l. other-word (tagsField + j) (λ e. omega (arith, server)) (λ e. omega arith))
+        (λ j l. other-word (askedField + j) (λ e. omega (arith, server)) (λ e. omega (arith, server)))
         (come b) (low-word stateField (omega arith) ∙ state))
-        (gone-budget row askingSetpoints (low-word stateField (omega arith) ∙ state)
-        (λ e. omega arith) (λ e. omega arith) (λ e. omega arith))
+        (gone-budget row askingSetpoints (low-word stateField (omega arith) ∙ state) (λ e. omega arith) (λ e. omega arith))
         ))
         (λ b. rw (b, ← row-at t q tagField (omega arith)) (
         moved-fair (putClientWord (gotValue w q i t) q stateField idle) (emptied q i t) (t .writes)
@@ -298,11 +305,13 @@ module _ (floor : ℕ → ℕ) (t : Tables) (h : History) (s : Standing floor t 
         (ended-word (badgesField + i) (λ e. omega arith) ∙ changed-same _ (badgesField + i) (w .badge))
         (λ j l d. ended-word (badgesField + j) (λ e. omega arith) ∙ other-word (badgesField + j) (λ e. omega (arith, server)) (λ e. d (omega arith)))
         (λ j l. ended-word (tagsField + j) (λ e. omega arith) ∙ other-word (tagsField + j) (λ e. omega (arith, server)) (λ e. omega arith))
+        (λ j l. ended-word (askedField + j) (λ e. omega arith)
+        ∙ other-word (askedField + j) (λ e. omega (arith, server)) (λ e. omega (arith, server)))
         (none-left b) (changed-same row stateField idle)
         (shownSetpoints (gotValue w q i t) q (maskOf t q)) (λ j m. shows setpointsField (omega arith) (omega arith) j m)
         (shownTags (gotValue w q i t) q (maskOf t q)) (λ j m. shows tagsField (omega arith) (omega arith) j m)
         (shownBadges (gotValue w q i t) q (maskOf t q)) (λ j m. shows badgesField (omega arith) (omega arith) j m))
-        (gone-budget ended idle (changed-same row stateField idle) (λ e. omega arith) (λ e. omega arith) (λ e. omega arith))
+        (gone-budget ended idle (changed-same row stateField idle) (λ e. omega arith) (λ e. omega arith))
         ))
       where
         row : ℕ → ℕ
@@ -377,7 +386,7 @@ module _ (floor : ℕ → ℕ) (t : Tables) (h : History) (s : Standing floor t 
         told-row (one-others (receivedField + i) (w .number) (omega arith)) gone-links gone-others (λ z. omega arith) refl
         (told-wait-kept floor (view t) h tied (few t q ready) q (in-range t q ready) (stepOf t + 1) (writesOf t) (readsOf t) i hi w link a row (other-word maskField (λ e. omega arith)) new old
         (come b) (other-word stateField (λ e. omega arith) ∙ state) (other-word countField (λ e. omega arith)))
-        (gone-budget row askingAll (other-word stateField (λ e. omega arith) ∙ state) (λ e. omega arith) (λ e. omega arith) (λ e. omega arith))
+        (gone-budget row askingAll (other-word stateField (λ e. omega arith) ∙ state) (λ e. omega arith) (λ e. omega arith))
         ))
         (λ b. rw b (
         moved-fair (putClientWord (concluded tag told q t) q stateField idle) (emptied q i t) (t .writes)
@@ -387,7 +396,8 @@ module _ (floor : ℕ → ℕ) (t : Tables) (h : History) (s : Standing floor t 
         (told-end-kept floor (view t) h tied (few t q ready) q (in-range t q ready) (stepOf t + 1) (writesOf t) (readsOf t) i hi w link a row (other-word maskField (λ e. omega arith)) new old
         (none-left b) (receivedIn told q) same (rowOf (putClientWord (concluded tag told q t) q stateField idle) q) ended-state ended-count
         (shownSetpoints (concluded tag told q t) q (maskOf t q)) shows from comes (shownBadges (concluded tag told q t) q (maskOf t q)) by)
-        (gone-budget (rowOf (putClientWord (concluded tag told q t) q stateField idle) q) idle ended-state (λ e. omega arith) (λ e. omega arith) (λ e. omega arith))
+        (gone-budget (rowOf (putClientWord (concluded tag told q t) q stateField idle) q) idle ended-state (λ e. omega arith)
+        (λ e. omega arith))
         ))
       where
         told : List ℕ
@@ -521,6 +531,7 @@ module _ (floor : ℕ → ℕ) (t : Tables) (h : History) (s : Standing floor t 
   unfolding replyDelivered
   by-content Nothing e = refused-reply floor t h s q i 9 (λ z. omega arith)
   by-content (Request w) e = refused-reply floor t h s q i 9 (λ z. omega arith)
+  by-content Lost e = refused-reply floor t h s q i 9 (λ z. omega arith)
   by-content (Reply w) e = rw e at (in-activity w e (tied .clients q (in-range t q ready) .activity))
 
   delivered-fair : Okay (replyDelivered q i t)

@@ -1,6 +1,6 @@
 -- The delivery of a request keeps the tie and pays what it owes.
 use Prim.Native.Nat.{ℕ, suc, _+_, _-_, _*_, _≤_, _<_}
-use mathlib.Core.Path.{_≡_, refl, sym, ap, _∙_}
+use mathlib.Core.Path.{_≡_, refl, sym, ap, _∙_, subst}
 use mathlib.Core.Bool.{true, false, cond}
 use mathlib.Core.Option.{none, some}
 use native.Mathlib.Omega.{arith}
@@ -19,7 +19,7 @@ use Rattle.tables.specs.Entries.{entry-key-same, entry-mask-same}
 use Rattle.tables.specs.Links.{targets}
 use Rattle.tables.specs.declared.links.Contents.{Contents}
 use Rattle.tables.specs.declared.links.Content.{Content}
-use Rattle.tables.specs.declared.links.Content.the-variants.{Nothing, Request, Reply}
+use Rattle.tables.specs.declared.links.Content.the-variants.{Nothing, Request, Reply, Lost}
 use Rattle.rules.specs.Common.{entering, askingKeys, askingSetpoints, askingAll, coordinator, reply, gotReply}
 use Rattle.rules.specs.Common as rules
 use Rattle.rules.specs.declared.Answer.the-variants.{Ok}
@@ -30,11 +30,14 @@ use Rattle.serial.proofs.Places.{changed-same, changed-other, changed-a
 use Rattle.serial.proofs.Owed.{valueAt, valueIn}
 use Rattle.serial.proofs.HistoryKept.{value-before}
 use Rattle.serial.proofs.Versions.{Version, sentOf, find-before, find-more, find-new, find-other}
+use Rattle.serial.proofs.Entries.{tag-new, tag-other}
 use Rattle.serial.proofs.Press.{Shared, renumbered, Client, clientOf, Press, pressOf, stateIn, countIn, maskIn, tagIn, weight}
-use Rattle.serial.proofs.Press.{toCome, World, worldOf, keptAt, carried, world}
+use Rattle.serial.proofs.Press.{isReply, toCome, World, worldOf, keptAt, carried, world}
 use Rattle.serial.proofs.Links.{come-changed, come-some}
-use Rattle.serial.proofs.Invariant.{own, WriteLink, Writing, Stored, Entering, AskingKeys, GetLink, Getting, Snapshot, AllLink, AskingAll, at-writing, at-entering, at-keys, at-getting, at-all, ClientOk, Tied, Grown, client-frame}
-use Rattle.serial.proofs.Kept.{Kept, turned-tied}
+use Rattle.serial.proofs.Invariant.{own, Holds, Fits, HeldOrNot, WriteLink, Writing, Stored, HasTag, Entering, AskingKeys, GetLink}
+use Rattle.serial.proofs.Invariant.{Getting, Snapshot, AllLink, AskingAll, at-writing, at-entering, at-keys, at-getting, at-all}
+use Rattle.serial.proofs.Invariant.{ClientOk, Tied, Grown, client-frame}
+use Rattle.serial.proofs.Kept.{Kept, link-marks, marked-links, turned-tied, moved-tied}
 
 -- one version more of server i
 abbrev pub versionMore : Shared → ℕ → ℕ → Version → Shared
@@ -83,9 +86,10 @@ module _ (floor : ℕ → ℕ) (p : Press) (h : History) (tied : Tied floor p h)
   okay : ClientOk (h .extra) x (floor q) q c (h .doing q)
   okay = tied .clients q hq
 
-  -- A set request: the server holds the key now.
+  -- A set request of a key that the server does not have: it holds the key now.
   module _ (i : ℕ) (w : Contents) (lk : c .link i ≡ Request w) (hi : i < targets) (state : stateIn c ≡ rules.writing) (a : Writing (h .extra) x (floor q) q c (h .doing q))
-      (keyed : HasRow serverPlaces (s .keys) i) (valued : HasValues (s .values) i) (room : s .held i < serverPlaces) where
+      (keyed : HasRow serverPlaces (s .keys) i) (valued : HasValues (s .values) i) (room : s .held i < serverPlaces)
+      (unheld : x .lookup i (own q c) (x .held i) ≡ none) where
     abbrev word : ℕ
     word = keyWord (w .key)
 
@@ -97,7 +101,7 @@ module _ (floor : ℕ → ℕ) (p : Press) (h : History) (tied : Tied floor p h)
 
     link :
         (w .key ≡ keyOf (countIn c) q) × (carried w ≡ sentOf (a .badge) (a .setpoints) i) × (i < s .servers) ×
-        (x .lookup i (keyOf (countIn c) q) (x .held i) ≡ none)
+        HeldOrNot x q c (sentOf (a .badge) (a .setpoints) i) i
     link = rw lk at (a .links i hi)
 
     word-is : word ≡ countIn c * 256 + q
@@ -115,7 +119,7 @@ module _ (floor : ℕ → ℕ) (p : Press) (h : History) (tied : Tied floor p h)
         (find-other (s .keys) (s .values) i (s .held i) word (carried w) keyed valued room key d)
         (λ j ne. find-before (s .keys) (s .values) i (s .held i) word (carried w) keyed valued room j (s .held j) key (λ e. absurd (ne e)) (tied .room j))
 
-    grown : (r : ℕ) → r < 16 → (r ≡ q → ⊥) → Grown r x y
+    pub grown : (r : ℕ) → r < 16 → (r ≡ q → ⊥) → Grown r x y
     grown r hr ne = record {
       servers = refl;
       tags = omega arith;
@@ -125,30 +129,35 @@ module _ (floor : ℕ → ℕ) (p : Press) (h : History) (tied : Tied floor p h)
       fewer = λ j key n l. find-before (s .keys) (s .values) i (s .held i) word (carried w) keyed valued room j n key (λ e. omega (arith, same-place j e)) (omega (arith, tied .room j));
       more = λ j key v e. find-more (s .keys) (s .values) i (s .held i) word (carried w) keyed valued room j key (s .held j) (y .held j) v (same-place j) (tied .room j) (held-more j) e;
       own = λ j n. other-key (keyOf n r) (λ e. ne (omega (arith, word-is))) j;
+      entry = λ n. refl;
     }
+
+    -- at another server the client's key is kept as it was
+    pub kept-there : (j : ℕ) → (j ≡ i → ⊥) → y .lookup j (own q c) (y .held j) ≡ x .lookup j (own q c) (x .held j)
+    kept-there j ne =
+        rw (changed-other (s .held) i (suc (s .held i)) j ne)
+        (find-before (s .keys) (s .values) i (s .held i) word (carried w) keyed valued room j (s .held j) (own q c)
+        (λ e. absurd (ne e)) (tied .room j))
 
     write-link : (j : ℕ) → (j ≡ i → ⊥) → (l : Content) → WriteLink x q c (a .badge) (a .setpoints) j l →
         WriteLink y q c (a .badge) (a .setpoints) j l
-    write-link j ne l k = go l k
-      where
-        same : y .lookup j (keyOf (countIn c) q) (y .held j) ≡ x .lookup j (keyOf (countIn c) q) (x .held j)
-        same = rw (changed-other (s .held) i (suc (s .held i)) j ne)
-            (find-before (s .keys) (s .values) i (s .held i) word (carried w) keyed valued room j (s .held j) (keyOf (countIn c) q)
-            (λ e. absurd (ne e)) (tied .room j))
-
-        go : (l : Content) → WriteLink x q c (a .badge) (a .setpoints) j l → WriteLink y q c (a .badge) (a .setpoints) j l
-        go Nothing k = λ m. same ∙ k m
-        go (Request w) k = (k .0, k .1, k .2, same ∙ k .3)
-        go (Reply w) k = same ∙ k
+    write-link j ne Nothing k = λ m. kept-there j ne ∙ k m
+    write-link j ne (Request w) k = (k .0, k .1, k .2, subst (Fits _) (sym (kept-there j ne)) (k .3))
+    write-link j ne (Reply w) k = (k .0, kept-there j ne ∙ k .1)
+    write-link j ne Lost k = (k .0, subst (Fits _) (sym (kept-there j ne)) (k .1))
 
     here : y .lookup i (keyOf (countIn c) q) (y .held i) ≡ some (sentOf (a .badge) (a .setpoints) i)
     here =
         rw (changed-same (s .held) i (suc (s .held i)), ← link .1)
-        (find-new (s .keys) (s .values) i (s .held i) word (carried w) keyed valued room (keyOf (countIn c) q) word-is (link .3))
+        (find-new (s .keys) (s .values) i (s .held i) word (carried w) keyed valued room (keyOf (countIn c) q) word-is unheld)
 
     mine : ClientOk (h .extra) y (floor q) q (withLink c i (reply 0)) (h .doing q)
     mine = record {
-      latest = λ j n v e. by-equal n (countIn c) (λ z. omega arith) (λ z. okay .latest j n v (sym (other-key (keyOf n q) (λ d. z (omega (arith, word-is))) j) ∙ e));
+      latest = λ j n v e.
+          by-equal n (countIn c)
+          (λ z. omega arith)
+          (λ z. okay .latest j n v (sym (other-key (keyOf n q) (λ d. z (omega (arith, word-is))) j) ∙ e));
+      entered = okay .entered;
       activity = at-writing state (record {
         badge = a .badge;
         setpoints = a .setpoints;
@@ -156,7 +165,11 @@ module _ (floor : ℕ → ℕ) (p : Press) (h : History) (tied : Tied floor p h)
         is = a .is;
         few = a .few;
         bound = a .bound;
-        links = λ j l. changed-all (c .link) i (reply 0) (λ j l. j < targets → WriteLink y q c (a .badge) (a .setpoints) j l) (λ k. here) (λ j ne k. write-link j ne (c .link j) (a .links j k)) j l;
+        badge-kept = a .badge-kept;
+        setpoints-kept = a .setpoints-kept;
+        new = a .new;
+        links = λ j l. changed-all (c .link) i (reply 0) (λ j l. j < targets → WriteLink y q c (a .badge) (a .setpoints) j l)
+            (λ k. (link .2, here)) (λ j ne k. write-link j ne (c .link j) (a .links j k)) j l;
       });
     }
 
@@ -172,8 +185,37 @@ module _ (floor : ℕ → ℕ) (p : Press) (h : History) (tied : Tied floor p h)
             tags = tied .tags;
             clients = changed-all (p .client) q (withLink c i (reply 0)) (λ j b. j < 16 → ClientOk (h .extra) y (floor j) j b (h .doing j)) (λ l. mine)
                 (λ j ne l. client-frame (h .extra) (floor j) j x y (grown j l ne) (p .client j) (h .doing j) (tied .clients j l));
+            answered = marked-links floor p h tied q hq (withLink c i (reply 0)) i true (link-marks (c .link) i (reply 0));
           },
         )
+
+  -- A set request of a key that the server holds: it is acknowledged, and nothing is stored.
+  pub set-again-kept : (i : ℕ) (w : Contents) → c .link i ≡ Request w → i < targets → stateIn c ≡ rules.writing →
+      (a : Writing (h .extra) x (floor q) q c (h .doing q)) → Holds x i (own q c) (sentOf (a .badge) (a .setpoints) i) →
+      Kept floor h (requested q i Ok) (pressOf (renumbered step writes reads s) (changed (p .client) q (withLink c i (reply 0))))
+  set-again-kept i w lk hi state a held =
+      let l : i < s .servers = rw lk at (a .links i hi) .2 in
+      let quiet : atCoordinator i ≡ false = ne-eqb i coordinator (λ e. omega arith) in (
+        rw (a .is) tt,
+        rw (quiet, a .is) (moved-tied floor p h tied q hq (withLink c i (reply 0)) step writes reads i true
+            (link-marks (c .link) i (reply 0)) (record {
+              latest = okay .latest;
+              entered = okay .entered;
+              activity = at-writing state (record {
+                badge = a .badge;
+                setpoints = a .setpoints;
+                begin = a .begin;
+                is = a .is;
+                few = a .few;
+                bound = a .bound;
+                badge-kept = a .badge-kept;
+                setpoints-kept = a .setpoints-kept;
+                new = a .new;
+                links = λ j m. changed-all (c .link) i (reply 0) (λ j k. j < targets → WriteLink x q c (a .badge) (a .setpoints) j k)
+                    (λ k. (l, held)) (λ j ne k. a .links j k) j m;
+              });
+            })),
+      )
 
   -- An entry: the WRITE has its tag, and each key at that tag is held with the value behind it.
   module _ (w : Contents) (state : stateIn c ≡ entering) (a : Entering (h .extra) x (floor q) q c (h .doing q))
@@ -258,8 +300,20 @@ module _ (floor : ℕ → ℕ) (p : Press) (h : History) (tied : Tied floor p h)
         (λ e. rw e (ap (λ (u : ℕ). latestTag (s″ .log) i u) (sym (tied .entries)) ∙ new-tag i))
         (λ d. old-tag tag (omega arith) i)
 
-    entry-grown : (r : ℕ) → Grown r x z
-    entry-grown r = record {
+    entered-word : keyWord (w .key) ≡ countIn c * 256 + q
+    entered-word = ap keyWord key-is
+
+    -- another key has the tag that it had
+    other-entry : (key : Key) → (keyWord (w .key) ≡ keyWord key → ⊥) → z .entry key ≡ x .entry key
+    other-entry key d = tag-other (s .log) (s .entries) (w .key) (w .number) logged key d
+
+    own-entry : z .entry (own q c) ≡ some (s .entries)
+    own-entry =
+        rw (← key-is)
+        (tag-new (s .log) (s .entries) (w .key) (w .number) logged (rw key-is (b .new)))
+
+    pub entry-grown : (r : ℕ) → r < 16 → (r ≡ q → ⊥) → Grown r x z
+    entry-grown r hr ne = record {
       servers = refl;
       tags = omega arith;
       value = old-value;
@@ -268,6 +322,7 @@ module _ (floor : ℕ → ℕ) (p : Press) (h : History) (tied : Tied floor p h)
       fewer = λ i key n l. refl;
       more = λ i key v e. e;
       own = λ i n. refl;
+      entry = λ n. other-entry (keyOf n r) (λ e. ne (omega (arith, entered-word)));
     }
 
     pub enter-kept : Kept floor h (requested q coordinator Ok) (pressOf (renumbered step writes reads s″) (changed (p .client) q (withLink c coordinator (reply (s .entries)))))
@@ -282,26 +337,54 @@ module _ (floor : ℕ → ℕ) (p : Press) (h : History) (tied : Tied floor p h)
         clients = changed-both (λ j k d. j < 16 → ClientOk (h .extra) z (floor j) j k d) (p .client) (h .doing) q (withLink c coordinator (reply (s .entries))) (tagged (suc (h .tags)))
             (λ l. record {
               latest = okay .latest;
+              entered = λ n tag e.
+                  by-equal n (countIn c)
+                  (λ y. omega arith)
+                  (λ y. okay .entered n tag (sym (other-entry (keyOf n q) (λ d. y (omega (arith, entered-word)))) ∙ e));
               activity = at-entering state (record {
                 others = λ i k. changed-other (c .link) coordinator (reply (s .entries)) i (λ e. omega arith) ∙ a .others i k;
-                entry = rw (changed-same (c .link) coordinator (reply (s .entries))) (rw (tied .entries));
+                entry = rw (changed-same (c .link) coordinator (reply (s .entries)))
+                    (record { is = rw (tied .entries); there = own-entry });
               });
             })
-            (λ j ne l. client-frame (h .extra) (floor j) j x z (entry-grown j) (p .client j) (h .doing j) (tied .clients j l));
+            (λ j ne l. client-frame (h .extra) (floor j) j x z (entry-grown j l ne) (p .client j) (h .doing j) (tied .clients j l));
+        answered = marked-links floor p h tied q hq (withLink c coordinator (reply (s .entries))) coordinator true
+            (link-marks (c .link) coordinator (reply (s .entries)));
       },
     )
 
+  -- An entry that the log has: its first tag is answered, and nothing is entered.
+  pub enter-again-kept : stateIn c ≡ entering → Entering (h .extra) x (floor q) q c (h .doing q) →
+      (tag : ℕ) → HasTag (h .extra) x (floor q) q c (h .doing q) tag →
+      Kept floor h (requested q coordinator Ok) (pressOf (renumbered step writes reads s)
+      (changed (p .client) q (withLink c coordinator (reply tag))))
+  enter-again-kept state a tag t = (
+    rw (t .is) tt,
+    rw (t .is) (moved-tied floor p h tied q hq (withLink c coordinator (reply tag)) step writes reads coordinator true
+        (link-marks (c .link) coordinator (reply tag)) (record {
+          latest = okay .latest;
+          entered = okay .entered;
+          activity = at-entering state (record {
+            others = λ i k. changed-other (c .link) coordinator (reply tag) i (λ e. omega arith) ∙ a .others i k;
+            entry = rw (changed-same (c .link) coordinator (reply tag)) (record { is = t .is; there = t .there });
+          });
+        })),
+  )
+
   -- A READ's request: one delivery more, and the reply takes its place.
   module _ (i : ℕ) (hi : i < targets) (w : Contents) (lk : c .link i ≡ Request w) (answer : Content) (one : weight answer ≡ 1)
-      (mask begin deliveries : ℕ) (is : h .doing q ≡ reading mask begin deliveries) where
+      (reply-is : isReply answer ≡ true)
+      (mask begin deliveries losses : ℕ) (is : h .doing q ≡ reading mask begin deliveries losses) where
     replied-come : toCome (withLink c i answer .link) + 1 ≡ toCome (c .link)
     replied-come = omega (arith, come-changed (c .link) i answer hi, ap weight lk, one)
 
-    read-kept : suc deliveries < enough (h .extra) mask →
-        ClientOk (h .extra) x (floor q) q (withLink c i answer) (reading mask begin (suc deliveries)) →
+    read-kept : suc deliveries < enough (h .extra) mask losses →
+        ClientOk (h .extra) x (floor q) q (withLink c i answer) (reading mask begin (suc deliveries) losses) →
         Kept floor h (requested q i Ok) (pressOf (renumbered step writes reads s) (changed (p .client) q (withLink c i answer)))
     read-kept more ok =
-        let t = turned-tied floor p h tied step writes reads q (withLink c i answer) (reading mask begin (suc deliveries)) ok in (
+        let marks = rw reply-is at (link-marks (c .link) i answer) in
+        let t = turned-tied floor p h tied q hq (withLink c i answer) step writes reads i true marks
+        (reading mask begin (suc deliveries) losses) ok in (
           rw is more,
           by-test (atCoordinator i) (λ e. rw (e, is) t) (λ e. rw (e, is) t),
         )
@@ -310,20 +393,25 @@ module _ (floor : ℕ → ℕ) (p : Press) (h : History) (tied : Tied floor p h)
   pub which-keys-kept : (w : Contents) → c .link coordinator ≡ Request w → stateIn c ≡ askingKeys → AskingKeys (h .extra) x (floor q) q c (h .doing q) →
       Kept floor h (requested q coordinator Ok) (pressOf (renumbered step writes reads s) (changed (p .client) q (withLink c coordinator (reply (s .entries)))))
   which-keys-kept w lk state a =
-      let none-yet : a .deliveries ≡ 0 = rw lk at (a .keys) in
-      read-kept coordinator (omega arith) w lk (reply (s .entries)) refl (maskIn c) (a .begin) (a .deliveries) (a .is)
-      (omega (arith, a .two, a .some)) (record {
+      let come = replied-come coordinator (omega arith) w lk (reply (s .entries)) refl refl (maskIn c) (a .begin) (a .deliveries)
+      (a .losses) (a .is) in
+      read-kept coordinator (omega arith) w lk (reply (s .entries)) refl refl (maskIn c) (a .begin) (a .deliveries) (a .losses) (a .is)
+      (omega (arith, a .count, a .some, come)) (record {
         latest = okay .latest;
+        entered = okay .entered;
         activity = at-keys state (record {
           begin = a .begin;
           deliveries = suc (a .deliveries);
+          losses = a .losses;
           is = refl;
           two = a .two;
           low = a .low;
           some = a .some;
           bound = a .bound;
+          count = omega (arith, a .count, come);
           others = λ i k. changed-other (c .link) coordinator (reply (s .entries)) i (λ e. omega arith) ∙ a .others i k;
-          keys = rw (changed-same (c .link) coordinator (reply (s .entries))) (omega arith, omega (arith, a .low, tied .entries), omega (arith, tied .entries));
+          keys = rw (changed-same (c .link) coordinator (reply (s .entries)))
+              (omega (arith, a .low, tied .entries), omega (arith, tied .entries));
         });
       })
 
@@ -335,13 +423,17 @@ module _ (floor : ℕ → ℕ) (p : Press) (h : History) (tied : Tied floor p h)
   get-kept i hi w lk state a =
       let v = keptAt x (tagIn c) i in
       let answer = gotReply (v .badge) (v .setpoint) in
-      let come = replied-come i hi w lk answer refl (maskIn c) (a .begin) (a .deliveries) (a .is) in
+      let come = replied-come i hi w lk answer refl refl (maskIn c) (a .begin) (a .deliveries) (a .losses) (a .is) in
       let left = come-some (withLink c i answer .link) i hi (rw (changed-same (c .link) i answer) (omega arith)) in
-      read-kept i hi w lk answer refl (maskIn c) (a .begin) (a .deliveries) (a .is) (omega (arith, a .count, come, left)) (record {
+      let masked = rw lk at (a .links i hi) .0 in
+      read-kept i hi w lk answer refl refl (maskIn c) (a .begin) (a .deliveries) (a .losses) (a .is) (omega (arith, a .count, come, left))
+      (record {
         latest = okay .latest;
+        entered = okay .entered;
         activity = at-getting state (record {
           begin = a .begin;
           deliveries = suc (a .deliveries);
+          losses = a .losses;
           is = refl;
           low = a .low;
           high = a .high;
@@ -349,7 +441,9 @@ module _ (floor : ℕ → ℕ) (p : Press) (h : History) (tied : Tied floor p h)
           count = omega (arith, a .count, come);
           busy = left;
           tags = a .tags;
-          links = λ j l. changed-all (c .link) i answer (λ j k. j < targets → GetLink x c j k) (λ m. refl) (λ j ne m. a .links j m) j l;
+          asked = a .asked;
+          links = λ j l. changed-all (c .link) i answer (λ j k. j < targets → GetLink x c j k) (λ m. (masked, refl))
+              (λ j ne m. a .links j m) j l;
         });
       })
 
@@ -361,13 +455,16 @@ module _ (floor : ℕ → ℕ) (p : Press) (h : History) (tied : Tied floor p h)
       Kept floor h (requested q i Ok) (pressOf (renumbered step writes reads s) (changed (p .client) q (withLink c i (reply (holding i)))))
   get-all-kept i hi w lk state a =
       let n = holding i in
-      let come = replied-come i hi w lk (reply n) refl (maskIn c) (a .begin) (a .deliveries) (a .is) in
+      let come = replied-come i hi w lk (reply n) refl refl (maskIn c) (a .begin) (a .deliveries) (a .losses) (a .is) in
       let left = come-some (withLink c i (reply n) .link) i hi (rw (changed-same (c .link) i (reply n)) (omega arith)) in
-      read-kept i hi w lk (reply n) refl (maskIn c) (a .begin) (a .deliveries) (a .is) (omega (arith, a .count, come, left)) (record {
+      read-kept i hi w lk (reply n) refl refl (maskIn c) (a .begin) (a .deliveries) (a .losses) (a .is)
+      (omega (arith, a .count, come, left)) (record {
         latest = okay .latest;
+        entered = okay .entered;
         activity = at-all state (record {
           begin = a .begin;
           deliveries = suc (a .deliveries);
+          losses = a .losses;
           is = refl;
           two = a .two;
           low = a .low;

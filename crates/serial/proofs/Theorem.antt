@@ -10,6 +10,7 @@ use Rattle.rules.specs.Open.{opened}
 use Rattle.rules.specs.Begin.{begunWrite, begunRead}
 use Rattle.rules.specs.Request.{requestDelivered}
 use Rattle.rules.specs.Reply.{replyDelivered}
+use Rattle.rules.specs.Loss.{linkLost, linkResent}
 use Rattle.rules.specs.declared.Answer.{Answer}
 use Rattle.rules.specs.declared.Answer.the-variants.{Ok}
 use Rattle.rules.specs.declared.Delivered.{Delivered}
@@ -17,12 +18,12 @@ use Rattle.refusals.specs.Refusals.{openRefusal, writeRefusal, readRefusal, del
 use Rattle.soundness.specs.Facts.{Sound}
 use Rattle.keeping.specs.Accepted.{Openable, openable, writable, readable, deliverable}
 use Rattle.keeping.specs.Opening.{opened-words, opened-sound}
-use Rattle.keeping.specs.Steps.{open-keeps, beginWrite-sound, beginRead-sound, deliverRequest-sound, deliverReply-sound}
-use Rattle.refusals.specs.Steps.{badgeOf, open′, beginWrite, beginRead, deliverRequest, deliverReply}
+use Rattle.keeping.specs.Steps.{open-keeps, beginWrite-sound, beginRead-sound, deliverRequest-sound, deliverReply-sound, lose-sound}
+use Rattle.keeping.specs.Steps.{resend-sound}
+use Rattle.refusals.specs.Steps.{badgeOf, open′, beginWrite, beginRead, deliverRequest, deliverReply, lose, resend}
 use Rattle.refusals.specs.Either.{by-refusal, by-refusal-arrived}
-use Rattle.serial.specs.Steps.{Step, opening, beginning-write, beginning-read, request, reply, Event, begun-write, begun-read}
-use Rattle.serial.specs.Steps.{requested, replied}
-use Rattle.serial.specs.Steps.{Played, play}
+use Rattle.serial.specs.Steps.{Step, opening, beginning-write, beginning-read, request, reply, losing, resending, Event, begun-write}
+use Rattle.serial.specs.Steps.{begun-read, requested, replied, lost, resent, Played, play}
 use Rattle.serial.specs.Steps as event
 use Rattle.serial.specs.History.{History, passed, openedWith}
 use Rattle.serial.specs.Claim.{Demand3}
@@ -36,6 +37,7 @@ use Rattle.serial.proofs.OpeningStep.{opened-tied, opened-budget}
 use Rattle.serial.proofs.BeginSteps.{write-fair, read-fair}
 use Rattle.serial.proofs.RequestSteps.{request-fair, refused-fair}
 use Rattle.serial.proofs.ReplySteps.{reply-fair, refused-reply}
+use Rattle.serial.proofs.LossSteps.{loss-fair, refused-loss, resend-fair, refused-resend}
 use Rattle.serial.proofs.Openings.{play-starts}
 use Rattle.serial.proofs.Machines.{Started, FairMachine, demand3, besides}
 
@@ -66,7 +68,7 @@ module _ (floor : ℕ → ℕ) (t : Tables) (h : History) (s : Standing floor t 
   Steps = Fair floor h (stepOf t)
 
   step-fair : (step : Step) → Steps (play step t)
-  unfolding open′ beginWrite beginRead deliverRequest deliverReply
+  unfolding open′ beginWrite beginRead deliverRequest deliverReply lose resend
   step-fair (opening method k p setpoints) =
       by-refusal (λ x. Steps (leaving (event.opened method k p setpoints) x)) (openRefusal method k p setpoints t)
       (left Ok (opened method k p setpoints t)) t
@@ -94,6 +96,14 @@ module _ (floor : ℕ → ℕ) (t : Tables) (h : History) (s : Standing floor t 
       by-refusal-arrived (λ x. Steps (arriving (replied q i) x)) (deliveryRefusal q i t) (replyDelivered q i t) t
       (λ m e. refused-reply floor t h s q i m (rw (← e) (delivery-number t q i)))
       (λ e. reply-fair floor t h s q i (deliverable q i t e))
+  step-fair (losing q i) =
+      by-refusal (λ x. Steps (leaving (lost q i) x)) (deliveryRefusal q i t) (linkLost q i t) t
+      (λ m e. refused-loss floor t h s q i m (rw (← e) (delivery-number t q i)))
+      (λ e. loss-fair floor t h s q i (deliverable q i t e))
+  step-fair (resending q i) =
+      by-refusal (λ x. Steps (leaving (resent q i) x)) (deliveryRefusal q i t) (linkResent q i t) t
+      (λ m e. refused-resend floor t h s q i m (rw (← e) (delivery-number t q i)))
+      (λ e. resend-fair floor t h s q i (deliverable q i t e))
 
 step-sound : (step : Step) (t : Tables) → Sound t → Sound (play step t .tables)
 step-sound (opening method k p setpoints) t s = open-keeps method k p setpoints t s
@@ -101,6 +111,8 @@ step-sound (beginning-write q mask badge setpoints) t s = beginWrite-sound q mas
 step-sound (beginning-read q mask) t s = beginRead-sound q mask t s
 step-sound (request q i) t s = deliverRequest-sound q i t s
 step-sound (reply q i) t s = deliverReply-sound q i t s
+step-sound (losing q i) t s = lose-sound q i t s
+step-sound (resending q i) t s = resend-sound q i t s
 
 pub play-fair : FairMachine play
 play-fair = record { starts = play-starts Started opened-starts; fair = λ step floor t h s. step-fair floor t h s step; sound = step-sound }

@@ -16,7 +16,7 @@ use Rattle.tables.specs.Rows.{wordAt, HasRow, word-same, word-other}
 use Rattle.tables.specs.Layout.{serverPlaces, versionWord, putVersionWord, valueWidth, valueRow, versionBadge, versionSetpoint, putValue}
 use Rattle.tables.specs.Layout.{HasValues}
 use Rattle.tables.specs.Values.{badge-same, setpoint-same, value-other}
-use Rattle.server.specs.Held.{bears, firstBearing}
+use Rattle.server.specs.Held.{bears, firstBearing, holds}
 use Rattle.serial.specs.History.{Value}
 
 -- What a version bears beside its key: what a server keeps of a value, and what messages carry of it.
@@ -86,6 +86,10 @@ module _ (keys values : List ℕ) (i : ℕ) (key : Key) where
       by-test (ltb (firstBearing keys i key n) n)
       (λ b. absurd (Option·none-ne-some _ (sym (rw b at e))))
       (λ b. first-found (bears keys i key) n .before u (omega (arith, ltb-false (firstBearing keys i key n) n b)))
+
+  pub not-held : (n : ℕ) → find keys values i key n ≡ none → holds keys i key n ≡ false
+  unfolding find
+  not-held n e = by-test (holds keys i key n) (λ b. absurd (Option·none-ne-some _ (sym (rw b at e)))) (λ b. b)
 
   pub none-found : (n : ℕ) → ((u : ℕ) → u < n → bears keys i key u ≡ false) → find keys values i key n ≡ none
   unfolding find

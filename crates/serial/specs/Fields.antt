@@ -14,16 +14,17 @@ use Rattle.ranges.specs.Each.{Each}
 use Rattle.keys.specs.Masks.{hasServer}
 use Rattle.keys.specs.MaskLaws.{no-server}
 use Rattle.tables.specs.declared.links.Content.{Content}
-use Rattle.tables.specs.declared.links.Content.the-variants.{Nothing, Request, Reply}
+use Rattle.tables.specs.declared.links.Content.the-variants.{Nothing, Request, Reply, Lost}
 use Rattle.tables.specs.Tables.{Tables, contentAt}
 use Rattle.rules.specs.declared.Answer.{Answer}
 use Rattle.rules.specs.declared.Answer.the-variants as answer
 use Rattle.rules.specs.declared.Arrival.{Arrival}
 use Rattle.rules.specs.declared.Arrival.the-variants as arrival
 use Rattle.rules.specs.declared.Delivered.{Delivered}
-use Rattle.serial.specs.Steps.{Event, opened, begun-write, begun-read, requested, replied, Played}
+use Rattle.serial.specs.Steps.{Event, opened, begun-write, begun-read, requested, replied, lost, resent, Played}
 use Rattle.serial.specs.History.{Value, valueOf, Transaction, Doing, nothing, writing, tagged, reading, History, changed}
-use Rattle.serial.specs.History.{begun, delivered, entered, wrote, showed, arrived, openedWith, atCoordinator, after, history}
+use Rattle.serial.specs.History.{begun, delivered, entered, wrote, showed, arrived, missed, repeated, openedWith, atCoordinator}
+use Rattle.serial.specs.History.{after, history}
 use Rattle.serial.specs.Row.{row, walked, Shows, Walk, at, RealTime}
 use Rattle.serial.specs.Claim.{enough, EndsAt, Unfinished, IsReply, LeavesReply, AnswersAt, Answers, Claim}
 use Rattle.serial.specs.Decided.{Test, always, never, meaning, both, only-if, each, below, equal, most, less, is}
@@ -152,6 +153,7 @@ abbrev isReply : (content : Content) → Test (IsReply content)
 isReply Nothing = never (λ z. z)
 isReply (Request w) = never (λ z. z)
 isReply (Reply w) = always tt
+isReply Lost = never (λ z. z)
 
 abbrev leavesReply : (a : Answer) (content : Content) → Test (LeavesReply a content)
 leavesReply answer.Ok content = isReply content
@@ -163,12 +165,14 @@ answersAt (begun-write q mask badge setpoints a) t = always tt
 answersAt (begun-read q mask a) t = always tt
 answersAt (requested q i a) t = leavesReply a (contentAt t q i)
 answersAt (replied q i d) t = always tt
+answersAt (lost q i a) t = always tt
+answersAt (resent q i a) t = always tt
 
 abbrev isUnfinished : (extra : ℕ) (d : Doing) → Test (Unfinished extra d)
 isUnfinished extra nothing = always tt
 isUnfinished extra (writing mask badge setpoints begin) = always tt
 isUnfinished extra (tagged tag) = always tt
-isUnfinished extra (reading mask begin deliveries) = less deliveries (enough extra mask)
+isUnfinished extra (reading mask begin deliveries losses) = less deliveries (enough extra mask losses)
 
 abbrev saysTag : (o : Option ℕ) (tag : ℕ) → Test ((a : ℕ) → o ≡ some a → a ≡ tag)
 saysTag none tag = always (λ a e. absurd (Option·none-ne-some a e))
@@ -182,6 +186,8 @@ clientOf (begun-write q mask badge setpoints a) = q
 clientOf (begun-read q mask a) = q
 clientOf (requested q i a) = q
 clientOf (replied q i d) = q
+clientOf (lost q i a) = q
+clientOf (resent q i a) = q
 
 -- every client that a step names is below this
 abbrev clientsBelow : List Played → ℕ
@@ -201,38 +207,50 @@ module _ (j : ℕ) where
     begun-idle nothing x = others x
     begun-idle (writing mask badge setpoints begin) x = idle
     begun-idle (tagged tag) x = idle
-    begun-idle (reading mask begin deliveries) x = idle
+    begun-idle (reading mask begin deliveries losses) x = idle
 
     delivered-idle : (c : Doing) → Idle (delivered c q h)
     delivered-idle nothing = idle
     delivered-idle (writing mask badge setpoints begin) = idle
     delivered-idle (tagged tag) = idle
-    delivered-idle (reading mask begin deliveries) = others _
+    delivered-idle (reading mask begin deliveries losses) = others _
 
     entered-idle : (c : Doing) → Idle (entered c q h)
     entered-idle nothing = idle
     entered-idle (writing mask badge setpoints begin) = others _
     entered-idle (tagged tag) = idle
-    entered-idle (reading mask begin deliveries) = others _
+    entered-idle (reading mask begin deliveries losses) = others _
 
     wrote-idle : (a : ℕ) (c : Doing) → Idle (wrote a c q h)
     wrote-idle a nothing = idle
     wrote-idle a (writing mask badge setpoints begin) = idle
     wrote-idle a (tagged tag) = others _
-    wrote-idle a (reading mask begin deliveries) = idle
+    wrote-idle a (reading mask begin deliveries losses) = idle
 
     showed-idle : (tag : ℕ) (s : Delivered) (c : Doing) → Idle (showed tag s c q h)
     showed-idle tag s nothing = idle
     showed-idle tag s (writing mask badge setpoints begin) = idle
     showed-idle tag s (tagged t) = idle
-    showed-idle tag s (reading mask begin deliveries) = others _
+    showed-idle tag s (reading mask begin deliveries losses) = others _
 
-    arrived-idle : (a : Arrival) (s : Delivered) → Idle (arrived a s q h)
-    arrived-idle arrival.Wait s = delivered-idle (h .doing q)
-    arrived-idle arrival.Next s = delivered-idle (h .doing q)
-    arrived-idle (arrival.Write tag) s = wrote-idle tag (h .doing q)
-    arrived-idle (arrival.Read tag) s = showed-idle tag s (h .doing q)
-    arrived-idle (arrival.Refused n) s = idle
+    arrived-idle : (a : Arrival) (s : Delivered) (i : ℕ) → Idle (arrived a s q i h)
+    arrived-idle arrival.Wait s i = delivered-idle (h .doing q)
+    arrived-idle arrival.Next s i = delivered-idle (h .doing q)
+    arrived-idle (arrival.Write tag) s i = wrote-idle tag (h .doing q)
+    arrived-idle (arrival.Read tag) s i = showed-idle tag s (h .doing q)
+    arrived-idle (arrival.Refused n) s i = idle
+
+    missed-idle : (reply : Bool) (c : Doing) → Idle (missed reply c q h)
+    missed-idle reply nothing = idle
+    missed-idle reply (writing mask badge setpoints begin) = idle
+    missed-idle reply (tagged tag) = idle
+    missed-idle reply (reading mask begin deliveries losses) = others _
+
+    repeated-idle : (c : Doing) → Idle (repeated c h)
+    repeated-idle nothing = idle
+    repeated-idle (writing mask badge setpoints begin) = idle
+    repeated-idle (tagged tag) = idle
+    repeated-idle (reading mask begin deliveries losses) = idle
 
   after-idle : (e : Event) (h : History) → Idle h → clientOf e < j → Idle (after e h)
   after-idle (opened method k p setpoints answer.Ok) h idle l = refl
@@ -245,7 +263,11 @@ module _ (j : ℕ) where
       let other : j ≡ q → ⊥ = λ e. omega arith in
       either Idle (atCoordinator i) (entered-idle h idle q other (h .doing q)) (delivered-idle h idle q other (h .doing q))
   after-idle (requested q i (answer.Refused n)) h idle l = idle
-  after-idle (replied q i d) h idle l = arrived-idle h idle q (λ e. omega arith) (d .arrival) d
+  after-idle (replied q i d) h idle l = arrived-idle h idle q (λ e. omega arith) (d .arrival) d i
+  after-idle (lost q i answer.Ok) h idle l = missed-idle h idle q (λ e. omega arith) _ (h .doing q)
+  after-idle (lost q i (answer.Refused n)) h idle l = idle
+  after-idle (resent q i answer.Ok) h idle l = repeated-idle h idle q (λ e. omega arith) (h .doing q)
+  after-idle (resent q i (answer.Refused n)) h idle l = idle
 
   history-idle : (steps : List Played) (h : History) → Idle h → clientsBelow steps ≤ j → Idle (history steps h)
   history-idle [] h idle l = idle
@@ -273,7 +295,7 @@ module _ (method : ℕ) (setpoints : List ℕ) (steps : List Played) where
   test readAfterWrite = inTime true false (row here)
   test writeAfterWrite = inTime true true (row here)
   test answered = each (λ x. answersAt (x .event) (x .tables)) steps
-  test ends = each (λ x. only-if (is false (x .isWrite)) (equal (x .deliveries) (enough (here .extra) (x .mask)))) (row here)
+  test ends = each (λ x. only-if (is false (x .isWrite)) (equal (x .deliveries) (enough (here .extra) (x .mask) (x .losses)))) (row here)
   test unfinished =
       meaning (below (λ q. isUnfinished (here .extra) (here .doing q)) (clientsBelow steps))
       (λ f q. by-test (ltb q (clientsBelow steps)) (λ b. f q (ltb-true _ _ b)) (λ b. none-reading q (ltb-false _ _ b)))

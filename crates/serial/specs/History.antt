@@ -57,6 +57,20 @@ pub record Transaction : Type 0 where
   pub deliveries : ℕ
   pub losses : ℕ
 
+abbrev pub transactionOf : Bool → ℕ → ℕ → (ℕ → Value) → ℕ → ℕ → Option ℕ → ℕ → ℕ → Transaction
+transactionOf isWrite q mask value tag begin end deliveries losses =
+    record {
+      isWrite = isWrite;
+      client = q;
+      mask = mask;
+      value = value;
+      tag = tag;
+      begin = begin;
+      end = end;
+      deliveries = deliveries;
+      losses = losses;
+    }
+
 -- What a client is at: no transaction; a WRITE whose request at target 16 was not delivered yet; a WRITE of a tag; a READ with its deliveries
 -- and its lost replies so far.
 pub data Doing : Type 0 where
@@ -85,18 +99,19 @@ pub record History : Type 0 where
 
 abbrev pub historyOf : (ℕ → Value) → ℕ → ℕ → ℕ → (ℕ → Transaction) → (ℕ → Option ℕ) → List Transaction → (ℕ → Doing) →
     (ℕ → ℕ → Bool) → ℕ → History
-historyOf initial extra clock tags write said reads doing answered astray = record {
-  initial = initial;
-  extra = extra;
-  clock = clock;
-  tags = tags;
-  write = write;
-  said = said;
-  reads = reads;
-  doing = doing;
-  answered = answered;
-  astray = astray;
-}
+historyOf initial extra clock tags write said reads doing answered astray =
+    record {
+      initial = initial;
+      extra = extra;
+      clock = clock;
+      tags = tags;
+      write = write;
+      said = said;
+      reads = reads;
+      doing = doing;
+      answered = answered;
+      astray = astray;
+    }
 
 -- a step that the row does not see
 abbrev pub passed : History → History
@@ -127,8 +142,7 @@ delivered (reading mask begin deliveries losses) q h = turned q (reading mask be
 
 -- "WRITEs are tagged 1, 2, 3 and so on in the order in which their requests at target 16 were first delivered"
 abbrev pub writeOf : ℕ → ℕ → (ℕ → Value) → ℕ → ℕ → Option ℕ → Transaction
-writeOf q mask value tag begin end =
-    record { isWrite = true; client = q; mask = mask; value = value; tag = tag; begin = begin; end = end; deliveries = 0; losses = 0 }
+writeOf q mask value tag begin end = transactionOf true q mask value tag begin end 0 0
 
 abbrev pub given : ℕ → ℕ → ℕ → List ℕ → ℕ → History → History
 given q mask badge setpoints begin h =
@@ -145,17 +159,7 @@ entered (reading mask begin deliveries losses) q h = turned q (reading mask begi
 
 -- "and finishes at the next reply delivered to its panel that answers *write* or *read*"; "*write* answers this tag"
 abbrev pub ended : ℕ → Transaction → Transaction
-ended end x = record {
-  isWrite = x .isWrite;
-  client = x .client;
-  mask = x .mask;
-  value = x .value;
-  tag = x .tag;
-  begin = x .begin;
-  end = some end;
-  deliveries = x .deliveries;
-  losses = x .losses;
-}
+ended end x = transactionOf (x .isWrite) (x .client) (x .mask) (x .value) (x .tag) (x .begin) (some end) (x .deliveries) (x .losses)
 
 abbrev pub wrote : ℕ → Doing → ℕ → History → History
 wrote answer nothing q h = strayed h
@@ -168,17 +172,7 @@ wrote answer (tagged tag) q h =
 wrote answer (reading mask begin deliveries losses) q h = strayed h
 
 abbrev pub readOf : ℕ → ℕ → (ℕ → Value) → ℕ → ℕ → ℕ → ℕ → ℕ → Transaction
-readOf q mask value tag begin end deliveries losses = record {
-  isWrite = false;
-  client = q;
-  mask = mask;
-  value = value;
-  tag = tag;
-  begin = begin;
-  end = some end;
-  deliveries = deliveries;
-  losses = losses;
-}
+readOf q mask value tag begin end deliveries losses = transactionOf false q mask value tag begin (some end) deliveries losses
 
 abbrev pub showed : ℕ → Delivered → Doing → ℕ → History → History
 showed tag d nothing q h = strayed h

@@ -19,12 +19,13 @@ use Rattle.coordinator.specs.Log as log
 use Rattle.rules.specs.declared.Delivered.{Delivered}
 use Rattle.rules.specs.declared.Arrival.the-variants.{Read}
 use Rattle.rules.specs.Begin.{begunWrite, begunRead}
-use Rattle.rules.specs.Request.{onSet, onEnter, onWhichKeys, onGet, onGetAll, onRequestIn, requestDelivered}
+use Rattle.rules.specs.Request.{onSet, onNewSet, onEnter, onNewEnter, onWhichKeys, onGet, onGetAll, onRequestIn, requestDelivered}
 use Rattle.rules.specs.Reply.{onSetDone, onEntered, onKeys, onGot, onAll, onReplyIn, replyDelivered}
+use Rattle.rules.specs.Loss.{linkLost, sentIn, linkResent}
 use Rattle.soundness.specs.Sound.{longEnough, pressFits, scalarsSound, keyInRange, serverSound, entrySound, logSound, stateAllowed, uses, requestSound, replySound, contentSound, linkSound, receivedSound, clientSound, writeSound, readSound, openSound, recordsSound, sound}
 use Rattle.refusals.specs.Refusals.{openRefusal, writeRefusal, readRefusal, deliveryRefusal}
 use Rattle.refusals.specs.Steps as store
-use Rattle.serial.specs.Steps.{Step, beginning-write, beginning-read, request, reply, play, run}
+use Rattle.serial.specs.Steps.{Step, beginning-write, beginning-read, request, reply, losing, resending, play, run}
 use Rattle.serial.specs.History.{Transaction, valueWritten, valueShown, changed, writeOf, readOf, openedWith, history}
 use Rattle.serial.specs.Row.{readsOf, rowTo, row}
 
@@ -53,14 +54,14 @@ shows tag setpoints tags badges =
 
 -- `R 0 1 4 14` and `W 1 0 1 2 15 0`: the steps count from 0 behind the opening, which is document 01's step 1
 pub sample-row : row (history (run play sample start) (openedWith 2 (1200 ∷ 30 ∷ []))) ≡
-    readOf 1 3 (valueShown (shows 0 (1200 ∷ 30 ∷ []) (0 ∷ 0 ∷ []) (0 ∷ 0 ∷ []))) 0 2 12 6 ∷
+    readOf 1 3 (valueShown (shows 0 (1200 ∷ 30 ∷ []) (0 ∷ 0 ∷ []) (0 ∷ 0 ∷ []))) 0 2 12 6 0 ∷
     writeOf 0 3 (valueWritten 1 0 (1800 ∷ 45 ∷ [])) 1 0 (some 13) ∷ []
 unfolding zeros start sample changed inserted readsOf rowTo store.open′ store.beginWrite store.beginRead store.deliverRequest
     store.deliverReply openRefusal writeRefusal readRefusal deliveryRefusal longEnough pressFits turns sound scalarsSound keyInRange
     serverSound entrySound logSound stateAllowed uses requestSound replySound contentSound linkSound receivedSound clientSound
     writeSound readSound openSound recordsSound allBelow anyBelow sumBelow linkAt putLink firstFrom lastBelow appended log.entered
-    begunWrite begunRead onSet onEnter onWhichKeys onGet onGetAll onRequestIn requestDelivered onSetDone onEntered onKeys onGot onAll
-    onReplyIn replyDelivered
+    begunWrite begunRead onSet onNewSet onEnter onNewEnter onWhichKeys onGet onGetAll onRequestIn requestDelivered onSetDone onEntered
+    onKeys onGot onAll onReplyIn replyDelivered
 sample-row = refl
 
 -- "A READ now shows with each setpoint the tag of the WRITE that put it there, 0 for the opening": one WRITE of server 0 alone, from its
@@ -95,7 +96,7 @@ abbrev wroteOne : Transaction
 wroteOne = writeOf 1 1 (valueWritten 1 7 (1800 ∷ 45 ∷ [])) 1 0 (some 4)
 
 abbrev readBehind : ℕ → ℕ → Transaction
-readBehind end deliveries = readOf 0 3 (valueShown (shows 1 (1800 ∷ 30 ∷ []) (1 ∷ 0 ∷ []) (7 ∷ 0 ∷ []))) 1 5 end deliveries
+readBehind end deliveries = readOf 0 3 (valueShown (shows 1 (1800 ∷ 30 ∷ []) (1 ∷ 0 ∷ []) (7 ∷ 0 ∷ []))) 1 5 end deliveries 0
 
 -- "A READ must show the badge … that belongs to the same WRITE as the setpoint beside it": behind the first WRITE a second with the same
 -- setpoint and another badge, and then a READ
@@ -106,7 +107,7 @@ abbrev wroteAgain : Transaction
 wroteAgain = writeOf 1 1 (valueWritten 2 65535 (1800 ∷ 45 ∷ [])) 2 5 (some 9)
 
 abbrev readAgain : ℕ → ℕ → Transaction
-readAgain end deliveries = readOf 0 3 (valueShown (shows 2 (1800 ∷ 30 ∷ []) (2 ∷ 0 ∷ []) (65535 ∷ 0 ∷ []))) 2 10 end deliveries
+readAgain end deliveries = readOf 0 3 (valueShown (shows 2 (1800 ∷ 30 ∷ []) (2 ∷ 0 ∷ []) (65535 ∷ 0 ∷ []))) 2 10 end deliveries 0
 
 -- "READs of one tag in order of begin step": by B, client 0 begins a READ of server 0 and then client 1 another, which ends first.
 unfoldable pub laterFirst : List Step
@@ -117,7 +118,18 @@ laterFirst =
 
 -- each shows the opening's 1200
 abbrev readOpening : ℕ → ℕ → ℕ → Transaction
-readOpening client begin end = readOf client 1 (valueShown (shows 0 (1200 ∷ 0 ∷ []) (0 ∷ 0 ∷ []) (0 ∷ 0 ∷ []))) 0 begin end 4
+readOpening client begin end = readOf client 1 (valueShown (shows 0 (1200 ∷ 0 ∷ []) (0 ∷ 0 ∷ []) (0 ∷ 0 ∷ []))) 0 begin end 4 0
+
+-- "a READ needs one delivery more for each of its lost replies": a request lost and sent again, a reply lost and asked for again
+unfoldable pub lossy : List ℕ → List Step
+lossy [] = []
+lossy (i ∷ targets) =
+    losing 0 i ∷ resending 0 i ∷ request 0 i ∷ losing 0 i ∷ resending 0 i ∷ request 0 i ∷ reply 0 i ∷ lossy targets
+
+-- such a READ, behind the WRITE
+abbrev readLossy : ℕ → ℕ → ℕ → Transaction
+readLossy end deliveries losses =
+    readOf 0 3 (valueShown (shows 1 (1800 ∷ 30 ∷ []) (1 ∷ 0 ∷ []) (7 ∷ 0 ∷ []))) 1 5 end deliveries losses
 
 pub record Rows : Type 0 where
   pub byA : rowBy 1 (one ++ readA) ≡ wroteOne ∷ readBehind 9 4 ∷ []
@@ -129,12 +141,28 @@ pub record Rows : Type 0 where
   pub againC : rowBy 3 (one ++ again ++ readC) ≡ wroteOne ∷ wroteAgain ∷ readAgain 16 6 ∷ []
   -- begun at steps 0 and 1, ended at steps 9 and 5
   pub byBegin : rowBy 2 laterFirst ≡ readOpening 0 0 9 ∷ readOpening 1 1 5 ∷ []
+  -- two or three replies lost: six deliveries in place of four, nine in place of six
+  pub lossyA : rowBy 1 (one ++ (beginning-read 0 3 ∷ lossy (0 ∷ 1 ∷ []))) ≡ wroteOne ∷ readLossy 19 6 2 ∷ []
+  pub lossyB : rowBy 2 (one ++ (beginning-read 0 3 ∷ lossy (16 ∷ 0 ∷ 1 ∷ []))) ≡ wroteOne ∷ readLossy 26 9 3 ∷ []
+  pub lossyC : rowBy 3 (one ++ (beginning-read 0 3 ∷ lossy (0 ∷ 1 ∷ 16 ∷ []))) ≡ wroteOne ∷ readLossy 26 9 3 ∷ []
 
 pub rows : Rows
 unfolding startBy rowBy one again readA readB readC behindC laterFirst zeros changed inserted readsOf rowTo store.open′ store.beginWrite
     store.beginRead store.deliverRequest store.deliverReply openRefusal writeRefusal readRefusal deliveryRefusal longEnough pressFits
     turns sound scalarsSound keyInRange serverSound entrySound logSound stateAllowed uses requestSound replySound contentSound linkSound
     receivedSound clientSound writeSound readSound openSound recordsSound allBelow anyBelow sumBelow linkAt putLink firstFrom lastBelow
-    appended log.entered begunWrite begunRead onSet onEnter onWhichKeys onGet onGetAll onRequestIn requestDelivered onSetDone onEntered
-    onKeys onGot onAll onReplyIn replyDelivered
-rows = record { byA = refl; byB = refl; byC = refl; back = refl; againA = refl; againB = refl; againC = refl; byBegin = refl }
+    appended log.entered begunWrite begunRead onSet onNewSet onEnter onNewEnter onWhichKeys onGet onGetAll onRequestIn requestDelivered
+    onSetDone onEntered onKeys onGot onAll onReplyIn replyDelivered lossy linkLost sentIn linkResent store.lose store.resend
+rows = record {
+  byA = refl;
+  byB = refl;
+  byC = refl;
+  back = refl;
+  againA = refl;
+  againB = refl;
+  againC = refl;
+  byBegin = refl;
+  lossyA = refl;
+  lossyB = refl;
+  lossyC = refl;
+}

@@ -15,14 +15,15 @@ use Rattle.server.specs.Held.{appended}
 use Rattle.coordinator.specs.Log as log
 use Rattle.rules.specs.declared.Answer.the-variants.{Ok}
 use Rattle.rules.specs.Begin.{begunWrite, begunRead}
-use Rattle.rules.specs.Request.{onSet, onEnter, onWhichKeys, onGet, onGetAll, onRequestIn, requestDelivered}
+use Rattle.rules.specs.Request.{onSet, onNewSet, onEnter, onNewEnter, onWhichKeys, onGet, onGetAll, onRequestIn, requestDelivered}
 use Rattle.rules.specs.Reply.{onSetDone, onEntered, onKeys, onGot, onAll, onReplyIn, replyDelivered}
+use Rattle.rules.specs.Loss.{linkLost, sentIn, linkResent}
 use Rattle.soundness.specs.Sound.{longEnough, pressFits, scalarsSound, keyInRange, serverSound, entrySound, logSound, stateAllowed, uses}
 use Rattle.soundness.specs.Sound.{requestSound, replySound, contentSound, linkSound, receivedSound}
 use Rattle.soundness.specs.Sound.{clientSound, writeSound, readSound, openSound, recordsSound, sound}
 use Rattle.refusals.specs.Refusals.{openRefusal, writeRefusal, readRefusal, deliveryRefusal}
-use Rattle.refusals.specs.Steps.{open′, beginWrite, beginRead, deliverRequest, deliverReply}
-use Rattle.serial.specs.Steps.{Step, beginning-write, beginning-read, request, reply, opened, play}
+use Rattle.refusals.specs.Steps.{open′, beginWrite, beginRead, deliverRequest, deliverReply, lose, resend}
+use Rattle.serial.specs.Steps.{Step, beginning-write, beginning-read, request, reply, losing, resending, opened, play}
 use Rattle.serial.specs.History.{changed}
 use Rattle.serial.specs.Row.{readsOf, rowTo}
 use Rattle.serial.specs.Fields.{walk, whole, complete, readAfterRead, writeAfterRead, readAfterWrite}
@@ -115,6 +116,43 @@ readTwice = beginning-read 1 1 ∷ beginning-read 1 2 ∷ []
 abbrev pub replyOnly : List Step
 replyOnly = reply 1 0 ∷ []
 
+-- the request at each of some targets is lost and sent again, and so is its reply, once each; then both come
+abbrev lossyVisits : ℕ → List ℕ → List Step
+lossyVisits q [] = []
+lossyVisits q (i ∷ targets) =
+    losing q i ∷ resending q i ∷ request q i ∷ losing q i ∷ resending q i ∷ request q i ∷ reply q i ∷ lossyVisits q targets
+
+-- a WRITE of server 0 and then a READ of both, by each method
+abbrev lossyWrite : ℕ → List Step
+lossyWrite q = beginning-write q 1 7 second ∷ lossyVisits q (0 ∷ 16 ∷ [])
+
+abbrev pub lossyByA : List Step
+lossyByA = lossyWrite 1 ++ (beginning-read 0 3 ∷ lossyVisits 0 (0 ∷ 1 ∷ []))
+
+abbrev pub lossyByB : List Step
+lossyByB = lossyWrite 0 ++ (beginning-read 1 3 ∷ lossyVisits 1 (16 ∷ 0 ∷ 1 ∷ []))
+
+abbrev pub lossyByC : List Step
+lossyByC = lossyWrite 0 ++ (beginning-read 1 3 ∷ lossyVisits 1 (0 ∷ 1 ∷ 16 ∷ []))
+
+-- by C, a WRITE whose request at server 1 is lost and not sent again, and then a READ
+abbrev pub lostRequest : List Step
+lostRequest = beginning-write 0 3 7 second ∷ losing 0 1 ∷ visits 0 (0 ∷ 16 ∷ []) ++ readByC 1
+
+-- a READ that loses a reply and does not ask again, and one that loses a request and asks again, with a reply more than it needs
+abbrev pub lostReply : List Step
+lostReply = beginning-read 0 3 ∷ request 0 0 ∷ losing 0 0 ∷ reply 0 0 ∷ visits 0 (1 ∷ [])
+
+abbrev pub askedAgain : List Step
+askedAgain = beginning-read 0 1 ∷ losing 0 0 ∷ resending 0 0 ∷ visits 0 (0 ∷ []) ++ (reply 0 0 ∷ [])
+
+-- a WRITE that has its tag, whose reply is lost, and that asks for it again; and a whole WRITE of client 1 in between
+abbrev pub enteredAgain : List Step
+enteredAgain = acknowledged 0 ++ (request 0 16 ∷ losing 0 16 ∷ resending 0 16 ∷ visits 0 (16 ∷ []))
+
+abbrev pub enteredBetween : List Step
+enteredBetween = acknowledged 0 ++ (request 0 16 ∷ losing 0 16 ∷ resending 0 16 ∷ writeOne 1 ++ visits 0 (16 ∷ []))
+
 -- ---- what the tests of every field say of each, computed
 
 record Tested : Type 0 where
@@ -127,6 +165,10 @@ record Tested : Type 0 where
   right-of-one : Computed [] play 2 (writeOne 0 ++ readByB 1)
   right-of-two : Computed [] play 3 twoReads
   right-then-write : Computed [] play 2 thenWrite
+  right-lossy-by-A : Computed [] play 1 lossyByA
+  right-lossy-by-B : Computed [] play 2 lossyByB
+  right-lossy-by-C : Computed [] play 3 lossyByC
+  right-between : Computed [] play 3 enteredBetween
   not-opening-shown : Computed (walk ∷ []) store.openingShown 1 thenReadByA
   not-opening-at-server-1 : Computed (walk ∷ []) store.openingAtServer1 2 thenReadByB
   not-latest : Computed (walk ∷ []) store.showingLatest 2 crossing
@@ -150,14 +192,19 @@ record Tested : Type 0 where
   not-writing-twice : Computed (whose ∷ []) store.beginningAlways 1 writeTwice
   not-reading-twice : Computed (whose ∷ []) store.beginningAlways 2 readTwice
   not-waiting-at-nothing : Computed (whose ∷ []) store.waitingAtNothing 3 replyOnly
+  not-arrived : Computed (readAfterWrite ∷ []) store.lossArrives 3 lostRequest
+  not-early-by-a-reply : Computed (ends ∷ []) store.losingNothing 1 lostReply
+  not-late-by-a-request : Computed (ends ∷ []) store.endingLate 1 askedAgain
+  not-entered-twice : Computed (tags ∷ []) store.enteringTwice 3 enteredAgain
+  not-last-tag : Computed (tags ∷ []) store.answeringLastTag 3 enteredBetween
 
 tested : Tested
 unfolding zeros played changed inserted readsOf rowTo open′ beginWrite beginRead deliverRequest deliverReply openRefusal
     writeRefusal readRefusal deliveryRefusal longEnough pressFits turns sound scalarsSound keyInRange serverSound entrySound logSound
     stateAllowed uses requestSound replySound contentSound linkSound receivedSound clientSound writeSound readSound openSound
     recordsSound allBelow anyBelow sumBelow linkAt putLink firstFrom lastBelow appended log.entered begunWrite begunRead onSet
-    onEnter onWhichKeys onGet onGetAll onRequestIn requestDelivered onSetDone onEntered onKeys onGot onAll onReplyIn
-    replyDelivered
+    onNewSet onEnter onNewEnter onWhichKeys onGet onGetAll onRequestIn requestDelivered onSetDone onEntered onKeys onGot onAll onReplyIn
+    replyDelivered linkLost sentIn linkResent lose resend
 tested = record {
   byA = refl;
   byB = refl;
@@ -168,6 +215,10 @@ tested = record {
   right-of-one = refl;
   right-of-two = refl;
   right-then-write = refl;
+  right-lossy-by-A = refl;
+  right-lossy-by-B = refl;
+  right-lossy-by-C = refl;
+  right-between = refl;
   not-opening-shown = refl;
   not-opening-at-server-1 = refl;
   not-latest = refl;
@@ -191,6 +242,11 @@ tested = record {
   not-writing-twice = refl;
   not-reading-twice = refl;
   not-waiting-at-nothing = refl;
+  not-arrived = refl;
+  not-early-by-a-reply = refl;
+  not-late-by-a-request = refl;
+  not-entered-twice = refl;
+  not-last-tag = refl;
 }
 
 -- each opens as the store does
@@ -212,6 +268,13 @@ pub passes : Computed [] play 1 thenReadByA ×
     Computed [] play 3 twoReads ×
     Computed [] play 2 thenWrite
 passes = (tested .right-by-A, tested .right-by-B, tested .right-by-C, tested .right-of-one, tested .right-of-two, tested .right-then-write)
+
+-- and with every request and every reply lost once
+pub passes-lossy : Computed [] play 1 lossyByA ×
+    Computed [] play 2 lossyByB ×
+    Computed [] play 3 lossyByC ×
+    Computed [] play 3 enteredBetween
+passes-lossy = (tested .right-lossy-by-A, tested .right-lossy-by-B, tested .right-lossy-by-C, tested .right-between)
 
 -- ---- the wrong stores, by field
 
@@ -303,3 +366,23 @@ not-reading-twice = breaks store.beginningAlways 2 readTwice whose [] opensB (te
 -- a delivery is accepted while the client is idle
 pub not-waiting-at-nothing : Breaks (whose ∷ []) store.waitingAtNothing 3 replyOnly
 not-waiting-at-nothing = breaks store.waitingAtNothing 3 replyOnly whose [] opensC (tested .not-waiting-at-nothing)
+
+-- a lost link is taken for an arrived acknowledgement: the WRITE ends, and server 1 does not have it
+pub not-arrived : Breaks (readAfterWrite ∷ []) store.lossArrives 3 lostRequest
+not-arrived = breaks store.lossArrives 3 lostRequest readAfterWrite [] opensC (tested .not-arrived)
+
+-- a READ ends a delivery early: its lost reply came all the same
+pub not-early-by-a-reply : Breaks (ends ∷ []) store.losingNothing 1 lostReply
+not-early-by-a-reply = breaks store.losingNothing 1 lostReply ends [] opensA (tested .not-early-by-a-reply)
+
+-- a READ ends a delivery late: it lost a request, and no reply
+pub not-late-by-a-request : Breaks (ends ∷ []) store.endingLate 1 askedAgain
+not-late-by-a-request = breaks store.endingLate 1 askedAgain ends [] opensA (tested .not-late-by-a-request)
+
+-- a resent enter is entered twice
+pub not-entered-twice : Breaks (tags ∷ []) store.enteringTwice 3 enteredAgain
+not-entered-twice = breaks store.enteringTwice 3 enteredAgain tags [] opensC (tested .not-entered-twice)
+
+-- a resent enter is answered with the last tag
+pub not-last-tag : Breaks (tags ∷ []) store.answeringLastTag 3 enteredBetween
+not-last-tag = breaks store.answeringLastTag 3 enteredBetween tags [] opensC (tested .not-last-tag)

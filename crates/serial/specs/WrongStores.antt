@@ -8,19 +8,20 @@ use Rattle.ranges.specs.Turns.{turns}
 use Rattle.keys.specs.Keys.{keyOf}
 use Rattle.tables.specs.Layout.{putClientWord, stateField, versionBadge}
 use Rattle.tables.specs.Links.{linkWord, putLink}
-use Rattle.tables.specs.Tables.{Tables, withClients, withLinks, readsOf, stateOf, countOf, maskOf, heldOf}
+use Rattle.tables.specs.Tables.{Tables, withClients, withLinks, entriesOf, readsOf, stateOf, countOf, maskOf, heldOf}
 use Rattle.tables.specs.declared.links.Content.{Content}
 use Rattle.tables.specs.declared.links.Content.the-variants.{Nothing}
 use Rattle.rules.specs.declared.Answer.the-variants.{Ok}
 use Rattle.rules.specs.declared.Arrival.{Arrival}
 use Rattle.rules.specs.declared.Arrival.the-variants.{Wait, Next, Write, Read, Refused}
 use Rattle.rules.specs.declared.Delivered.{Delivered}
-use Rattle.rules.specs.Answers.{nothingShown}
 use Rattle.rules.specs.Common as rules
-use Rattle.rules.specs.Request.{gotFrom}
+use Rattle.rules.specs.Answers.{Left, nothingShown}
+use Rattle.rules.specs.Request.{gotFrom, onNewEnter}
+use Rattle.rules.specs.Loss.{ownKeyOf}
 use Rattle.refusals.specs.Steps.{deliverReply}
-use Rattle.serial.specs.Steps.{Step, opening, beginning-write, beginning-read, request, reply}
-use Rattle.serial.specs.Steps.{Event, opened, begun-write, begun-read, requested, replied, Played, Machine, play}
+use Rattle.serial.specs.Steps.{Step, opening, beginning-write, beginning-read, request, reply, losing, resending}
+use Rattle.serial.specs.Steps.{Event, opened, begun-write, begun-read, requested, replied, lost, resent, Played, Machine, play}
 
 -- the opening's setpoints, and those of a WRITE
 abbrev pub first : List ℕ
@@ -49,6 +50,8 @@ otherwise f t (begun-write q mask badge setpoints a) = begun-write q mask badge 
 otherwise f t (begun-read q mask a) = begun-read q mask a
 otherwise f t (requested q i a) = requested q i a
 otherwise f t (replied q i d) = replied q i (f t (d .arrival) d)
+otherwise f t (lost q i a) = lost q i a
+otherwise f t (resent q i a) = resent q i a
 
 abbrev pub answering : Answering → Machine Step
 answering f step t = let x = play step t in record { event = otherwise f (x .tables) (x .event); tables = x .tables }
@@ -160,6 +163,8 @@ begunAlways (begun-write q mask badge setpoints a) = begun-write q mask badge se
 begunAlways (begun-read q mask a) = begun-read q mask Ok
 begunAlways (requested q i a) = requested q i a
 begunAlways (replied q i d) = replied q i d
+begunAlways (lost q i a) = lost q i a
+begunAlways (resent q i a) = resent q i a
 
 abbrev pub beginningAlways : Machine Step
 beginningAlways step t = let x = play step t in record { event = begunAlways (x .event); tables = x .tables }
@@ -171,6 +176,8 @@ unanswering (beginning-write q mask badge setpoints) t = play (beginning-write q
 unanswering (beginning-read q mask) t = play (beginning-read q mask) t
 unanswering (request q i) t = record { event = requested q i Ok; tables = t }
 unanswering (reply q i) t = play (reply q i) t
+unanswering (losing q i) t = play (losing q i) t
+unanswering (resending q i) t = play (resending q i) t
 
 -- "The head's entry sent before the last acknowledgement": at the first one, and what the other stations were sent is lost
 abbrev entering : ℕ → Tables → Tables
@@ -193,6 +200,8 @@ hurrying (beginning-write q mask badge setpoints) t = play (beginning-write q ma
 hurrying (beginning-read q mask) t = play (beginning-read q mask) t
 hurrying (request q i) t = play (request q i) t
 hurrying (reply q i) t = hurried (deliverReply q i t .delivered .arrival) q i (play (reply q i) t)
+hurrying (losing q i) t = play (losing q i) t
+hurrying (resending q i) t = play (resending q i) t
 
 -- another got reply in place of a station's
 abbrev arriving : Content → ℕ → ℕ → Tables → Played → Played
@@ -211,6 +220,8 @@ showingLatest (beginning-write q mask badge setpoints) t = play (beginning-write
 showingLatest (beginning-read q mask) t = play (beginning-read q mask) t
 showingLatest (request q i) t = arriving (latest i t) q i t (play (request q i) t)
 showingLatest (reply q i) t = play (reply q i) t
+showingLatest (losing q i) t = play (losing q i) t
+showingLatest (resending q i) t = play (resending q i) t
 
 -- a station shows the setpoint of the asked key with the badge of its latest arrival: badges of two WRITEs mixed
 abbrev mixed : ℕ → ℕ → Tables → Tables → Content
@@ -222,3 +233,60 @@ mixingBadges (beginning-write q mask badge setpoints) t = play (beginning-write 
 mixingBadges (beginning-read q mask) t = play (beginning-read q mask) t
 mixingBadges (request q i) t = let x = play (request q i) t in arriving (mixed q i t (x .tables)) q i t x
 mixingBadges (reply q i) t = play (reply q i) t
+mixingBadges (losing q i) t = play (losing q i) t
+mixingBadges (resending q i) t = play (resending q i) t
+
+-- ---- the store, but for losses and what is sent again
+
+-- the same step, with other links
+abbrev linked : List ℕ → Played → Played
+linked links x = record { event = x .event; tables = withLinks links (x .tables) }
+
+-- "a lost link taken for an arrived acknowledgement": what is lost leaves the link empty
+abbrev pub lossArrives : Machine Step
+lossArrives (opening method k p setpoints) t = play (opening method k p setpoints) t
+lossArrives (beginning-write q mask badge setpoints) t = play (beginning-write q mask badge setpoints) t
+lossArrives (beginning-read q mask) t = play (beginning-read q mask) t
+lossArrives (request q i) t = play (request q i) t
+lossArrives (reply q i) t = play (reply q i) t
+lossArrives (losing q i) t = linked (putLink (t .links) q i Nothing) (play (losing q i) t)
+lossArrives (resending q i) t = play (resending q i) t
+
+-- a reply that is lost comes all the same, so that its READ ends a delivery early
+abbrev pub losingNothing : Machine Step
+losingNothing (opening method k p setpoints) t = play (opening method k p setpoints) t
+losingNothing (beginning-write q mask badge setpoints) t = play (beginning-write q mask badge setpoints) t
+losingNothing (beginning-read q mask) t = play (beginning-read q mask) t
+losingNothing (request q i) t = play (request q i) t
+losingNothing (reply q i) t = play (reply q i) t
+losingNothing (losing q i) t = linked (t .links) (play (losing q i) t)
+losingNothing (resending q i) t = play (resending q i) t
+
+-- "a resent enter entered twice": the head does not look for the key
+abbrev newEntry : ℕ → ℕ → Tables → Left
+newEntry q i t = onNewEnter (record { key = ownKeyOf t q; number = maskOf t q; badge = 0 }) q i t
+
+abbrev entered : ℕ → ℕ → Left → Played
+entered q i x = record { event = requested q i (x .answer); tables = x .tables }
+
+abbrev pub enteringTwice : Machine Step
+enteringTwice (opening method k p setpoints) t = play (opening method k p setpoints) t
+enteringTwice (beginning-write q mask badge setpoints) t = play (beginning-write q mask badge setpoints) t
+enteringTwice (beginning-read q mask) t = play (beginning-read q mask) t
+enteringTwice (request q i) t = cond (eqb (stateOf t q) rules.entering) (entered q i (newEntry q i t)) (play (request q i) t)
+enteringTwice (reply q i) t = play (reply q i) t
+enteringTwice (losing q i) t = play (losing q i) t
+enteringTwice (resending q i) t = play (resending q i) t
+
+-- "or answered with the last tag"
+abbrev lastTag : ℕ → ℕ → Played → Played
+lastTag q i x = linked (putLink (x .tables .links) q i (rules.reply (entriesOf (x .tables) - 1))) x
+
+abbrev pub answeringLastTag : Machine Step
+answeringLastTag (opening method k p setpoints) t = play (opening method k p setpoints) t
+answeringLastTag (beginning-write q mask badge setpoints) t = play (beginning-write q mask badge setpoints) t
+answeringLastTag (beginning-read q mask) t = play (beginning-read q mask) t
+answeringLastTag (request q i) t = cond (eqb (stateOf t q) rules.entering) (lastTag q i (play (request q i) t)) (play (request q i) t)
+answeringLastTag (reply q i) t = play (reply q i) t
+answeringLastTag (losing q i) t = play (losing q i) t
+answeringLastTag (resending q i) t = play (resending q i) t

@@ -15,10 +15,11 @@ use Rattle.rules.specs.Open.{opened}
 use Rattle.rules.specs.Begin.{begunWrite, begunRead}
 use Rattle.rules.specs.Request.{requestDelivered}
 use Rattle.rules.specs.Reply.{said, replyDelivered}
+use Rattle.rules.specs.Loss.{linkLost, linkResent}
 use Rattle.soundness.specs.Sound.{sound, longEnough, pressFits}
 use Rattle.soundness.specs.Facts.{Sound, facts-sound}
 use Rattle.refusals.specs.Refusals.{openRefusal, writeFault, writeRefusal, readFault, readRefusal, deliveryFault, deliveryRefusal}
-use Rattle.refusals.specs.Steps.{unless, unlessArrived, badgeOf, open′, beginWrite, beginRead, deliverRequest, deliverReply}
+use Rattle.refusals.specs.Steps.{unless, unlessArrived, badgeOf, open′, beginWrite, beginRead, deliverRequest, deliverReply, lose, resend}
 use Rattle.keeping.specs.Accepted.{Openable, openable, Writable, writable, Readable, readable, Deliverable, deliverable}
 
 -- a number that is not 0 refuses
@@ -46,6 +47,14 @@ module _ (t : Tables) {b : Bool} (d : b ≡ sound t) (e : not b ≡ true) where
   pub unsound-request : (q i : ℕ) → left (Refused 2) t ≡ deliverRequest q i t
   unfolding deliverRequest deliveryRefusal
   unsound-request q i = rw unsound
+
+  pub unsound-loss : (q i : ℕ) → left (Refused 2) t ≡ lose q i t
+  unfolding lose deliveryRefusal
+  unsound-loss q i = rw unsound
+
+  pub unsound-resend : (q i : ℕ) → left (Refused 2) t ≡ resend q i t
+  unfolding resend deliveryRefusal
+  unsound-resend q i = rw unsound
 
   pub unsound-reply : (q i : ℕ) {x : Delivered} → x ≡ nothingShown (arrival.Refused 2) → arrived x t ≡ deliverReply q i t
   unfolding deliverReply deliveryRefusal
@@ -99,6 +108,22 @@ module _ (t : Tables) (s : Sound t) {n : ℕ} where
     pub request-accepted : {x : Left} → n ≡ 0 → x ≡ requestDelivered q i t → x ≡ deliverRequest q i t
     unfolding deliverRequest
     request-accepted z e = rw (delivery-number, z) e
+
+    pub loss-refused : (n ≡ 0 → ⊥) → left (Refused n) t ≡ lose q i t
+    unfolding lose
+    loss-refused z = rw delivery-number (refuses n (linkLost q i t) t z)
+
+    pub loss-accepted : {x : Left} → n ≡ 0 → x ≡ linkLost q i t → x ≡ lose q i t
+    unfolding lose
+    loss-accepted z e = rw (delivery-number, z) e
+
+    pub resend-refused : (n ≡ 0 → ⊥) → left (Refused n) t ≡ resend q i t
+    unfolding resend
+    resend-refused z = rw delivery-number (refuses n (linkResent q i t) t z)
+
+    pub resend-accepted : {x : Left} → n ≡ 0 → x ≡ linkResent q i t → x ≡ resend q i t
+    unfolding resend
+    resend-accepted z e = rw (delivery-number, z) e
 
     pub reply-refused : {x : Delivered} → (n ≡ 0 → ⊥) → x ≡ nothingShown (arrival.Refused n) → arrived x t ≡ deliverReply q i t
     unfolding deliverReply

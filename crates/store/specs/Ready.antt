@@ -1,4 +1,4 @@
--- Sound tables are ready for an opening, the begins and the delivery of a request.
+-- Sound tables are ready for an opening, the begins, the delivery of a request, a loss and a resend.
 use Prim.Native.Nat.{ℕ, _<_}
 use mathlib.Core.Path.{_≡_, sym, _∙_}
 use mathlib.Core.Bool.{true, _&&_}
@@ -10,17 +10,19 @@ use Rattle.tables.specs.Layout.{readsField}
 use Rattle.tables.specs.Links.{targets}
 use Rattle.tables.specs.Tables.{Tables, serversOf, clientsOf, entriesOf, stateOf, countOf, maskOf, contentAt}
 use Rattle.tables.specs.declared.links.Contents.{Contents}
-use Rattle.tables.specs.declared.links.Content.the-variants.{Request, Reply}
+use Rattle.tables.specs.declared.links.Content.the-variants.{Request, Reply, Lost}
 use Rattle.rules.specs.Common.{askingSetpoints}
+use Rattle.rules.specs.Filled.{Fillable}
 use Rattle.soundness.specs.Sound.{uses, replySound, badgeSound, contentSound}
 use Rattle.soundness.specs.Facts.{Sound}
 use Rattle.soundness.specs.Room.{few-servers, server-fits, keys-row, values-row, client-fits, client-row, client-links, link-row, write-row, log-entries, next-write, next-read}
 use Rattle.history.specs.Ready.{BeginReady}
 use Rattle.begins.specs.Ready.{AskReady, WriteReady}
-use Rattle.requests.specs.Ready.{Answerable, AtServer, Asks, RequestReady}
+use Rattle.requests.specs.Ready.{AtServer, Asks, RequestReady}
+use Rattle.losses.specs.Ready.{Sends, ResendReady}
 use Rattle.opening.specs.Ready.{OpenReady}
 use Rattle.keeping.specs.Accepted.{Openable, Writable, Readable, Deliverable, target-below}
-use Rattle.keeping.specs.States.{set-server, get-server}
+use Rattle.keeping.specs.States.{set-server, get-server, uses-setpoints, masked-server}
 
 pub open-ready : (m k p : ℕ) (setpoints : List ℕ) (t : Tables) → Openable m k p setpoints t → OpenReady (t .counts) (t .keys) (t .values) (t .log) setpoints k
 open-ready m k p setpoints t o =
@@ -61,8 +63,8 @@ module _ (t : Tables) (s : Sound t) where
     pub target : i < targets
     target = target-below t s i (d .target)
 
-    pub answerable : Answerable (t .counts) (t .links) q i
-    answerable = record { counted = s .long .counts; stepped = d .early; linked = link-row t s q (d .client) i target }
+    pub fillable : Fillable (t .counts) (t .links) q i
+    fillable = record { counted = s .long .counts; stepped = d .early; linked = link-row t s q (d .client) i target }
 
     -- what a link holds is what its state uses the target for, and its contents are in range
     pub reply-used : (w : Contents) → contentAt t q i ≡ Reply w → uses (stateOf t q) (maskOf t q) i ≡ true
@@ -93,6 +95,7 @@ module _ (t : Tables) (s : Sound t) where
           set = λ z. at-server (set-server t s q i (d .client) target w e z);
           enter = λ z. record {
             room = record { counted = s .long .counts; logged = s .long .log };
+            few = s .scalars .entries .most;
             row = client-row t s q (d .client);
             recorded = write-row t s q (d .client) (rw z);
           };
@@ -100,4 +103,23 @@ module _ (t : Tables) (s : Sound t) where
         }
 
     pub request-ready : RequestReady (t .counts) (t .clients) (t .links) (t .keys) (t .values) (t .log) (t .writes) q i
-    request-ready = record { answerable = answerable; row = client-row t s q (d .client); target = target; asks = asks }
+    request-ready = record { fillable = fillable; row = client-row t s q (d .client); target = target; asks = asks }
+
+    -- a lost link is one that its state uses
+    lost-used : contentAt t q i ≡ Lost → uses (stateOf t q) (maskOf t q) i ≡ true
+    unfolding contentSound
+    lost-used e = rw e at (s .client q (d .client) .link i target .content)
+
+    sends : contentAt t q i ≡ Lost → Sends (t .clients) q i
+    sends e =
+        record {
+          client = client-fits t s q (d .client);
+          row = client-row t s q (d .client);
+          count = omega (arith, s .client q (d .client) .count .most);
+          target = target;
+          server = λ z. server-fits t s i
+              (masked-server t s q i (d .client) (sym (uses-setpoints (maskOf t q) i) ∙ (rw z at (lost-used e))));
+        }
+
+    pub resend-ready : ResendReady (t .counts) (t .clients) (t .links) q i
+    resend-ready = record { fillable = fillable; sends = sends }

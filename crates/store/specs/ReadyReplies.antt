@@ -32,7 +32,7 @@ use Rattle.replies.specs.Ready.{KeysReady, Concludable, AllReady, Brings, Reply
 use Rattle.keeping.specs.Accepted.{Deliverable}
 use Rattle.keeping.specs.Told.{told-held, log-told, opening-qualifies}
 use Rattle.keeping.specs.States.{uses-setpoints, uses-all, by-state, keys-target, masked-server, holding-log, holding-server, arrived, received-none, received-some, keys-told, all-told}
-use Rattle.store.specs.Ready.{target, answerable, reply-used, reply-sound}
+use Rattle.store.specs.Ready.{target, fillable, reply-used, reply-sound}
 
 module _ (t : Tables) (s : Sound t) where
   module _ (q i : ℕ) (d : Deliverable q i t) (w : Contents) (e : contentAt t q i ≡ Reply w) where
@@ -106,4 +106,10 @@ module _ (t : Tables) (s : Sound t) where
         }
 
   pub reply-ready : (q i : ℕ) → Deliverable q i t → ReplyReady (t .counts) (t .clients) (t .links) (t .keys) (t .values) (t .log) (t .writes) (t .reads) q i
-  reply-ready q i d = record { answerable = answerable t s q i d; row = client-row t s q (d .client); linked = client-links t s q (d .client); brings = λ w e. brings q i d w e }
+  reply-ready q i d = record {
+    fillable = fillable t s q i d;
+    row = client-row t s q (d .client);
+    linked = client-links t s q
+        (d .client);
+    brings = λ w e. brings q i d w e;
+  }

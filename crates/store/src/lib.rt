@@ -8,7 +8,7 @@ ghost use Rattle.tables.specs.Tables.{tablesOf};
 ghost use Rattle.rules.specs.Answers.{left, arrived};
 ghost use Rattle.soundness.specs.Sound.{pressFits};
 ghost use Rattle.soundness.specs.Facts.{Sound};
-ghost use Rattle.refusals.specs.Steps.{open′, beginWrite, beginRead, deliverRequest, deliverReply};
+ghost use Rattle.refusals.specs.Steps.{open′, beginWrite, beginRead, deliverRequest, deliverReply, lose, resend};
 use rules::Answer;
 use rules::Arrival;
 use rules::Delivered;
@@ -329,14 +329,8 @@ pub fn deliver_reply_sound(
     let target = target as usize;
     let link = links::link_at(&*links, client, target);
     let content = link.content;
-    let contents = match content {
-        links::Content::Nothing => {
-            return rules::showing_nothing(Arrival::Refused(9));
-        }
-        links::Content::Request(_) => {
-            return rules::showing_nothing(Arrival::Refused(9));
-        }
-        links::Content::Reply(contents) => contents,
+    let links::Content::Reply(contents) = content else {
+        return rules::showing_nothing(Arrival::Refused(9));
     };
     let state = clients::client_word(clients, client, clients::STATE);
     if state == states::WRITING {
@@ -413,6 +407,137 @@ pub fn deliver_reply(
         return rules::showing_nothing(Arrival::Refused(2));
     }
     deliver_reply_sound(
+        counts,
+        clients,
+        links,
+        keys,
+        values,
+        log,
+        writes,
+        reads,
+        client,
+        target,
+    )
+}
+
+// Loses what a link holds, on tables known to be sound: refused by 3, 7 or 14. What no loss changes is lent all the same: its soundness
+// is asked.
+pub fn lose_sound(
+    counts: &mut [u32],
+    clients: &[u32],
+    links: &mut [u32],
+    keys: &[u32],
+    values: &[u32],
+    log: &[u32],
+    writes: &[u32],
+    reads: &[u32],
+    client: u32,
+    target: u32,
+) -> Answer
+    requires { ⌜ Sound (tablesOf (now counts) (now clients) (now links) (now keys) (now values) (now log) (now writes) (now reads)) ⌝ }
+    ensures { λ r. ⌜ left r (tablesOf (now (counts .exit)) (now (clients .entry)) (now (links .exit)) (now (keys .entry))
+        (now (values .entry)) (now (log .entry))
+        (now (writes .entry)) (now (reads .entry)))
+        ≡ lose client target (tablesOf (now (counts .entry)) (now (clients .entry)) (now (links .entry)) (now (keys .entry))
+        (now (values .entry)) (now (log .entry))
+        (now (writes .entry)) (now (reads .entry))) ⌝ }
+{
+    let fault = refusals::delivery_fault(&*counts, client, target);
+    if fault != 0 {
+        return Answer::Refused(fault);
+    }
+    losses::lose(counts, links, client as usize, target as usize)
+}
+
+// Loses what a link holds: refused by 2, 3, 7 or 14.
+pub fn lose(
+    counts: &mut [u32],
+    clients: &[u32],
+    links: &mut [u32],
+    keys: &[u32],
+    values: &[u32],
+    log: &[u32],
+    writes: &[u32],
+    reads: &[u32],
+    client: u32,
+    target: u32,
+) -> Answer
+    ensures { λ r. ⌜ left r (tablesOf (now (counts .exit)) (now (clients .entry)) (now (links .exit)) (now (keys .entry))
+        (now (values .entry)) (now (log .entry))
+        (now (writes .entry)) (now (reads .entry)))
+        ≡ lose client target (tablesOf (now (counts .entry)) (now (clients .entry)) (now (links .entry)) (now (keys .entry))
+        (now (values .entry)) (now (log .entry))
+        (now (writes .entry)) (now (reads .entry))) ⌝ }
+{
+    if !soundness::sound(&*counts, clients, &*links, keys, values, log, writes, reads) {
+        return Answer::Refused(2);
+    }
+    lose_sound(
+        counts,
+        clients,
+        links,
+        keys,
+        values,
+        log,
+        writes,
+        reads,
+        client,
+        target,
+    )
+}
+
+// Sends again what was lost on a link, on tables known to be sound: refused by 3, 7 or 15.
+pub fn resend_sound(
+    counts: &mut [u32],
+    clients: &[u32],
+    links: &mut [u32],
+    keys: &[u32],
+    values: &[u32],
+    log: &[u32],
+    writes: &[u32],
+    reads: &[u32],
+    client: u32,
+    target: u32,
+) -> Answer
+    requires { ⌜ Sound (tablesOf (now counts) (now clients) (now links) (now keys) (now values) (now log) (now writes) (now reads)) ⌝ }
+    ensures { λ r. ⌜ left r (tablesOf (now (counts .exit)) (now (clients .entry)) (now (links .exit)) (now (keys .entry))
+        (now (values .entry)) (now (log .entry))
+        (now (writes .entry)) (now (reads .entry)))
+        ≡ resend client target (tablesOf (now (counts .entry)) (now (clients .entry)) (now (links .entry)) (now (keys .entry))
+        (now (values .entry)) (now (log .entry))
+        (now (writes .entry)) (now (reads .entry))) ⌝ }
+{
+    let fault = refusals::delivery_fault(&*counts, client, target);
+    if fault != 0 {
+        return Answer::Refused(fault);
+    }
+    losses::resend(counts, clients, links, client as usize, target as usize)
+}
+
+// Sends again what was lost on a link: refused by 2, 3, 7 or 15.
+pub fn resend(
+    counts: &mut [u32],
+    clients: &[u32],
+    links: &mut [u32],
+    keys: &[u32],
+    values: &[u32],
+    log: &[u32],
+    writes: &[u32],
+    reads: &[u32],
+    client: u32,
+    target: u32,
+) -> Answer
+    ensures { λ r. ⌜ left r (tablesOf (now (counts .exit)) (now (clients .entry)) (now (links .exit)) (now (keys .entry))
+        (now (values .entry)) (now (log .entry))
+        (now (writes .entry)) (now (reads .entry)))
+        ≡ resend client target (tablesOf (now (counts .entry)) (now (clients .entry)) (now (links .entry)) (now (keys .entry))
+        (now (values .entry)) (now (log .entry))
+        (now (writes .entry)) (now (reads .entry))) ⌝ }
+{
+    if !soundness::sound(&*counts, clients, &*links, keys, values, log, writes, reads) {
+        return Answer::Refused(2);
+    }
+    resend_sound(
         counts,
         clients,
         links,

@@ -1,11 +1,11 @@
-// What other languages call, on numbers and slices: the check of tables, the five public steps, and four of them on tables known to be
+// What other languages call, on numbers and slices: the check of tables, the seven public steps, and six of them on tables known to be
 // sound, which are named `_unchecked`, since nothing checks a caller in another language.
 // An answer crosses as a number: 0 for ok, and below 256 the number of a refusal.
 ghost use mathlib.Core.Path.{_≡_};
 ghost use Rattle.tables.specs.Tables.{tablesOf};
 ghost use Rattle.soundness.specs.Sound.{sound};
 ghost use Rattle.soundness.specs.Facts.{Sound};
-ghost use Rattle.refusals.specs.Steps.{open′, beginWrite, beginRead, deliverRequest, deliverReply};
+ghost use Rattle.refusals.specs.Steps.{open′, beginWrite, beginRead, deliverRequest, deliverReply, lose, resend};
 ghost use Rattle.store_exports.specs.Numbers.{answerNumber, arrivalNumber, crossingOf, numbered, inNumbers, crossed, inCrossing};
 use rules::Answer;
 use rules::Arrival;
@@ -244,6 +244,78 @@ pub extern "C" fn store_deliver_reply(
     to_cross(delivered)
 }
 
+// Loses what a link holds.
+#[no_mangle]
+pub extern "C" fn store_lose(
+    counts: &mut [u32],
+    clients: &[u32],
+    links: &mut [u32],
+    keys: &[u32],
+    values: &[u32],
+    log: &[u32],
+    writes: &[u32],
+    reads: &[u32],
+    client: u32,
+    target: u32,
+) -> u32
+    ensures { λ r. ⌜ numbered r (tablesOf (now (counts .exit)) (now (clients .entry)) (now (links .exit)) (now (keys .entry))
+        (now (values .entry)) (now (log .entry))
+        (now (writes .entry)) (now (reads .entry)))
+        ≡ inNumbers (lose client target (tablesOf (now (counts .entry)) (now (clients .entry)) (now (links .entry)) (now (keys .entry))
+        (now (values .entry)) (now (log .entry))
+        (now (writes .entry)) (now (reads .entry)))) ⌝ }
+{
+    let answer = store::lose(
+        counts,
+        clients,
+        links,
+        keys,
+        values,
+        log,
+        writes,
+        reads,
+        client,
+        target,
+    );
+    answer_number(answer)
+}
+
+// Sends again what was lost on a link.
+#[no_mangle]
+pub extern "C" fn store_resend(
+    counts: &mut [u32],
+    clients: &[u32],
+    links: &mut [u32],
+    keys: &[u32],
+    values: &[u32],
+    log: &[u32],
+    writes: &[u32],
+    reads: &[u32],
+    client: u32,
+    target: u32,
+) -> u32
+    ensures { λ r. ⌜ numbered r (tablesOf (now (counts .exit)) (now (clients .entry)) (now (links .exit)) (now (keys .entry))
+        (now (values .entry)) (now (log .entry))
+        (now (writes .entry)) (now (reads .entry)))
+        ≡ inNumbers (resend client target (tablesOf (now (counts .entry)) (now (clients .entry)) (now (links .entry)) (now (keys .entry))
+        (now (values .entry)) (now (log .entry))
+        (now (writes .entry)) (now (reads .entry)))) ⌝ }
+{
+    let answer = store::resend(
+        counts,
+        clients,
+        links,
+        keys,
+        values,
+        log,
+        writes,
+        reads,
+        client,
+        target,
+    );
+    answer_number(answer)
+}
+
 // Begins a WRITE on tables known to be sound.
 #[no_mangle]
 pub extern "C" fn store_begin_write_unchecked(
@@ -378,4 +450,78 @@ pub extern "C" fn store_deliver_reply_unchecked(
         target,
     );
     to_cross(delivered)
+}
+
+// Loses what a link holds, on tables known to be sound.
+#[no_mangle]
+pub extern "C" fn store_lose_unchecked(
+    counts: &mut [u32],
+    clients: &[u32],
+    links: &mut [u32],
+    keys: &[u32],
+    values: &[u32],
+    log: &[u32],
+    writes: &[u32],
+    reads: &[u32],
+    client: u32,
+    target: u32,
+) -> u32
+    requires { ⌜ Sound (tablesOf (now counts) (now clients) (now links) (now keys) (now values) (now log) (now writes) (now reads)) ⌝ }
+    ensures { λ r. ⌜ numbered r (tablesOf (now (counts .exit)) (now (clients .entry)) (now (links .exit)) (now (keys .entry))
+        (now (values .entry)) (now (log .entry))
+        (now (writes .entry)) (now (reads .entry)))
+        ≡ inNumbers (lose client target (tablesOf (now (counts .entry)) (now (clients .entry)) (now (links .entry)) (now (keys .entry))
+        (now (values .entry)) (now (log .entry))
+        (now (writes .entry)) (now (reads .entry)))) ⌝ }
+{
+    let answer = store::lose_sound(
+        counts,
+        clients,
+        links,
+        keys,
+        values,
+        log,
+        writes,
+        reads,
+        client,
+        target,
+    );
+    answer_number(answer)
+}
+
+// Sends again what was lost on a link, on tables known to be sound.
+#[no_mangle]
+pub extern "C" fn store_resend_unchecked(
+    counts: &mut [u32],
+    clients: &[u32],
+    links: &mut [u32],
+    keys: &[u32],
+    values: &[u32],
+    log: &[u32],
+    writes: &[u32],
+    reads: &[u32],
+    client: u32,
+    target: u32,
+) -> u32
+    requires { ⌜ Sound (tablesOf (now counts) (now clients) (now links) (now keys) (now values) (now log) (now writes) (now reads)) ⌝ }
+    ensures { λ r. ⌜ numbered r (tablesOf (now (counts .exit)) (now (clients .entry)) (now (links .exit)) (now (keys .entry))
+        (now (values .entry)) (now (log .entry))
+        (now (writes .entry)) (now (reads .entry)))
+        ≡ inNumbers (resend client target (tablesOf (now (counts .entry)) (now (clients .entry)) (now (links .entry)) (now (keys .entry))
+        (now (values .entry)) (now (log .entry))
+        (now (writes .entry)) (now (reads .entry)))) ⌝ }
+{
+    let answer = store::resend_sound(
+        counts,
+        clients,
+        links,
+        keys,
+        values,
+        log,
+        writes,
+        reads,
+        client,
+        target,
+    );
+    answer_number(answer)
 }

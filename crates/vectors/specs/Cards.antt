@@ -1,30 +1,16 @@
 -- Document 01's starred cards, one checked table: each with its sentence.
 use Prim.Native.Nat.{ℕ}
-use mathlib.Core.Path.{_≡_, refl}
+use mathlib.Core.Path.{_≡_}
 use mathlib.Core.List.{[], _∷_}
 use lib.ListN.{replicate}
-use Rattle.ranges.specs.All.{allBelow, anyBelow}
-use Rattle.ranges.specs.Sum.{sumBelow}
-use Rattle.ranges.specs.First.{firstFrom}
-use Rattle.ranges.specs.Last.{lastBelow}
-use Rattle.ranges.specs.Turns.{turns}
 use Rattle.keys.specs.Keys.{keyOf}
-use Rattle.tables.specs.Links.{linkAt, putLink}
 use Rattle.tables.specs.Tables.{stepOf}
-use Rattle.server.specs.Held.{appended}
-use Rattle.coordinator.specs.Log.{entered}
 use Rattle.coordinator.specs.Latest.{latestKey}
-use Rattle.coordinator.specs.Cards.{log-card}
 use Rattle.rules.specs.declared.Answer.the-variants as answer
 use Rattle.rules.specs.declared.Arrival.the-variants as arrival
 use Rattle.rules.specs.declared.Delivered.{Delivered}
-use Rattle.rules.specs.Begin.{begunWrite, begunRead}
 use Rattle.rules.specs.Choice.{chosenTag}
-use Rattle.rules.specs.Request.{onSet, onEnter, onWhichKeys, onGet, onGetAll, onRequestIn, requestDelivered}
-use Rattle.rules.specs.Reply.{onSetDone, onEntered, onKeys, onGot, onAll, onReplyIn, replyDelivered}
-use Rattle.soundness.specs.Sound.{longEnough, pressFits, scalarsSound, keyInRange, serverSound, entrySound, logSound, stateAllowed, uses, requestSound, replySound, contentSound, linkSound, receivedSound, clientSound, writeSound, readSound, openSound, recordsSound, sound}
-use Rattle.refusals.specs.Refusals.{openRefusal, writeRefusal, readRefusal, deliveryRefusal}
-use Rattle.refusals.specs.Steps.{open′, beginWrite, beginRead, deliverRequest, deliverReply}
+use Rattle.refusals.specs.Steps.{open′, beginWrite, beginRead, deliverReply}
 use Rattle.frames.specs.declared.Message.the-variants.{Set}
 use Rattle.frames.specs.declared.Reading.the-variants.{Read, Refused}
 use Rattle.frames.specs.Frames.{frameOf}
@@ -80,29 +66,3 @@ pub record Cards : Type 0 where
   pub swapped-tag : deliverReply 2 16 (after swapped (opened 3 3)) .delivered ≡ shows 2 1500 2 badgeB 0
   -- the same on the choice alone: of the three entries, with two versions received from server 0
   pub swapped-choice : chosenTag heldWithoutA logOfTwo 1 (λ i. 2) 2 3 ≡ 2
-
-pub cards : Cards
-unfolding blank opened after busy overtaken swapped open′ beginWrite beginRead deliverRequest deliverReply openRefusal writeRefusal readRefusal deliveryRefusal longEnough pressFits turns sound scalarsSound keyInRange serverSound entrySound logSound stateAllowed uses requestSound replySound contentSound linkSound receivedSound clientSound writeSound readSound openSound recordsSound allBelow anyBelow sumBelow linkAt putLink firstFrom lastBelow appended entered begunWrite begunRead onSet onEnter onWhichKeys onGet onGetAll onRequestIn requestDelivered onSetDone onEntered onKeys onGot onAll onReplyIn replyDelivered
-cards =
-    record {
-      frame-written = frame.cards .written;
-      frame-read = frame.cards .read-back;
-      last-byte-01 = frame.cards .last-byte-01;
-      another-00 = frame.cards .another-00;
-      no-bytes = frame.cards .no-bytes;
-      one-client = refl;
-      two-clients = refl;
-      write-mask-4 = refl;
-      write-mask-3 = refl;
-      read-mask-4 = refl;
-      read-mask-3 = refl;
-      write-while-busy = refl;
-      read-while-busy = refl;
-      key-of-server-0 = log-card .0;
-      key-of-server-1 = log-card .1;
-      overtaken-steps = refl;
-      overtaken-tag = refl;
-      swapped-steps = refl;
-      swapped-tag = refl;
-      swapped-choice = refl;
-    }

@@ -1,5 +1,5 @@
 -- The functions of `versions` are a station's: where a table of version structs says the same as the store's two slices, a delivered set
--- request does what `append` answers, and a delivered get request what `setpoint_of` reads.
+-- request does what `find` finds and else what `append` answers, and a delivered get request what `setpoint_of` reads.
 use Prim.Native.Nat.{ℕ, _≤_}
 use mathlib.Core.Path.{_≡_, sym, ap, _∙_}
 use mathlib.Core.Bool.{Bool, cond}
@@ -15,20 +15,25 @@ use Rattle.server.specs.Held as held
 use Rattle.server.specs.Held.{Room, Appended, appended}
 use Rattle.rules.specs.Answers.{Left}
 use Rattle.rules.specs.Common.{gotReply}
-use Rattle.rules.specs.Request.{answeredBy, answered, refused, storedBy, onSet, onGet}
+use Rattle.rules.specs.Request.{answeredBy, answered, refused, storedBy, onNewSet, onSet, onGet}
 use Rattle.versions.specs.declared.Version.{Version}
 use Rattle.versions.specs.declared.Reading.{Reading}
-use Rattle.versions.specs.Table.{appendNumber, appendTable, readingOf}
+use Rattle.versions.specs.Table.{appendNumber, appendTable, readable, firstBearing, readingOf}
 use Rattle.versions.specs.Core.{SameTable, versionOf, coreReading}
-use Rattle.versions.specs.CoreLaws.{reading-same, number-same, append-same}
+use Rattle.versions.specs.CoreLaws.{readable-same, find-same, reading-same, number-same, append-same}
 
 -- what a delivered get request makes of what was read of its key: the reply with badge and setpoint, or the refusal by its number
 abbrev pub gotBy : Reading → ℕ → ℕ → Tables → Left
 gotBy r q i t = cond (eqb (r .number) 0) (answeredBy (gotReply (r .badge) (r .setpoint)) q i t) (refused (r .number) t)
 
--- what a delivered set request makes of the number that an append answers
-abbrev pub setBy : ℕ → Appended → ℕ → ℕ → Tables → Left
-setBy number a q i t = cond (eqb number 0) (answered q i 0 (storedBy a t)) (refused number t)
+-- what a delivered set request with a new key makes of the number that an append answers
+abbrev pub newBy : ℕ → Appended → ℕ → ℕ → Tables → Left
+newBy number a q i t = cond (eqb number 0) (answered q i 0 (storedBy a t)) (refused number t)
+
+-- and any set request of the place where its key was found among n versions first: "A station that holds the key already acknowledges
+-- without storing"
+abbrev pub setBy : ℕ → ℕ → ℕ → Appended → ℕ → ℕ → Tables → Left
+setBy place n number a q i t = cond (ltb place n) (answered q i 0 t) (newBy number a q i t)
 
 module _ (w : Contents) (q i : ℕ) (t : Tables) where
   -- what the core reads is what `onGet` reads, on any tables
@@ -47,13 +52,26 @@ module _ (w : Contents) (q i : ℕ) (t : Tables) where
       abbrev after : Appended
       after = appended (t .counts) (t .keys) (t .values) i (w .key) (w .badge) (w .number)
 
-      pub set-appends : onSet w q i t ≡ setBy (appendNumber (heldOf t i) (length versions)) after q i t
-      unfolding onSet
-      set-appends =
+      pub new-appends : onNewSet w q i t ≡ newBy (appendNumber (heldOf t i) (length versions)) after q i t
+      unfolding onNewSet
+      new-appends =
           rw (number-same (t .counts) (t .keys) (t .values) i room versions same (w .key) (w .badge) (w .number) f)
           (by-test (after .done) (λ e. rw e) (λ e. rw e))
 
-      -- and the table of structs still says the same as the slices that are left
+      -- the key is looked for first: by `find`, among as many as `held_now` says
+      pub set-looks : heldOf t i ≤ serverPlaces →
+          onSet w q i t
+          ≡ setBy (firstBearing versions (heldOf t i) (w .key)) (readable (heldOf t i) (length versions))
+          (appendNumber (heldOf t i) (length versions)) after q i t
+      unfolding onSet
+      set-looks few =
+          rw (
+            find-same versions (t .keys) (t .values) i same (heldOf t i) few (w .key) f,
+            readable-same versions (t .keys) (t .values) i same (heldOf t i) few,
+            new-appends,
+          )
+
+      -- where it is new, the table of structs still says the same as the slices that are left
       pub set-same :
           SameTable (appendTable versions (heldOf t i) (versionOf (w .key) (w .badge) (w .number))) (after .keys) (after .values) i
       set-same = append-same (t .counts) (t .keys) (t .values) i room versions same (w .key) (w .badge) (w .number) f

@@ -23,7 +23,8 @@ pub struct Reading {
 }
 
 // Appends a version behind those held, and answers 0. Where the lent table has fewer than 256 places it answers 2, then where 256 are held 8,
-// and nothing changes.
+// and nothing changes. Where a version held bears the key already, as when a request was sent again, none is appended: `find` tells that
+// first.
 pub fn append(versions: &mut [Version], held: usize, version: Version) -> u8
     ensures { λ r. ⌜ (r ≡ appendNumber held (length (now (versions .entry)))) × (now (versions .exit) ≡ appendTable (now (versions .entry)) held version) ⌝ }
 {

@@ -18,7 +18,7 @@ use Rattle.tables.specs.Layout.{entryWidth, entryMask, versionWord, versionBadg
 use Rattle.tables.specs.Tables.{Tables, serversOf, clientsOf, entriesOf, heldOf, stateOf, maskOf, contentAt}
 use Rattle.tables.specs.declared.links.Contents.{Contents}
 use Rattle.tables.specs.declared.links.Content.{Content}
-use Rattle.tables.specs.declared.links.Content.the-variants.{Nothing, Request, Reply}
+use Rattle.tables.specs.declared.links.Content.the-variants.{Nothing, Request, Reply, Lost}
 use Rattle.coordinator.specs.Latest.{latestTag, latestWord, latestTagAt}
 use Rattle.coordinator.specs.LatestLaws.{latest-within}
 use Rattle.rules.specs.Common.{coordinator}
@@ -186,6 +186,7 @@ module _ (t : Tables) (s : Sound t) (words : Words (t .links) (t .values)) (q i 
 
   by-content : (c : Content) → contentAt t q i ≡ c → CanBeWritten (onLinkBy c q i t)
   by-content Nothing e = tt
+  by-content Lost e = tt
   by-content (Request w) e =
       let k = asks t s q i a .kind in
       subst (λ (w : Contents). CanBeWritten (alone (requestIn (stateOf t q) w q i))) (request-words (t .links) q i w k e) (request-can (request-kind (t .links) q i w k e))

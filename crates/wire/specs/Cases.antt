@@ -12,7 +12,7 @@ use Rattle.tables.specs.Links.{linkAt}
 use Rattle.tables.specs.Tables.{Tables, serversOf, clientsOf, stateOf, contentAt}
 use Rattle.tables.specs.declared.links.Contents.{Contents}
 use Rattle.tables.specs.declared.links.Content.{Content}
-use Rattle.tables.specs.declared.links.Content.the-variants.{Nothing, Request, Reply}
+use Rattle.tables.specs.declared.links.Content.the-variants.{Nothing, Request, Reply, Lost}
 use Rattle.tables.specs.declared.links.Link.{Link}
 use Rattle.coordinator.specs.Latest.{latestWord, latestTagAt}
 use Rattle.rules.specs.Common.{writing, entering, askingKeys, askingSetpoints, coordinator}
@@ -143,6 +143,10 @@ module _ (q i : ℕ) (t : Tables) (bytes : List ℕ) {link : Link} (l : link ≡
   pub link-empty : link .content ≡ Nothing → refused 9 bytes ≡ wroteFrom (onLink q i t) bytes
   unfolding onLink wroteFrom
   link-empty e = rw (held e)
+
+  pub link-lost : link .content ≡ Lost → refused 9 bytes ≡ wroteFrom (onLink q i t) bytes
+  unfolding onLink wroteFrom
+  link-lost e = rw (held e)
 
   pub link-request : (w : Contents) {state : ℕ} {m : Message} {x : Sent} → link .content ≡ Request w → state ≡ stateOf t q → m ≡ requestIn state w q i → x ≡ wroteFrom (alone m) bytes → x ≡ wroteFrom (onLink q i t) bytes
   unfolding onLink

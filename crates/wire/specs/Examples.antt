@@ -19,8 +19,9 @@ use Rattle.server.specs.Held.{appended}
 use Rattle.coordinator.specs.Log.{entered}
 use Rattle.rules.specs.Open as rules
 use Rattle.rules.specs.Begin.{begunWrite, begunRead}
-use Rattle.rules.specs.Request.{onSet, onEnter, onWhichKeys, onGet, onGetAll, onRequestIn, requestDelivered}
+use Rattle.rules.specs.Request.{onNewSet, onSet, onNewEnter, onEnter, onWhichKeys, onGet, onGetAll, onRequestIn, requestDelivered}
 use Rattle.rules.specs.Reply.{onSetDone, onEntered, onKeys, onGot, onAll, onReplyIn, replyDelivered}
+use Rattle.rules.specs.Loss.{linkLost}
 use Rattle.frames.specs.declared.Message.the-variants.{Set, SetDone, Enter, Entered, WhichKeys, Keys, Get, Got, GetAll, All, GetLog, Log}
 use Rattle.frames.specs.declared.Written.the-variants.{Length, Refused}
 use Rattle.ranges.specs.Laid.{built}
@@ -79,6 +80,7 @@ allAnswered = asked 1 16 (asked 1 1 (asked 0 16 (replied 0 1 (replied 0 0 writte
 pub record Examples : Type 0 where
   pub idle-link : onLink 0 0 (opened 2) ≡ empty
   pub set-sent : onLink 0 1 writeBegun ≡ alone (Set 0 1 (keyOf 1 0) 0 45)
+  pub set-lost : onLink 0 1 (linkLost 0 1 writeBegun .tables) ≡ empty
   pub head-later : onLink 0 16 writeBegun ≡ empty
   pub set-done : onLink 0 0 keysAnswered ≡ alone (SetDone 0 0)
   pub keys-asked : onLink 1 16 (begunRead 1 3 (opened 2)) ≡ alone (WhichKeys 1)
@@ -105,14 +107,16 @@ pub record Examples : Type 0 where
 
 pub examples : Examples
 unfolding blank opened writeBegun keysAnswered bothStored writeEntered keysArrived readBegun writtenBehind allAnswered onLink requestIn
-    replyIn sentFrom turns anyBelow firstFrom lastBelow linkAt putLink appended entered begunWrite begunRead onSet onEnter onWhichKeys
-    onGet onGetAll onRequestIn requestDelivered onSetDone onEntered onKeys onGot onAll onReplyIn replyDelivered built bitOf withBit
+    replyIn sentFrom turns anyBelow firstFrom lastBelow linkAt putLink appended entered begunWrite begunRead onNewSet onSet onNewEnter
+    onEnter onWhichKeys
+    onGet onGetAll onRequestIn requestDelivered onSetDone onEntered onKeys onGot onAll onReplyIn replyDelivered linkLost built bitOf withBit
     setBit putField size lay frame sortAt bitsOf entriesIn hasBadges leftAfter placeAfter nextOf entries fixed format entryValue
     valuesOf frameOf fits
 examples =
     record {
       idle-link = refl;
       set-sent = refl;
+      set-lost = refl;
       head-later = refl;
       set-done = refl;
       keys-asked = refl;

@@ -20,7 +20,7 @@ use Rattle.server.specs.Held.{appended}
 use Rattle.coordinator.specs.Log.{entered}
 use Rattle.rules.specs.Open as rules
 use Rattle.rules.specs.Begin.{begunWrite, begunRead}
-use Rattle.rules.specs.Request.{onSet, onEnter, onWhichKeys, onGet, onGetAll, onRequestIn, requestDelivered}
+use Rattle.rules.specs.Request.{onNewSet, onSet, onNewEnter, onEnter, onWhichKeys, onGet, onGetAll, onRequestIn, requestDelivered}
 use Rattle.rules.specs.Reply.{onSetDone, onEntered, onKeys, onGot, onAll, onReplyIn, replyDelivered}
 use Rattle.formats.specs.Entries.{entryValue}
 use Rattle.frames.specs.Entries.{valuesOf}
@@ -104,7 +104,8 @@ pub record Kinds : Type 0 where
 
 pub kinds : Kinds
 unfolding blank opened setting stored entering logged reading keysTold getting allTold onLink requestIn replyIn turns anyBelow firstFrom
-    lastBelow linkAt putLink appended entered begunWrite begunRead onSet onEnter onWhichKeys onGet onGetAll onRequestIn requestDelivered
+    lastBelow linkAt putLink appended entered begunWrite begunRead onNewSet onSet onNewEnter onEnter onWhichKeys onGet onGetAll
+    onRequestIn requestDelivered
     onSetDone onEntered onKeys onGot onAll onReplyIn replyDelivered built bitOf withBit setBit putField size lay frame sortAt bitsOf
     entriesIn hasBadges leftAfter placeAfter nextOf entries fixed format entryValue valuesOf frameOf
 kinds =

@@ -8,14 +8,15 @@ use Rattle.tables.specs.Layout.{entryWidth, entryMask, versionWord, versionBadg
 use Rattle.tables.specs.Tables.{Tables, serversOf, stateOf, contentAt}
 use Rattle.tables.specs.declared.links.Contents.{Contents}
 use Rattle.tables.specs.declared.links.Content.{Content}
-use Rattle.tables.specs.declared.links.Content.the-variants.{Nothing, Request, Reply}
+use Rattle.tables.specs.declared.links.Content.the-variants.{Nothing, Request, Reply, Lost}
 use Rattle.coordinator.specs.Latest.{latestWord, latestTagAt}
 use Rattle.rules.specs.Common.{writing, entering, askingKeys, askingSetpoints, coordinator}
 use Rattle.frames.specs.declared.Message.{Message}
 use Rattle.frames.specs.declared.Message.the-variants.{Set, SetDone, Enter, Entered, WhichKeys, Keys, Get, Got, GetAll, All, GetLog, Log}
 use Rattle.ranges.specs.Laid.{built}
 
--- what a link holds: nothing, or a message with the keys of its entries, as words, their badges, none where the kind has none, and their
+-- what crosses on a link: nothing, also where it is lost, or a message with the keys of its entries, as words, their badges, none where
+-- the kind has none, and their
 -- tags, setpoints or masks
 pub data OnLink : Type 0 where
   empty : OnLink
@@ -66,6 +67,7 @@ abbrev pub onLinkBy : Content → ℕ → ℕ → Tables → OnLink
 onLinkBy Nothing q i t = empty
 onLinkBy (Request w) q i t = alone (requestIn (stateOf t q) w q i)
 onLinkBy (Reply w) q i t = replyIn (stateOf t q) w q i t
+onLinkBy Lost q i t = empty
 
 -- what the link of client q and target i holds
 unfoldable pub onLink : ℕ → ℕ → Tables → OnLink

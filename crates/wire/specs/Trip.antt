@@ -16,7 +16,7 @@ use Rattle.formats.specs.Format.{format}
 use Rattle.tables.specs.Tables.{Tables, stateOf, contentAt}
 use Rattle.tables.specs.declared.links.Contents.{Contents}
 use Rattle.tables.specs.declared.links.Content.{Content}
-use Rattle.tables.specs.declared.links.Content.the-variants.{Nothing, Request, Reply}
+use Rattle.tables.specs.declared.links.Content.the-variants.{Nothing, Request, Reply, Lost}
 use Rattle.soundness.specs.Facts.{Sound, facts-sound}
 use Rattle.frames.specs.declared.Message.{Message}
 use Rattle.frames.specs.declared.Reading.the-variants.{Read}
@@ -67,6 +67,7 @@ reply-exact state w q i t =
 content-exact : (c : Content) (q i : ℕ) (t : Tables) → ExactOn (onLinkBy c q i t)
 unfolding ExactOn
 content-exact Nothing q i t = tt
+content-exact Lost q i t = tt
 content-exact (Request w) q i t = request-exact (stateOf t q) w q i
 content-exact (Reply w) q i t = reply-exact (stateOf t q) w q i t
 

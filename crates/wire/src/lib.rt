@@ -254,7 +254,7 @@ fn write_reply(
     write_everything(keys, values, log, number, client, target, bytes)
 }
 
-// What the link holds; 9 where it holds nothing.
+// What the link holds; 9 where it holds nothing, or is lost.
 fn write_link(
     counts: &[u32],
     clients: &[u32],
@@ -276,6 +276,7 @@ fn write_link(
     let to = target as u8;
     match content {
         Content::Nothing => Written::Refused(9),
+        Content::Lost => Written::Refused(9),
         Content::Request(contents) => write_alone(
             request_message(state, contents, from, to),
             bytes,

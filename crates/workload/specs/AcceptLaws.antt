@@ -1,7 +1,7 @@
 -- On sound tables the scan tells exactly the steps whose answer is no refusal.
 use Prim.Native.Nat.{ℕ, zero, suc, _-_, _*_, _+_, _/_, _%_}
 use mathlib.Core.Path.{_≡_, refl, sym, _∙_, ap}
-use mathlib.Core.Bool.{Bool, true, false, cond, not, _&&_, and-true, and-false}
+use mathlib.Core.Bool.{Bool, true, false, cond, not, _&&_, _||_, and-true, and-false, or-true, or-false}
 use mathlib.Core.List.{List}
 use native.Mathlib.Omega.{arith}
 use lib.Dec.{eqb, ltb}
@@ -15,13 +15,14 @@ use Rattle.tables.specs.Links.{targets}
 use Rattle.tables.specs.Tables.{Tables, serversOf, clientsOf, stateOf, maskOf, contentAt}
 use Rattle.tables.specs.declared.links.Contents.{Contents}
 use Rattle.tables.specs.declared.links.Content.{Content}
-use Rattle.tables.specs.declared.links.Content.the-variants.{Nothing, Request, Reply}
+use Rattle.tables.specs.declared.links.Content.the-variants.{Nothing, Request, Reply, Lost}
 use Rattle.rules.specs.declared.Answer.the-variants.{Ok}
 use Rattle.rules.specs.Answers.{Left, left, Arrived}
 use Rattle.rules.specs.Common.{writing, entering, askingKeys, askingSetpoints, pending}
 use Rattle.rules.specs.Begin.{begunWrite, begunRead}
 use Rattle.rules.specs.Open.{allServers}
-use Rattle.rules.specs.Request.{onSet, onEnter, onWhichKeys, onGet, onGetAll, onRequestIn, onRequest, requestDelivered}
+use Rattle.rules.specs.Request.{onNewSet, onSet, onNewEnter, onEnter, onWhichKeys, onGet, onGetAll, onRequestIn, onRequest}
+use Rattle.rules.specs.Request.{requestDelivered}
 use Rattle.rules.specs.Reply.{emptied, onSetDone, onEntered, onKeys, onGot, onAll, onReplyIn, onReply, replyDelivered}
 use Rattle.soundness.specs.Facts.{Sound, facts-sound}
 use Rattle.refusals.specs.Refusals.{writeFault, writeRefusal, readFault, readRefusal, deliveryFault, deliveryRefusal}
@@ -29,8 +30,8 @@ use Rattle.refusals.specs.Steps.{unless, unlessArrived, badgeOf, beginWrite, be
 use Rattle.schedule.specs.declared.Step.the-variants as step
 use Rattle.playing.specs.Played.{answerWord, arrivalWord, played}
 use Rattle.workload.specs.Load.{writeOfAll, readOfAll, loadStep, numbered, isAccepted, acceptable}
-use Rattle.workload.specs.Accepts.{acceptsWrite, acceptsRead, isHeld, answersIn, answersRequest, acceptsRequest, takesReply}
-use Rattle.workload.specs.Accepts.{acceptsReply, accepts}
+use Rattle.workload.specs.Accepts.{acceptsWrite, acceptsRead, isHeld, isEntered, answersIn, answersRequest, acceptsRequest}
+use Rattle.workload.specs.Accepts.{takesReply, acceptsReply, accepts}
 
 -- an answer that is no refusal
 abbrev pub isFine : Left → Bool
@@ -50,19 +51,32 @@ judged-arrival (suc m) x t = rw (ne-eqb (suc m) 0 (λ e. omega arith))
 
 -- what a target answers, by the state that asked it
 module _ (w : Contents) (q i : ℕ) (t : Tables) where
-  set-fine : ltb (heldBy (t .counts) i) serverPlaces ≡ isFine (onSet w q i t)
-  unfolding onSet appended
-  set-fine = by-test (ltb (heldBy (t .counts) i) serverPlaces) (λ e. rw e) (λ e. rw e)
+  new-set-fine : ltb (heldBy (t .counts) i) serverPlaces ≡ isFine (onNewSet w q i t)
+  unfolding onNewSet appended
+  new-set-fine = by-test (ltb (heldBy (t .counts) i) serverPlaces) (λ e. rw e) (λ e. rw e)
 
-  enter-fine : ltb (entriesIn (t .counts)) logPlaces ≡ isFine (onEnter w q i t)
-  unfolding onEnter entered
-  enter-fine = by-test (ltb (entriesIn (t .counts)) logPlaces) (λ e. rw e) (λ e. rw e)
+  -- a key that is held is acknowledged, full or not
+  set-fine : (ltb (heldBy (t .counts) i) serverPlaces || isHeld (t .counts) (t .keys) i (w .key)) ≡ isFine (onSet w q i t)
+  unfolding onSet
+  set-fine =
+      let room = ltb (heldBy (t .counts) i) serverPlaces in
+      by-test (isHeld (t .counts) (t .keys) i (w .key)) (λ e. rw (e, or-true room)) (λ e. rw (e, or-false room) new-set-fine)
+
+  new-enter-fine : ltb (entriesIn (t .counts)) logPlaces ≡ isFine (onNewEnter w q i t)
+  unfolding onNewEnter entered
+  new-enter-fine = by-test (ltb (entriesIn (t .counts)) logPlaces) (λ e. rw e) (λ e. rw e)
+
+  enter-fine : (ltb (entriesIn (t .counts)) logPlaces || isEntered (t .counts) (t .log) (w .key)) ≡ isFine (onEnter w q i t)
+  unfolding onEnter
+  enter-fine =
+      let room = ltb (entriesIn (t .counts)) logPlaces in
+      by-test (isEntered (t .counts) (t .log) (w .key)) (λ e. rw (e, or-true room)) (λ e. rw (e, or-false room) new-enter-fine)
 
   get-fine : isHeld (t .counts) (t .keys) i (w .key) ≡ isFine (onGet w q i t)
   unfolding onGet
   get-fine = by-test (isHeld (t .counts) (t .keys) i (w .key)) (λ e. rw e) (λ e. rw e)
 
-  request-fine : (state : ℕ) → answersIn state w (t .counts) (t .keys) i ≡ isFine (onRequestIn state w q i t)
+  request-fine : (state : ℕ) → answersIn state w (t .counts) (t .keys) (t .log) i ≡ isFine (onRequestIn state w q i t)
   unfolding answersIn onRequestIn onWhichKeys onGetAll
   request-fine state =
       by-test (eqb state writing) (λ a. rw a set-fine) (λ a.
@@ -93,15 +107,17 @@ module _ (w : Contents) (q i : ℕ) (t : Tables) where
 
 -- by what the link holds; b is whether the delivery is judged good
 module _ (q i : ℕ) (t : Tables) (b : Bool) where
-  on-request : (c : Content) → answersRequest c b (stateOf t q) (t .counts) (t .keys) i ≡ (b && isFine (onRequest c q i t))
+  on-request : (c : Content) → answersRequest c b (stateOf t q) (t .counts) (t .keys) (t .log) i ≡ (b && isFine (onRequest c q i t))
   on-request Nothing = sym (and-false b)
   on-request (Request w) = rw (request-fine w q i t (stateOf t q))
   on-request (Reply w) = sym (and-false b)
+  on-request Lost = sym (and-false b)
 
   on-reply : (c : Content) → takesReply c b ≡ (b && isFineArrival (onReply c q i t))
   on-reply Nothing = sym (and-false b)
   on-reply (Request w) = sym (and-false b)
   on-reply (Reply w) = rw (reply-fine w q i t (stateOf t q)) (sym (and-true b))
+  on-reply Lost = sym (and-false b)
 
 -- a public step is accepted where nothing refuses it
 module _ (t : Tables) (s : Sound t) where

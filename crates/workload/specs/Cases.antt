@@ -15,7 +15,7 @@ use Rattle.tables.specs.Links.{targets, linkAt}
 use Rattle.tables.specs.Tables.{Tables, serversOf, clientsOf, stateOf, countOf, contentAt}
 use Rattle.tables.specs.declared.links.Contents.{Contents}
 use Rattle.tables.specs.declared.links.Content.{Content}
-use Rattle.tables.specs.declared.links.Content.the-variants.{Nothing, Request, Reply}
+use Rattle.tables.specs.declared.links.Content.the-variants.{Nothing, Request, Reply, Lost}
 use Rattle.tables.specs.declared.links.Link.{Link}
 use Rattle.rules.specs.Common.{writing, entering, askingKeys, askingSetpoints}
 use Rattle.rules.specs.Open.{allServers}
@@ -27,7 +27,7 @@ use Rattle.workload.specs.declared.Next.the-variants as next
 use Rattle.workload.specs.Passing.{passing}
 use Rattle.workload.specs.PassingLaws.{Found, found-count, found-at}
 use Rattle.workload.specs.Load.{advance, indexBy, loadStep, numbered, pickedFrom}
-use Rattle.workload.specs.Accepts.{acceptsWrite, acceptsRead, isHeld, answersIn, acceptsRequest, acceptsReply, accepts}
+use Rattle.workload.specs.Accepts.{acceptsWrite, acceptsRead, isHeld, isEntered, answersIn, acceptsRequest, acceptsReply, accepts}
 use Rattle.workload.specs.ReadyLaws.{index-below}
 
 -- a begin; n is the fault found
@@ -39,27 +39,38 @@ module _ (t : Tables) (q : ℕ) {servers all n : ℕ} (d : servers ≡ serversOf
   by-read e = rw (e, a, d)
 
 -- what a target answers, by the state s
-module _ (w : Contents) (counts keys : List ℕ) (i s : ℕ) where
-  pub in-writing : {n : ℕ} → s ≡ writing → n ≡ heldBy counts i → ltb n serverPlaces ≡ answersIn s w counts keys i
+module _ (w : Contents) (counts keys log : List ℕ) (i s : ℕ) where
+  -- there is a place, or there is none and the key is looked for
+  pub in-writing : {n : ℕ} → s ≡ writing → n ≡ heldBy counts i → n < serverPlaces → true ≡ answersIn s w counts keys log i
   unfolding answersIn
-  in-writing a e = rw (eq-eqb s 1 a, e)
+  in-writing {n} a e h = rw (eq-eqb s 1 a, ← e, lt-ltb n serverPlaces h)
+
+  pub in-writing-full : {n : ℕ} {r : Bool} → s ≡ writing → n ≡ heldBy counts i → serverPlaces ≤ n → r ≡ isHeld counts keys i (w .key) →
+      r ≡ answersIn s w counts keys log i
+  unfolding answersIn
+  in-writing-full {n} a e h f = rw (eq-eqb s 1 a, ← e, le-ltb n serverPlaces h) (f ∙ rw e)
 
   module _ (a : s ≡ writing → ⊥) where
-    pub in-entering : {n : ℕ} → s ≡ entering → n ≡ entriesIn counts → ltb n logPlaces ≡ answersIn s w counts keys i
+    pub in-entering : {n : ℕ} → s ≡ entering → n ≡ entriesIn counts → n < logPlaces → true ≡ answersIn s w counts keys log i
     unfolding answersIn
-    in-entering b e = rw (ne-eqb s 1 a, eq-eqb s 2 b, e)
+    in-entering {n} b e h = rw (ne-eqb s 1 a, eq-eqb s 2 b, ← e, lt-ltb n logPlaces h)
+
+    pub in-entering-full : {n : ℕ} {r : Bool} → s ≡ entering → n ≡ entriesIn counts → logPlaces ≤ n → r ≡ isEntered counts log (w .key) →
+        r ≡ answersIn s w counts keys log i
+    unfolding answersIn
+    in-entering-full {n} b e h f = rw (ne-eqb s 1 a, eq-eqb s 2 b, ← e, le-ltb n logPlaces h) (f ∙ rw e)
 
     module _ (b : s ≡ entering → ⊥) where
-      pub in-keys : s ≡ askingKeys → true ≡ answersIn s w counts keys i
+      pub in-keys : s ≡ askingKeys → true ≡ answersIn s w counts keys log i
       unfolding answersIn
       in-keys c = rw (ne-eqb s 1 a, ne-eqb s 2 b, eq-eqb s 3 c)
 
       module _ (c : s ≡ askingKeys → ⊥) where
-        pub in-setpoints : {r : Bool} → s ≡ askingSetpoints → r ≡ isHeld counts keys i (w .key) → r ≡ answersIn s w counts keys i
+        pub in-setpoints : {r : Bool} → s ≡ askingSetpoints → r ≡ isHeld counts keys i (w .key) → r ≡ answersIn s w counts keys log i
         unfolding answersIn
         in-setpoints f e = rw (ne-eqb s 1 a, ne-eqb s 2 b, ne-eqb s 3 c, eq-eqb s 4 f) e
 
-        pub in-all : (s ≡ askingSetpoints → ⊥) → true ≡ answersIn s w counts keys i
+        pub in-all : (s ≡ askingSetpoints → ⊥) → true ≡ answersIn s w counts keys log i
         unfolding answersIn
         in-all f = rw (ne-eqb s 1 a, ne-eqb s 2 b, ne-eqb s 3 c, ne-eqb s 4 f)
 
@@ -76,13 +87,17 @@ module _ (t : Tables) (q i : ℕ) {l : Link} (d : l ≡ linkAt (t .links) q i) w
   unfolding acceptsRequest
   request-replied e = rw (content-is e)
 
+  pub request-lost : l .content ≡ Lost → false ≡ acceptsRequest t q i
+  unfolding acceptsRequest
+  request-lost e = rw (content-is e)
+
   pub request-refused : {w : Contents} {n : ℕ} → l .content ≡ Request w → n ≡ deliveryFault q i t → (n ≡ 0 → ⊥) →
       false ≡ acceptsRequest t q i
   unfolding acceptsRequest
   request-refused {w} {n} e f z = rw (content-is e, ← f, ne-eqb n 0 z)
 
   pub request-answered : {w : Contents} {n s : ℕ} {r : Bool} → l .content ≡ Request w → n ≡ deliveryFault q i t → n ≡ 0 → s ≡ stateOf t q →
-      r ≡ answersIn s w (t .counts) (t .keys) i → r ≡ acceptsRequest t q i
+      r ≡ answersIn s w (t .counts) (t .keys) (t .log) i → r ≡ acceptsRequest t q i
   unfolding acceptsRequest
   request-answered {w} {n} e f z g h = rw (content-is e, ← f, eq-eqb n 0 z, ← g) h
 
@@ -93,6 +108,10 @@ module _ (t : Tables) (q i : ℕ) {l : Link} (d : l ≡ linkAt (t .links) q i) w
   pub reply-asked : {w : Contents} → l .content ≡ Request w → false ≡ acceptsReply t q i
   unfolding acceptsReply
   reply-asked e = rw (content-is e)
+
+  pub reply-lost : l .content ≡ Lost → false ≡ acceptsReply t q i
+  unfolding acceptsReply
+  reply-lost e = rw (content-is e)
 
   pub reply-there : {w : Contents} {n : ℕ} → l .content ≡ Reply w → n ≡ deliveryFault q i t → eqb n 0 ≡ acceptsReply t q i
   unfolding acceptsReply

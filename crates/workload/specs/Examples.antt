@@ -15,7 +15,7 @@ use Rattle.server.specs.Held.{appended}
 use Rattle.coordinator.specs.Log.{entered}
 use Rattle.tables.specs.Links.{linkAt, putLink}
 use Rattle.rules.specs.Begin.{begunWrite, begunRead}
-use Rattle.rules.specs.Request.{onSet, onEnter, onWhichKeys, onGet, onGetAll, onRequestIn, requestDelivered}
+use Rattle.rules.specs.Request.{onNewSet, onSet, onNewEnter, onEnter, onWhichKeys, onGet, onGetAll, onRequestIn, requestDelivered}
 use Rattle.rules.specs.Reply.{onSetDone, onEntered, onKeys, onGot, onAll, onReplyIn, replyDelivered}
 use Rattle.soundness.specs.Sound.{longEnough, pressFits, sound, scalarsSound, keyInRange, serverSound, entrySound, logSound}
 use Rattle.soundness.specs.Sound.{stateAllowed, uses, requestSound, replySound, contentSound, linkSound, receivedSound, clientSound}
@@ -69,6 +69,6 @@ unfolding given stepsFrom nextStep pickedFrom numbered passing played blank open
     deliverReply openRefusal writeRefusal readRefusal deliveryRefusal longEnough pressFits turns sound scalarsSound keyInRange
     serverSound entrySound logSound stateAllowed uses requestSound replySound contentSound linkSound receivedSound clientSound
     writeSound readSound openSound recordsSound allBelow anyBelow sumBelow linkAt putLink firstFrom lastBelow appended entered
-    begunWrite begunRead onSet onEnter onWhichKeys onGet onGetAll onRequestIn requestDelivered onSetDone onEntered onKeys onGot onAll
-    onReplyIn replyDelivered
+    begunWrite begunRead onNewSet onSet onNewEnter onEnter onWhichKeys onGet onGetAll onRequestIn requestDelivered onSetDone onEntered
+    onKeys onGot onAll onReplyIn replyDelivered
 examples = record { first = refl; second = refl; third = refl; last = refl; least = refl; steps = refl }

@@ -4,11 +4,12 @@ use mathlib.Core.Path.{_≡_}
 use mathlib.Core.List.{List}
 use lib.ListN.{length}
 use Rattle.server.specs.Held.{heldBy}
-use Rattle.tables.specs.Layout.{countAt, countWords, clientsField, clientWord, stateField, countField, serverPlaces}
+use Rattle.coordinator.specs.Log.{entriesIn}
+use Rattle.tables.specs.Layout.{countAt, countWords, clientsField, clientWord, stateField, countField, serverPlaces, entryWidth}
 use Rattle.tables.specs.Links.{targets, linkWidth, linkAt}
 use Rattle.tables.specs.declared.links.Contents.{Contents}
 use Rattle.tables.specs.declared.links.Content.the-variants.{Request}
-use Rattle.rules.specs.Common.{writing, askingSetpoints}
+use Rattle.rules.specs.Common.{writing, entering, askingSetpoints}
 use Rattle.refusals.specs.Cases.{Judged}
 
 -- a server whose versions can be looked through
@@ -17,10 +18,16 @@ pub record Searched (counts keys : List ℕ) (i : ℕ) : Type 0 where
   pub server : i < 16
   pub held : serverPlaces * i + heldBy counts i ≤ length keys
 
--- a request of these two states asks a server
-pub record Served (counts keys : List ℕ) (state i : ℕ) : Type 0 where
+-- a log whose entries can be looked through
+pub record Logged (counts log : List ℕ) : Type 0 where
   pub counted : countWords ≤ length counts
-  pub set : state ≡ writing → i < 16
+  pub entries : entryWidth * entriesIn counts ≤ length log
+
+-- a set and a get ask a server, an enter the coordinator
+pub record Served (counts keys log : List ℕ) (state i : ℕ) : Type 0 where
+  pub counted : countWords ≤ length counts
+  pub set : state ≡ writing → Searched counts keys i
+  pub enter : state ≡ entering → Logged counts log
   pub get : state ≡ askingSetpoints → Searched counts keys i
 
 -- the steps can be numbered, and a client's count can grow by one
@@ -29,8 +36,8 @@ pub record Numberable (counts clients : List ℕ) : Type 0 where
   pub few : countAt counts clientsField ≤ 16
   pub fits : (q : ℕ) → q < countAt counts clientsField → clientWord clients q countField ≤ 255
 
-pub record Scanned (counts clients links keys : List ℕ) : Type 0 where
+pub record Scanned (counts clients links keys log : List ℕ) : Type 0 where
   pub numberable : Numberable counts clients
   pub linked : linkWidth * (targets * countAt counts clientsField) ≤ length links
   pub served : (q i : ℕ) (w : Contents) → q < countAt counts clientsField → i < targets → linkAt links q i .content ≡ Request w →
-      Served counts keys (clientWord clients q stateField) i
+      Served counts keys log (clientWord clients q stateField) i

@@ -18,14 +18,17 @@ use Rattle.workload.specs.PassingLaws.{passing-same}
 use Rattle.workload.specs.Load.{indexBy, advance, numbered, numberedCount, acceptable, pickedFrom, nextStep}
 use Rattle.workload.specs.Accepts.{seen, acceptsRequest, acceptsReply, accepts}
 use Rattle.workload.specs.AcceptLaws.{accepts-told}
-use Rattle.workload.specs.Ready.{Searched, Served, Scanned}
+use Rattle.workload.specs.Ready.{Searched, Logged, Served, Scanned}
 
 module _ (t : Tables) (s : Sound t) where
   searched : (i : ℕ) → i < serversOf t → Searched (t .counts) (t .keys) i
   searched i h =
       record { counted = s .long .counts; server = server-fits t s i h; held = omega (arith, keys-row t s i h, s .server i h .held .most) }
 
-  pub scanned : Scanned (t .counts) (t .clients) (t .links) (t .keys)
+  logged : Logged (t .counts) (t .log)
+  logged = record { counted = s .long .counts; entries = omega (arith, s .long .log, s .scalars .entries .most) }
+
+  pub scanned : Scanned (t .counts) (t .clients) (t .links) (t .keys) (t .log)
   scanned =
       record {
         numberable = record {
@@ -36,14 +39,15 @@ module _ (t : Tables) (s : Sound t) where
         linked = s .long .links;
         served = λ q i w h l e. record {
           counted = s .long .counts;
-          set = λ z. server-fits t s i (set-server t s q i h l w e z);
+          set = λ z. searched i (set-server t s q i h l w e z);
+          enter = λ z. logged;
           get = λ z. searched i (get-server t s q i h l w e z);
         };
       }
 
   -- the other tables take no part
   abbrev part : Tables
-  part = seen (t .counts) (t .clients) (t .links) (t .keys)
+  part = seen (t .counts) (t .clients) (t .links) (t .keys) (t .log)
 
   part-accepts : (n : ℕ) → accepts part n ≡ accepts t n
   unfolding accepts acceptsRequest acceptsReply

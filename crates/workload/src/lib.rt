@@ -11,8 +11,9 @@ ghost use Rattle.soundness.specs.Facts.{Sound};
 ghost use Rattle.refusals.specs.Cases.{Judged};
 ghost use Rattle.workload.specs.Passing.{passing};
 ghost use Rattle.workload.specs.Load.{advance, indexBy, numbered, numberedCount, pickedFrom, nextStep};
-ghost use Rattle.workload.specs.Accepts.{seen, acceptsWrite, acceptsRead, isHeld, answersIn, acceptsRequest, acceptsReply, accepts};
-ghost use Rattle.workload.specs.Ready.{Searched, Served, Numberable, Scanned};
+ghost use Rattle.workload.specs.Accepts.{seen, acceptsWrite, acceptsRead, isHeld, isEntered, answersIn, acceptsRequest, acceptsReply};
+ghost use Rattle.workload.specs.Accepts.{accepts};
+ghost use Rattle.workload.specs.Ready.{Searched, Logged, Served, Numberable, Scanned};
 ghost use Rattle.workload.specs.PassingLaws.{Noted, Found};
 use keys::Key;
 use rules::states;
@@ -77,7 +78,8 @@ fn index_by(number: u32, count: u32) -> u32
 // Whether the WRITE of a client to all servers would be accepted.
 fn accepts_write(counts: &[u32], clients: &[u32], client: u32) -> bool
     requires { ⌜ Judged (now counts) (now clients) ⌝ }
-    ensures { λ r. ⌜ ((links keys : List ℕ) → r ≡ acceptsWrite (seen (now (counts .entry)) (now (clients .entry)) links keys) client) ⌝ }
+    ensures { λ r. ⌜ ((links keys log : List ℕ) →
+        r ≡ acceptsWrite (seen (now (counts .entry)) (now (clients .entry)) links keys log) client) ⌝ }
 {
     let servers = counts::count_at(counts, counts::SERVERS);
     let all = keys::all_servers(servers);
@@ -87,7 +89,8 @@ fn accepts_write(counts: &[u32], clients: &[u32], client: u32) -> bool
 // Whether the READ of all servers by a client would be accepted.
 fn accepts_read(counts: &[u32], clients: &[u32], client: u32) -> bool
     requires { ⌜ Judged (now counts) (now clients) ⌝ }
-    ensures { λ r. ⌜ ((links keys : List ℕ) → r ≡ acceptsRead (seen (now (counts .entry)) (now (clients .entry)) links keys) client) ⌝ }
+    ensures { λ r. ⌜ ((links keys log : List ℕ) →
+        r ≡ acceptsRead (seen (now (counts .entry)) (now (clients .entry)) links keys log) client) ⌝ }
 {
     let servers = counts::count_at(counts, counts::SERVERS);
     let all = keys::all_servers(servers);
@@ -103,16 +106,40 @@ fn holds(counts: &[u32], keys: &[u32], server: usize, key: Key) -> bool
     server::find(keys, server, held, key) < held
 }
 
-// Whether the target of a request can answer it, by the state that sent it.
-fn answers(counts: &[u32], keys: &[u32], state: u32, target: usize, contents: Contents) -> bool
-    requires { ⌜ Served (now counts) (now keys) state target ⌝ }
-    ensures { λ r. ⌜ r ≡ answersIn state contents (now (counts .entry)) (now (keys .entry)) target ⌝ }
+// Whether the log has an entry with a key.
+fn has_entry(counts: &[u32], log: &[u32], key: Key) -> bool
+    requires { ⌜ Logged (now counts) (now log) ⌝ }
+    ensures { λ r. ⌜ r ≡ isEntered (now (counts .entry)) (now (log .entry)) key ⌝ }
+{
+    let entries = counts::count_at(counts, counts::ENTRIES) as usize;
+    coordinator::find(log, entries, key) < entries
+}
+
+// Whether the target of a request can answer it, by the state that sent it. A target that is full has the key already, or cannot.
+fn answers(
+    counts: &[u32],
+    keys: &[u32],
+    log: &[u32],
+    state: u32,
+    target: usize,
+    contents: Contents,
+) -> bool
+    requires { ⌜ Served (now counts) (now keys) (now log) state target ⌝ }
+    ensures { λ r. ⌜ r ≡ answersIn state contents (now (counts .entry)) (now (keys .entry)) (now (log .entry)) target ⌝ }
 {
     if state == states::WRITING {
-        return counts::count_at(counts, counts::HELD + target) < versions::PLACES as u32;
+        if counts::count_at(counts, counts::HELD + target) < versions::PLACES as u32 {
+            return true;
+        }
+        let key = contents.key;
+        return holds(counts, keys, target, key);
     }
     if state == states::ENTERING {
-        return counts::count_at(counts, counts::ENTRIES) < log::PLACES as u32;
+        if counts::count_at(counts, counts::ENTRIES) < log::PLACES as u32 {
+            return true;
+        }
+        let key = contents.key;
+        return has_entry(counts, log, key);
     }
     if state == states::ASKING_KEYS {
         return true;
@@ -130,25 +157,27 @@ fn accepts_request(
     clients: &[u32],
     links: &[u32],
     keys: &[u32],
+    log: &[u32],
     client: u32,
     target: u32,
 ) -> bool
-    requires { ⌜ Scanned (now counts) (now clients) (now links) (now keys) ⌝ }
+    requires { ⌜ Scanned (now counts) (now clients) (now links) (now keys) (now log) ⌝ }
     requires { ⌜ (client < countAt (now counts) clientsField) × (target < targets) ⌝ }
-    ensures { λ r. ⌜ r ≡ acceptsRequest (seen (now (counts .entry)) (now (clients .entry)) (now (links .entry)) (now (keys .entry)))
-        client target ⌝ }
+    ensures { λ r. ⌜ r ≡ acceptsRequest
+        (seen (now (counts .entry)) (now (clients .entry)) (now (links .entry)) (now (keys .entry)) (now (log .entry))) client target ⌝ }
 {
     let link = links::link_at(links, client as usize, target as usize);
     let content = link.content;
     match content {
         links::Content::Nothing => false,
         links::Content::Reply(_) => false,
+        links::Content::Lost => false,
         links::Content::Request(contents) => {
             if refusals::delivery_fault(counts, client, target) != 0 {
                 return false;
             }
             let state = clients::client_word(clients, client as usize, clients::STATE);
-            answers(counts, keys, state, target as usize, contents)
+            answers(counts, keys, log, state, target as usize, contents)
         }
     }
 }
@@ -157,23 +186,32 @@ fn accepts_request(
 fn accepts_reply(counts: &[u32], links: &[u32], client: u32, target: u32) -> bool
     requires { ⌜ countWords ≤ length (now counts) ⌝ }
     requires { ⌜ HasRow linkWidth (now links) (linkRow client target) ⌝ }
-    ensures { λ r. ⌜ ((clients keys : List ℕ) →
-        r ≡ acceptsReply (seen (now (counts .entry)) clients (now (links .entry)) keys) client target) ⌝ }
+    ensures { λ r. ⌜ ((clients keys log : List ℕ) →
+        r ≡ acceptsReply (seen (now (counts .entry)) clients (now (links .entry)) keys log) client target) ⌝ }
 {
     let link = links::link_at(links, client as usize, target as usize);
     let content = link.content;
     match content {
         links::Content::Nothing => false,
         links::Content::Request(_) => false,
+        links::Content::Lost => false,
         links::Content::Reply(_) => refusals::delivery_fault(counts, client, target) == 0,
     }
 }
 
 // Whether the step of a number would be accepted.
-fn accepts(counts: &[u32], clients: &[u32], links: &[u32], keys: &[u32], number: u32) -> bool
-    requires { ⌜ Scanned (now counts) (now clients) (now links) (now keys) ⌝ }
+fn accepts(
+    counts: &[u32],
+    clients: &[u32],
+    links: &[u32],
+    keys: &[u32],
+    log: &[u32],
+    number: u32,
+) -> bool
+    requires { ⌜ Scanned (now counts) (now clients) (now links) (now keys) (now log) ⌝ }
     requires { ⌜ number < numberedCount (countAt (now counts) clientsField) ⌝ }
-    ensures { λ r. ⌜ r ≡ accepts (seen (now (counts .entry)) (now (clients .entry)) (now (links .entry)) (now (keys .entry))) number ⌝ }
+    ensures { λ r. ⌜ r ≡ accepts
+        (seen (now (counts .entry)) (now (clients .entry)) (now (links .entry)) (now (keys .entry)) (now (log .entry))) number ⌝ }
 {
     let panels = counts::count_at(counts, counts::CLIENTS);
     if number < panels {
@@ -184,7 +222,15 @@ fn accepts(counts: &[u32], clients: &[u32], links: &[u32], keys: &[u32], number:
     }
     if number < BEFORE_REPLIES * panels {
         let row = number - BEGINS * panels;
-        return accepts_request(counts, clients, links, keys, row / TARGETS, row % TARGETS);
+        return accepts_request(
+            counts,
+            clients,
+            links,
+            keys,
+            log,
+            row / TARGETS,
+            row % TARGETS,
+        );
     }
     let row = number - BEFORE_REPLIES * panels;
     accepts_reply(counts, links, row / TARGETS, row % TARGETS)
@@ -208,17 +254,19 @@ fn list_accepted(
     clients: &[u32],
     links: &[u32],
     keys: &[u32],
+    log: &[u32],
     numbers: &mut [u32],
 ) -> usize
-    requires { ⌜ Scanned (now counts) (now clients) (now links) (now keys) × (numberedCount 16 ≤ length (now numbers)) ⌝ }
-    ensures { λ r. ⌜ Found (accepts (seen (now (counts .entry)) (now (clients .entry)) (now (links .entry)) (now (keys .entry))))
+    requires { ⌜ Scanned (now counts) (now clients) (now links) (now keys) (now log) × (numberedCount 16 ≤ length (now numbers)) ⌝ }
+    ensures { λ r. ⌜ Found
+        (accepts (seen (now (counts .entry)) (now (clients .entry)) (now (links .entry)) (now (keys .entry)) (now (log .entry))))
         (numberedCount (countAt (now (counts .entry)) clientsField)) r (now (numbers .exit)) ⌝ }
 {
     let total = NUMBERED * counts::count_at(counts, counts::CLIENTS);
     let mut count = 0;
     let mut number: u32 = 0;
     while number < total {
-        let passes = accepts(counts, clients, links, keys, number);
+        let passes = accepts(counts, clients, links, keys, log, number);
         count = note(numbers, count, number, passes);
         number += 1;
     }
@@ -228,7 +276,8 @@ fn list_accepted(
 // The step of a number.
 fn numbered(counts: &[u32], clients: &[u32], number: u32) -> LoadStep
     requires { ⌜ Numberable (now counts) (now clients) ⌝ }
-    ensures { λ r. ⌜ ((links keys : List ℕ) → r ≡ numbered (seen (now (counts .entry)) (now (clients .entry)) links keys) number) ⌝ }
+    ensures { λ r. ⌜ ((links keys log : List ℕ) →
+        r ≡ numbered (seen (now (counts .entry)) (now (clients .entry)) links keys log) number) ⌝ }
 {
     let panels = counts::count_at(counts, counts::CLIENTS);
     let all = keys::all_servers(counts::count_at(counts, counts::SERVERS));
@@ -260,13 +309,20 @@ fn numbered(counts: &[u32], clients: &[u32], number: u32) -> LoadStep
 }
 
 // Picks among the steps that would be accepted.
-fn pick(counts: &[u32], clients: &[u32], links: &[u32], keys: &[u32], seed: u32) -> Next
-    requires { ⌜ Scanned (now counts) (now clients) (now links) (now keys) ⌝ }
-    ensures { λ r. ⌜ (let t = seen (now (counts .entry)) (now (clients .entry)) (now (links .entry)) (now (keys .entry)) in
-        r ≡ pickedFrom (passing (accepts t) (numberedCount (clientsOf t))) t seed) ⌝ }
+fn pick(
+    counts: &[u32],
+    clients: &[u32],
+    links: &[u32],
+    keys: &[u32],
+    log: &[u32],
+    seed: u32,
+) -> Next
+    requires { ⌜ Scanned (now counts) (now clients) (now links) (now keys) (now log) ⌝ }
+    ensures { λ r. ⌜ (let t = seen (now (counts .entry)) (now (clients .entry)) (now (links .entry)) (now (keys .entry))
+        (now (log .entry)) in r ≡ pickedFrom (passing (accepts t) (numberedCount (clientsOf t))) t seed) ⌝ }
 {
     let mut numbers = [0u32; MOST];
-    let count = list_accepted(counts, clients, links, keys, &mut numbers);
+    let count = list_accepted(counts, clients, links, keys, log, &mut numbers);
     if count == 0 {
         return Next::End;
     }
@@ -292,7 +348,7 @@ pub fn next_step_sound(
         ≡ nextStep (tablesOf (now (counts .entry)) (now (clients .entry)) (now (links .entry)) (now (keys .entry)) (now (values .entry))
         (now (log .entry)) (now (writes .entry)) (now (reads .entry))) seed ⌝ }
 {
-    pick(counts, clients, links, keys, seed)
+    pick(counts, clients, links, keys, log, seed)
 }
 
 // The next step of a load, and the seed behind it: refused by 2.

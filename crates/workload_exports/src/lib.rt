@@ -73,6 +73,8 @@ fn given_pick(seed: u32, given: LoadStep) -> LoadPick
         Step::BeginRead(client, mask) => pick(seed, 1, client, mask, 0),
         Step::Request(client, target) => pick(seed, 2, client, target, 0),
         Step::Reply(client, target) => pick(seed, 3, client, target, 0),
+        Step::Lose(_, _) => pick(seed, 0, 0, 0, 0),
+        Step::Resend(_, _) => pick(seed, 0, 0, 0, 0),
     }
 }
 

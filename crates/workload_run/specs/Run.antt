@@ -9,7 +9,7 @@ use Rattle.tables.specs.Rows.{putRow}
 use Rattle.tables.specs.Tables.{Tables}
 use Rattle.soundness.specs.Sound.{sound}
 use Rattle.schedule.specs.declared.Step.{Step}
-use Rattle.schedule.specs.declared.Step.the-variants.{Unreadable, Open, BeginWrite, BeginRead, Request, Reply}
+use Rattle.schedule.specs.declared.Step.the-variants.{Unreadable, Open, BeginWrite, BeginRead, Request, Reply, Lose, Resend}
 use Rattle.workload.specs.declared.LoadStep.{LoadStep}
 use Rattle.workload.specs.declared.Next.{Next}
 use Rattle.workload.specs.declared.Next.the-variants as next
@@ -18,7 +18,8 @@ use Rattle.workload_run.specs.declared.Progress.{Progress}
 use Rattle.workload_run.specs.declared.Load.{Load}
 use Rattle.workload_run.specs.declared.Load.the-variants.{Played, Refused}
 
--- a step as a row of the list: its kind, its client, its mask or target, its setpoint; a WRITE's badge is 0 and stands in no word
+-- a step as a row of the list: its kind, its client, its mask or target, its setpoint; a WRITE's badge is 0 and stands in no word.
+-- What the load does not give, an opening, a loss and a resend among it, is a row of zeros.
 abbrev pub stepWidth : ℕ
 stepWidth = 4
 
@@ -29,6 +30,8 @@ stepWords (BeginWrite client mask badge) setpoint = 0 ∷ client ∷ mask ∷ se
 stepWords (BeginRead client mask) setpoint = 1 ∷ client ∷ mask ∷ 0 ∷ []
 stepWords (Request client target) setpoint = 2 ∷ client ∷ target ∷ 0 ∷ []
 stepWords (Reply client target) setpoint = 3 ∷ client ∷ target ∷ 0 ∷ []
+stepWords (Lose client target) setpoint = 0 ∷ 0 ∷ 0 ∷ 0 ∷ []
+stepWords (Resend client target) setpoint = 0 ∷ 0 ∷ 0 ∷ 0 ∷ []
 
 abbrev pub listed : List ℕ → ℕ → LoadStep → List ℕ
 listed list n s = putRow stepWidth list n (stepWords (s .step) (s .setpoint))

@@ -57,6 +57,8 @@ fn put_step(list: &mut [u32], at: usize, picked: LoadStep)
         Step::BeginRead(client, mask) => put_words(list, at, 1, client, mask, 0),
         Step::Request(client, target) => put_words(list, at, 2, client, target, 0),
         Step::Reply(client, target) => put_words(list, at, 3, client, target, 0),
+        Step::Lose(_, _) => put_words(list, at, 0, 0, 0, 0),
+        Step::Resend(_, _) => put_words(list, at, 0, 0, 0, 0),
     }
 }
 

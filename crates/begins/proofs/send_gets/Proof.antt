@@ -1,23 +1,31 @@
--- `begins::send_gets` meets its contract: the loop has asked the masked servers it has passed, and kept their tags.
+-- `begins::send_gets` meets its contract: the loop has asked the masked servers it has passed, and kept their tags and keys.
 use Prim.Native.Nat.{ℕ, _≤_, _-_}
-use mathlib.Core.Path.{_≡_}
+use mathlib.Core.Path.{_≡_, _∙_}
 use mathlib.Core.List.{List}
 use native.Mathlib.Omega.{arith}
 use lib.ListN.{length}
 use Rattle.ranges.specs.Turns.{turns-none, turns-more}
 use Rattle.ranges.specs.Picked.{picked}
 use Rattle.keys.specs.Masks.{hasServer}
-use Rattle.tables.specs.Layout.{tagsField}
-use Rattle.coordinator.specs.Latest.{latestTagAt}
+use Rattle.tables.specs.Layout.{tagsField, askedField}
+use Rattle.coordinator.specs.Latest.{latestWord, latestTagAt}
 use Rattle.rules.specs.Words.{keepWord}
-use Rattle.rules.specs.Begin.{sendGet, sentGets, keptTags}
+use Rattle.rules.specs.WordsLaws.{kept-both-more}
+use Rattle.rules.specs.Begin.{sendGet, sentGets, keptTags, keptAsking}
 use borrow.Author.Needs.{needs}
 use Rattle.begins.proofs.send_gets.Statement.{statement}
 use Rattle.begins.proofs.send_gets.Tie as tie
 
--- a turn of the loop, of each table
-abbrev keeping : List ℕ → ℕ → ℕ → ℕ → ℕ → List ℕ → List ℕ
-keeping log client mask tag = picked (hasServer mask) (keepWord tagsField (latestTagAt log tag) client)
+-- a turn of the loop, of each table; the client's row has two rows of words
+abbrev tagging : List ℕ → ℕ → ℕ → ℕ → ℕ → List ℕ → List ℕ
+tagging log client mask tag = picked (hasServer mask) (keepWord tagsField (latestTagAt log tag) client)
+
+abbrev keying : List ℕ → ℕ → ℕ → ℕ → ℕ → List ℕ → List ℕ
+keying log client mask tag = picked (hasServer mask) (keepWord askedField (latestWord log tag) client)
+
+kept-none : (log : List ℕ) (client mask tag : ℕ) (clients : List ℕ) → clients ≡ keptAsking client mask log tag 0 clients
+kept-none log client mask tag clients =
+    turns-none (tagging log client mask tag) clients ∙ turns-none (keying log client mask tag) (keptTags client mask log tag 0 clients)
 
 abbrev sending : List ℕ → ℕ → ℕ → ℕ → ℕ → List ℕ → List ℕ
 sending log client mask tag = picked (hasServer mask) (sendGet client log tag)
@@ -25,7 +33,7 @@ sending log client mask tag = picked (hasServer mask) (sendGet client log tag)
 abbrev Inv-loop : tie.InvT-loop
 Inv-loop clients₀ links₀ log client mask tag servers server₀ clients links server =
     (server ≤ servers)
-    × ((length clients ≡ length clients₀) × (clients ≡ keptTags client mask log tag server clients₀))
+    × ((length clients ≡ length clients₀) × (clients ≡ keptAsking client mask log tag server clients₀))
     × ((length links ≡ length links₀) × (links ≡ sentGets client mask log tag server links₀))
 
 abbrev μ-loop : tie.MeasureT-loop
@@ -35,7 +43,7 @@ loop-holds : tie.Need-loop-holds Inv-loop μ-loop
 loop-holds c =
     let a = c .before .before .before .args in (
       search needs,
-      (search needs, turns-none (keeping (a .log .now) (a .client) (a .mask) (a .tag)) _),
+      (search needs, kept-none (a .log .now) (a .client) (a .mask) (a .tag) _),
       (search needs, turns-none (sending (a .log .now) (a .client) (a .mask) (a .tag)) _),
     )
 
@@ -48,7 +56,12 @@ loop-again c =
     let f = at-send-get .send-get .ensures in
     let n = at-loop .loop .server in (
       search needs,
-      (search needs, turns-more (keeping (a .log .now) (a .client) (a .mask) (a .tag)) n _ (v .1 .1) (f .0)),
+      (
+        search needs,
+        kept-both-more tagsField askedField (hasServer (a .mask)) (latestTagAt (a .log .now) (a .tag))
+            (latestWord (a .log .now) (a .tag)) (a .client) n _
+            (omega arith) (v .1 .1) (f .0),
+      ),
       (search needs, turns-more (sending (a .log .now) (a .client) (a .mask) (a .tag)) n _ (v .2 .1) (f .1)),
     )
 

@@ -40,6 +40,18 @@ returns-6 c =
     let printed = p .print-pair3 .ensures in
     (rw (p .before .before .before .step5 .given .1) (printed .0), omega (arith, printed .1))
 
+returns-7 : tie.Need-returns-7
+returns-7 c =
+    let p = c .before .before in
+    let printed = p .print-pair4 .ensures in
+    (rw (p .before .before .before .step6 .given .1) (printed .0), omega (arith, printed .1))
+
+returns-8 : tie.Need-returns-8
+returns-8 c =
+    let p = c .before .before in
+    let printed = p .print-pair5 .ensures in
+    (rw (p .before .before .before .step7 .given .1) (printed .0), omega (arith, printed .1))
+
 pub print-step-spec : {M : Type 1} → statement M
 print-step-spec =
     tie.close
@@ -50,9 +62,13 @@ print-step-spec =
     (λ c. search needs) (λ c κs. search needs)
     (λ c. search needs) (λ c κs. search needs)
     (λ c. search needs) (λ c κs. search needs)
+    (λ c. search needs) (λ c κs. search needs)
+    (λ c. search needs) (λ c κs. search needs)
     (λ c. search needs) returns
     (λ c. search needs) returns-2
     (λ c. search needs) returns-3
     (λ c. search needs) returns-4
     (λ c. search needs) returns-5
-    (λ c. search needs) returns-6)
+    (λ c. search needs) returns-6
+    (λ c. search needs) returns-7
+    (λ c. search needs) returns-8)

@@ -1,35 +1,38 @@
--- `requests::set` meets its contract: stored or full, each a case law of `onSet`.
+-- `requests::set` meets its contract: held already or new, each a case law of `onSet`.
 use Rattle.tables.specs.Tables.{tablesOf}
-use Rattle.requests.specs.Cases.{set-step, set-stored, set-full}
+use Rattle.requests.specs.Cases.{set-held, set-new}
 use borrow.Author.Needs.{needs}
 use Rattle.requests.proofs.set.Statement.{statement}
 use Rattle.requests.proofs.set.Tie as tie
 use Rattle.requests.proofs.set.Reads as reads
 
-answer-requires : tie.Need-answer-requires
-answer-requires c κs =
-    let at-append = c .before .before .before .before .before .before .before .before .before in
-    let start = at-append .before .before .before .before .before .before .before .before .before in
-    let a = start .args in
-    let p = start .pre .0 in
-    let n = set-step (a .contents) (a .client) (a .target) (tablesOf (a .counts .now) (a .counts .now) (a .links .now) (a .keys .now) (a .values .now) (a .counts .now) (a .counts .now) (a .counts .now)) (at-append .append .ensures) in
-    record { counted = search needs; stepped = rw n (p .stepped); linked = p .linked }
-
 returns : tie.Need-returns
 returns c =
     let at-answer = c .before .before .before .before in
     let at-if1 = at-answer .before .before .before in
-    let at-append = at-if1 .before .before .before .before .before .before .before in
-    let start = at-append .before .before .before .before .before .before .before .before .before in
-    let a = start .args in
+    let at-find = at-if1 .before in
+    let at-count-at = at-find .before .before .before in
+    let a = at-count-at .before .before .before .before .before .before .args in
     λ clients log writes reads.
-    set-stored (a .contents) (a .client) (a .target) (tablesOf (a .counts .now) clients (a .links .now) (a .keys .now) (a .values .now) log writes reads) (at-append .append .ensures) (at-if1 .if1 .taken) (at-answer .answer .ensures)
+    set-held (a .contents) (a .client) (a .target)
+    (tablesOf (a .counts .now) clients (a .links .now) (a .keys .now) (a .values .now) log writes reads)
+    (at-count-at .count-at .ensures) (at-find .find .ensures) (at-if1 .if1 .taken) (at-answer .answer .ensures)
 
 returns-2 : tie.Need-returns-2
-returns-2 c = let a = c .before .before .before .before .before .before .before .before .before .before .before .before .before .before .before .before .args in λ clients log writes reads.
-    set-full (a .contents) (a .client) (a .target) (tablesOf (a .counts .now) clients (a .links .now) (a .keys .now) (a .values .now) log writes reads) (c .before .before .before .before .before .before .before .append .ensures) (c .if1 .left)
+returns-2 c =
+    let at-set-new = c .before .before .before .before .before .before .before .before in
+    let at-if1 = at-set-new .before .before .before .before .before in
+    let at-find = at-if1 .before in
+    let at-count-at = at-find .before .before .before in
+    let a = at-count-at .before .before .before .before .before .before .args in
+    λ clients log writes reads.
+    set-new (a .contents) (a .client) (a .target)
+    (tablesOf (a .counts .now) clients (a .links .now) (a .keys .now) (a .values .now) log writes reads)
+    (at-count-at .count-at .ensures) (at-find .find .ensures) (at-if1 .if1 .left) (at-set-new .set-new .ensures clients log writes reads)
 
 pub set-spec : {M : Type 1} → statement M
 set-spec =
     tie.close
-    (tie.spec (λ c κs. search needs) answer-requires (λ c. search needs) (λ c. search needs) (λ c. search needs) (λ c. search needs) returns (λ c. search needs) (λ c. search needs) (λ c. search needs) returns-2)
+    (tie.spec (λ c. search needs) (λ c κs. search needs) (λ c. search needs) (λ c κs. search needs) (λ c κs. search needs)
+    (λ c. search needs) (λ c. search needs) (λ c. search needs) returns (λ c κs. search needs) (λ c. search needs) (λ c. search needs)
+    (λ c. search needs) (λ c. search needs) returns-2)

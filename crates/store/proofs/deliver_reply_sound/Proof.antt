@@ -1,8 +1,11 @@
 -- `store::deliver_reply_sound` meets its contract: a fault refuses, and where there is none sound tables are ready for each state's step.
+use mathlib.Core.Logic.{⊎-elim}
+use native.Mathlib.Omega.{arith}
 use mathlib.Core.Path.{_≡_, sym, _∙_}
 use Rattle.tables.specs.Tables.{Tables, tablesOf}
 use Rattle.refusals.specs.Refusals.{deliveryFault}
-use Rattle.replies.specs.Cases.{by-nothing, by-request, by-arrival, by-waiting, by-row, by-set-done, by-entered, by-keys, by-got, by-all}
+use Rattle.replies.specs.Cases.{by-none, by-arrival, by-waiting, by-row, by-set-done, by-entered, by-keys, by-got}
+use Rattle.replies.specs.Cases.{by-all}
 use Rattle.store.specs.Cases.{reply-refused}
 use Rattle.store.specs.Replies.{Taking, taking, brings, taken}
 use borrow.Author.Needs.{needs}
@@ -56,19 +59,12 @@ link-at-requires c κs =
 
 returns-2 : tie.Need-returns-2
 returns-2 c =
-    let l = c .before .before .before in
+    let l = c .before .before in
     let s = start (l .before .before .before) in
     free (l .before .before) .accepted _
-    (by-nothing (s .args .client) (s .args .target) (lent s) (l .link-at .ensures)
-    (c .before .enum-told .given .1) (c .showing-nothing2 .ensures))
-
-returns-3 : tie.Need-returns-3
-returns-3 c =
-    let l = c .before .before .before in
-    let s = start (l .before .before .before) in
-    free (l .before .before) .accepted _
-    (by-request (s .args .client) (s .args .target) (lent s) (l .link-at .ensures)
-    (c .before .enum-told2 .given .1) (c .showing-nothing3 .ensures))
+    (by-none (s .args .client) (s .args .target) (lent s) (l .link-at .ensures)
+    (λ w e. let d = rw e at (c .before .match .keys2) in ⊎-elim (λ y. omega arith) (λ y. ⊎-elim (λ z. omega arith) (λ z. omega arith) y) d)
+    (c .showing-nothing2 .ensures))
 
 client-word-requires : tie.Need-client-word-requires
 client-word-requires c κs =
@@ -82,10 +78,10 @@ set-done-requires c κs =
     let t = lent (first s) in
     let h = free (none s) in
     let b = brings t (a .client) (a .target) h (link s .link-at .ensures) (s .before .before .before .content .given .1) in
-    (h .ready .answerable, (b .done (sym (s .client-word .ensures) ∙ c .before .before .before .if2 .taken), h .ready .linked))
+    (h .ready .fillable, (b .done (sym (s .client-word .ensures) ∙ c .before .before .before .if2 .taken), h .ready .linked))
 
-returns-4 : tie.Need-returns-4
-returns-4 c =
+returns-3 : tie.Need-returns-3
+returns-3 c =
     let at-set-done = c .before .before .before .before .before .before .before in
     let at-if2 = at-set-done .before .before .before .before in
     let s = at-if2 .before in
@@ -93,7 +89,7 @@ returns-4 c =
     let t = lent (first s) in
     taken t (a .client) (a .target) (free (none s)) (link s .link-at .ensures) (s .before .before .before .content .given .1)
     (by-set-done _ (a .client) (a .target) t (s .client-word .ensures) (at-if2 .if2 .taken)
-    (by-arrival (c .showing-nothing4 .ensures)
+    (by-arrival (c .showing-nothing3 .ensures)
     (at-set-done .set-done .ensures (a .keys .now) (a .values .now) (a .log .now) (a .writes .now) (a .reads .now))))
 
 entered-requires : tie.Need-entered-requires
@@ -104,10 +100,10 @@ entered-requires c κs =
     let t = lent (first s) in
     let h = free (none s) in
     let b = brings t (a .client) (a .target) h (link s .link-at .ensures) (s .before .before .before .content .given .1) in
-    (h .ready .answerable, b .entered (sym (s .client-word .ensures) ∙ at-if3 .if3 .taken))
+    (h .ready .fillable, b .entered (sym (s .client-word .ensures) ∙ at-if3 .if3 .taken))
 
-returns-5 : tie.Need-returns-5
-returns-5 c =
+returns-4 : tie.Need-returns-4
+returns-4 c =
     let at-entered = c .before .before .before .before .before .before .before .before .before in
     let at-if3 = at-entered .before .before .before .before .before in
     let s = at-if3 .before .before in
@@ -115,7 +111,7 @@ returns-5 c =
     let t = lent (first s) in
     taken t (a .client) (a .target) (free (none s)) (link s .link-at .ensures) (s .before .before .before .content .given .1)
     (by-entered _ (a .client) (a .target) t (s .client-word .ensures) (at-if3 .before .if2 .left) (at-if3 .if3 .taken)
-    (by-arrival (c .showing-nothing5 .ensures)
+    (by-arrival (c .showing-nothing4 .ensures)
     (at-entered .entered .ensures (a .keys .now) (a .values .now) (a .log .now) (a .reads .now))))
 
 keys-told-requires : tie.Need-keys-told-requires
@@ -126,10 +122,10 @@ keys-told-requires c κs =
     let t = lent (first s) in
     let h = free (none s) in
     let b = brings t (a .client) (a .target) h (link s .link-at .ensures) (s .before .before .before .content .given .1) in
-    (h .ready .answerable, (h .ready .linked, b .told (sym (s .client-word .ensures) ∙ at-if4 .if4 .taken)))
+    (h .ready .fillable, (h .ready .linked, b .told (sym (s .client-word .ensures) ∙ at-if4 .if4 .taken)))
 
-returns-6 : tie.Need-returns-6
-returns-6 c =
+returns-5 : tie.Need-returns-5
+returns-5 c =
     let at-keys-told = c .before .before .before .before .before .before .before in
     let at-if4 = at-keys-told .before .before .before .before in
     let at-if3 = at-if4 .before in
@@ -138,7 +134,7 @@ returns-6 c =
     let t = lent (first s) in
     taken t (a .client) (a .target) (free (none s)) (link s .link-at .ensures) (s .before .before .before .content .given .1)
     (by-keys _ (a .client) (a .target) t (s .client-word .ensures) (at-if3 .before .if2 .left) (at-if3 .if3 .left) (at-if4 .if4 .taken)
-    (by-arrival (c .showing-nothing6 .ensures)
+    (by-arrival (c .showing-nothing5 .ensures)
     (at-keys-told .keys-told .ensures (a .keys .now) (a .values .now) (a .writes .now) (a .reads .now))))
 
 client-word-requires-2 : tie.Need-client-word-requires-2
@@ -160,10 +156,10 @@ got-requires c κs =
     let h = free (none s) in
     let b = brings t (a .client) (a .target) h (link s .link-at .ensures) (s .before .before .before .content .given .1) in
     let g = b .got (sym (s .client-word .ensures) ∙ at-if5 .if5 .taken) in
-    (h .ready .answerable, ((h .ready .linked, g .0), g .1))
+    (h .ready .fillable, ((h .ready .linked, g .0), g .1))
 
-returns-7 : tie.Need-returns-7
-returns-7 c =
+returns-6 : tie.Need-returns-6
+returns-6 c =
     let at-got = c .before .before .before .before .before .before .before .before .before .before in
     let at-tag = at-got .before .before .before .before .before in
     let at-mask = at-tag .before .before in
@@ -177,7 +173,7 @@ returns-7 c =
     (by-got _ (a .client) (a .target) t (s .client-word .ensures)
     (at-if3 .before .if2 .left) (at-if3 .if3 .left) (at-if4 .if4 .left) (at-if5 .if5 .taken)
     (by-waiting _ _ (at-got .got .ensures (a .keys .now) (a .values .now) (a .log .now) (a .writes .now))
-    (c .before .if6 .taken) (c .showing-nothing7 .ensures)))
+    (c .before .if6 .taken) (c .showing-nothing6 .ensures)))
 
 show-words-requires : tie.Need-show-words-requires
 show-words-requires c κs =
@@ -205,8 +201,8 @@ show-words-requires-3 c κs =
     let kept = at-got .got .kept in
     search needs
 
-returns-8 : tie.Need-returns-8
-returns-8 c =
+returns-7 : tie.Need-returns-7
+returns-7 c =
     let at-show2 = c .before .before .before in
     let at-show = at-show2 .before .before .before in
     let at-got = at-show .before .before .before .before .before .before .before .before .before .before .before .before in
@@ -243,13 +239,13 @@ all-told-requires c κs =
     let h = free (none s) in
     let b = brings t (a .client) (a .target) h (link s .link-at .ensures) (s .before .before .before .content .given .1) in
     let e = s .client-word .ensures in (
-      h .ready .answerable,
+      h .ready .fillable,
       b .all (λ z. at-if2 .if2 .left (e ∙ z)) (λ z. at-if3 .if3 .left (e ∙ z)) (λ z. at-if4 .if4 .left (e ∙ z))
           (λ z. at-if5 .if5 .left (e ∙ z)),
     )
 
-returns-9 : tie.Need-returns-9
-returns-9 c =
+returns-8 : tie.Need-returns-8
+returns-8 c =
     let at-if5 = c .before .before .before .before .before .before .before .before .before .before .before .before .before in
     let at-if4 = at-if5 .before in
     let at-if3 = at-if4 .before in
@@ -266,12 +262,11 @@ pub deliver-reply-sound-spec : {M : Type 1} → statement M
 deliver-reply-sound-spec =
     tie.close
     (tie.spec (λ c κs. search needs) (λ c κs. search needs) (λ c. search needs) returns link-at-requires (λ c. search needs)
-    (λ c κs. search needs) (λ c. search needs) (λ c. search needs) returns-2 (λ c. search needs) (λ c κs. search needs)
-    (λ c. search needs) (λ c. search needs) returns-3 (λ c. search needs) client-word-requires set-done-requires
-    (λ c κs. search needs) (λ c. search needs) (λ c. search needs) (λ c. search needs) returns-4 entered-requires
-    (λ c κs. search needs) (λ c. search needs) (λ c. search needs) (λ c. search needs) (λ c. search needs) returns-5
-    keys-told-requires (λ c κs. search needs) (λ c. search needs) (λ c. search needs) (λ c. search needs) returns-6
+    (λ c κs. search needs) (λ c. search needs) (λ c. search needs) returns-2 client-word-requires set-done-requires
+    (λ c κs. search needs) (λ c. search needs) (λ c. search needs) (λ c. search needs) returns-3 entered-requires
+    (λ c κs. search needs) (λ c. search needs) (λ c. search needs) (λ c. search needs) (λ c. search needs) returns-4
+    keys-told-requires (λ c κs. search needs) (λ c. search needs) (λ c. search needs) (λ c. search needs) returns-5
     client-word-requires-2 client-word-requires-3 got-requires (λ c κs. search needs) (λ c. search needs) (λ c. search needs)
-    (λ c. search needs) (λ c. search needs) returns-7 show-words-requires show-words-requires-2 show-words-requires-3
-    (λ c. search needs) (λ c. search needs) (λ c. search needs) (λ c. search needs) returns-8 all-told-requires (λ c. search needs)
-    (λ c. search needs) (λ c. search needs) (λ c. search needs) returns-9)
+    (λ c. search needs) (λ c. search needs) returns-6 show-words-requires show-words-requires-2 show-words-requires-3
+    (λ c. search needs) (λ c. search needs) (λ c. search needs) (λ c. search needs) returns-7 all-told-requires (λ c. search needs)
+    (λ c. search needs) (λ c. search needs) (λ c. search needs) returns-8)

@@ -3,7 +3,7 @@ use mathlib.Core.List.{[]}
 use native.Mathlib.Omega.{arith}
 use Rattle.tables.specs.Tables.{tablesOf}
 use Rattle.wire.specs.Ready.{request-ready, reply-ready}
-use Rattle.wire.specs.Cases.{link-empty, link-request, link-reply}
+use Rattle.wire.specs.Cases.{link-empty, link-lost, link-request, link-reply}
 use borrow.Author.Needs.{needs}
 use Rattle.wire.proofs.write_link.Statement.{statement}
 use Rattle.wire.proofs.write_link.Tie as tie
@@ -53,6 +53,13 @@ returns c writes reads =
 
 returns-2 : tie.Need-returns-2
 returns-2 c writes reads =
+    let a = c .before .before .before .before .before .before .before .before .before .before .before .args in
+    link-lost (a .client) (a .target)
+    (tablesOf (a .counts .now) (a .clients .now) (a .links .now) (a .keys .now) (a .values .now) (a .log .now) writes reads) (a .bytes .now)
+    (c .before .before .link-at .ensures) (c .enum-told2 .given .1)
+
+returns-3 : tie.Need-returns-3
+returns-3 c writes reads =
     let at-write-alone = c .before .before in
     let at-request-message = at-write-alone .before .before in
     let at-content = at-request-message .before .before in
@@ -66,8 +73,8 @@ returns-2 c writes reads =
     (at-client-word .client-word .ensures)
     (at-request-message .request-message .ensures) (at-write-alone .write-alone .ensures)
 
-returns-3 : tie.Need-returns-3
-returns-3 c writes reads =
+returns-4 : tie.Need-returns-4
+returns-4 c writes reads =
     let at-write-reply = c .before .before in
     let at-content2 = at-write-reply .before .before .before in
     let at-link-at = at-content2 .before .before in
@@ -83,6 +90,6 @@ returns-3 c writes reads =
 pub write-link-spec : {M : Type 1} → statement M
 write-link-spec =
     tie.close
-    (tie.spec client-word-requires link-at-requires cast-from cast-to (λ c. search needs) (λ c. search needs) request-message-requires
-    (λ c κs. search needs) (λ c. search needs) write-reply-requires returns (λ c. search needs) returns-2 (λ c. search needs)
-    returns-3)
+    (tie.spec client-word-requires link-at-requires cast-from cast-to (λ c. search needs) (λ c. search needs) (λ c. search needs)
+    request-message-requires (λ c κs. search needs) (λ c. search needs) write-reply-requires returns returns-2 (λ c. search needs)
+    returns-3 (λ c. search needs) returns-4)

@@ -9,9 +9,9 @@ use Rattle.workload.proofs.accepts_read.Tie as tie
 returns : tie.Need-returns
 returns c =
     let a = c .before .before .before .before .before .args in
-    λ links keys. by-read (seen (a .counts .now) (a .clients .now) links keys) (a .client) (c .before .before .count-at .ensures)
+    λ links keys log. by-read (seen (a .counts .now) (a .clients .now) links keys log) (a .client) (c .before .before .count-at .ensures)
     (c .before .all-servers .ensures)
-    (c .read-fault .ensures links keys [] [] [] [])
+    (c .read-fault .ensures links keys [] log [] [])
 
 pub accepts-read-spec : {M : Type 1} → statement M
 accepts-read-spec =

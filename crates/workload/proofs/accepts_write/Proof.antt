@@ -10,9 +10,9 @@ use Rattle.workload.proofs.accepts_write.Tie as tie
 returns : tie.Need-returns
 returns c =
     let a = c .before .before .before .before .before .args in
-    λ links keys. by-write (seen (a .counts .now) (a .clients .now) links keys) (a .client) (c .before .before .count-at .ensures)
+    λ links keys log. by-write (seen (a .counts .now) (a .clients .now) links keys log) (a .client) (c .before .before .count-at .ensures)
     (c .before .all-servers .ensures)
-    (c .write-fault .ensures links keys [] [] [] [])
+    (c .write-fault .ensures links keys [] log [] [])
 
 pub accepts-write-spec : {M : Type 1} → statement M
 accepts-write-spec =

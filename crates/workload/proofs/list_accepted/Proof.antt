@@ -12,24 +12,24 @@ use Rattle.workload.proofs.list_accepted.Statement.{statement}
 use Rattle.workload.proofs.list_accepted.Tie as tie
 
 abbrev Inv-loop : tie.InvT-loop
-Inv-loop counts clients links keys numbers₀ total count₀ number₀ numbers count number =
-    (number ≤ total) × ((length numbers ≡ length numbers₀) × Found (accepts (seen counts clients links keys)) number count numbers)
+Inv-loop counts clients links keys log numbers₀ total count₀ number₀ numbers count number =
+    (number ≤ total) × ((length numbers ≡ length numbers₀) × Found (accepts (seen counts clients links keys log)) number count numbers)
 
 abbrev μ-loop : tie.MeasureT-loop
-μ-loop counts clients links keys numbers₀ total count₀ number₀ numbers count number = total - number
+μ-loop counts clients links keys log numbers₀ total count₀ number₀ numbers count number = total - number
 
 count-at-requires : tie.Need-count-at-requires Inv-loop μ-loop
-count-at-requires c κs = omega (arith, c .before .before .before .before .before .pre .0 .numberable .judged .counted)
+count-at-requires c κs = omega (arith, c .before .before .before .before .before .before .pre .0 .numberable .judged .counted)
 
 mul-total : tie.Need-mul-total Inv-loop μ-loop
-mul-total c = omega (arith, c .count-at .ensures, c .before .before .before .before .before .before .pre .0 .numberable .few)
+mul-total c = omega (arith, c .count-at .ensures, c .before .before .before .before .before .before .before .pre .0 .numberable .few)
 
 loop-holds : tie.Need-loop-holds Inv-loop μ-loop
 loop-holds c = (omega arith, (refl, found-none _ _))
 
 accepts-requires : tie.Need-accepts-requires Inv-loop μ-loop
 accepts-requires c κs = (
-  c .before .before .before .before .before .before .before .before .pre .0,
+  c .before .before .before .before .before .before .before .before .before .pre .0,
   omega
       (arith, c .loop-test .taken, c .before .before .count-at .ensures),
 )
@@ -43,17 +43,18 @@ note-requires c κs =
       inv .1 .0,
       c .before .before .loop-test .taken,
       c .before .before .before .before .count-at .ensures,
-      c .before .before .before .before .before .before .before .before .before .before .pre .0 .numberable .few,
-      c .before .before .before .before .before .before .before .before .before .before .pre .1,
+      c .before .before .before .before .before .before .before .before .before .before .before .pre .0 .numberable .few,
+      c .before .before .before .before .before .before .before .before .before .before .before .pre .1,
     )
 
 add-number : tie.Need-add-number Inv-loop μ-loop
 add-number c =
+    let start = c .before .before .before .before .before .before .before .before .before .before .before .before .before .before in
     omega (
       arith,
       c .before .before .before .before .before .loop-test .taken,
       c .before .before .before .before .before .before .before .count-at .ensures,
-      c .before .before .before .before .before .before .before .before .before .before .before .before .before .pre .0 .numberable .few,
+      start .pre .0 .numberable .few,
     )
 
 loop-less : tie.Need-loop-less Inv-loop μ-loop
@@ -62,6 +63,7 @@ loop-less c = omega (arith, c .before .before .before .before .before .loop-test
 loop-again : tie.Need-loop-again Inv-loop μ-loop
 loop-again c =
     let inv = c .before .before .before .before .before .before .loop .inv in
+    let start = c .before .before .before .before .before .before .before .before .before .before .before .before .before .before in
     let l : c .before .before .before .before .before .before .loop .count < length
     (c .before .before .before .before .before .before .loop .numbers) =
     omega (
@@ -70,8 +72,8 @@ loop-again c =
       inv .1 .0,
       c .before .before .before .before .before .loop-test .taken,
       c .before .before .before .before .before .before .before .count-at .ensures,
-      c .before .before .before .before .before .before .before .before .before .before .before .before .before .pre .0 .numberable .few,
-      c .before .before .before .before .before .before .before .before .before .before .before .before .before .pre .1,
+      start .pre .0 .numberable .few,
+      start .pre .1,
     ) in (
       omega (arith, c .before .before .before .before .before .loop-test .taken),
       (
@@ -84,7 +86,7 @@ loop-again c =
 returns : tie.Need-returns Inv-loop μ-loop
 returns c =
     let inv = c .before .loop .inv in
-    let p = countAt (c .before .before .before .before .before .before .before .before .args .counts .now) clientsField in
+    let p = countAt (c .before .before .before .before .before .before .before .before .before .args .counts .now) clientsField in
     let e : c .before .loop .number ≡ numberedCount p = omega (arith, inv .0, c .loop-test .left, c .before .before .count-at .ensures) in
     rw (← e) (inv .1 .1)
 

@@ -19,7 +19,7 @@ add-t13 c =
 returns : tie.Need-returns
 returns c =
     let a = c .before .before .before .before .before .before .before .args in
-    λ links keys. step-write (seen (a .counts .now) (a .clients .now) links keys) (a .number)
+    λ links keys log. step-write (seen (a .counts .now) (a .clients .now) links keys log) (a .number)
     (c .before .before .before .before .count-at .ensures) (c .before .if1 .taken)
     (c .client-word .ensures) (c .before .before .before .count-at2 .ensures) (c .before .before .all-servers .ensures)
 
@@ -29,7 +29,7 @@ mul-if2 c = omega (arith, c .before .before .before .count-at .ensures, c .befor
 returns-2 : tie.Need-returns-2
 returns-2 c =
     let a = c .before .before .before .before .before .before .before .args in
-    λ links keys. step-read (seen (a .counts .now) (a .clients .now) links keys) (a .number)
+    λ links keys log. step-read (seen (a .counts .now) (a .clients .now) links keys log) (a .number)
     (c .before .before .before .before .count-at .ensures) (c .before .if1 .left)
     (c .if2 .taken) (c .before .before .before .count-at2 .ensures) (c .before .before .all-servers .ensures)
 
@@ -44,14 +44,14 @@ mul-if3 c =
 returns-3 : tie.Need-returns-3
 returns-3 c =
     let a = c .before .before .before .before .before .before .before .before .args in
-    λ links keys. step-request (seen (a .counts .now) (a .clients .now) links keys) (a .number)
+    λ links keys log. step-request (seen (a .counts .now) (a .clients .now) links keys log) (a .number)
     (c .before .before .before .before .before .count-at .ensures) (c .before .before .if1 .left)
     (c .before .if2 .left) (c .if3 .taken)
 
 returns-4 : tie.Need-returns-4
 returns-4 c =
     let a = c .before .before .before .before .before .before .before .before .args in
-    λ links keys. step-reply (seen (a .counts .now) (a .clients .now) links keys) (a .number)
+    λ links keys log. step-reply (seen (a .counts .now) (a .clients .now) links keys log) (a .number)
     (c .before .before .before .before .before .count-at .ensures) (c .before .before .if1 .left)
     (c .before .if2 .left) (c .if3 .left)
 

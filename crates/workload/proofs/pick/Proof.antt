@@ -8,8 +8,8 @@ use Rattle.workload.proofs.pick.Tie as tie
 
 returns : tie.Need-returns
 returns c =
-    let a = c .before .before .before .before .before .before .before .before .args in
-    let t = seen (a .counts .now) (a .clients .now) (a .links .now) (a .keys .now) in
+    let a = c .before .before .before .before .before .before .before .before .before .args in
+    let t = seen (a .counts .now) (a .clients .now) (a .links .now) (a .keys .now) (a .log .now) in
     pick-none (accepts t) t (a .seed) (c .before .before .list-accepted .ensures) (c .if1 .taken)
 
 array-read-numbered : tie.Need-array-read-numbered
@@ -18,16 +18,16 @@ array-read-numbered c =
       arith,
       c .index-by .ensures .1,
       c .before .before .before .before .list-accepted .ensures .few,
-      c .before .before .before .before .before .before .before .before .before .before .pre .numberable .few,
+      c .before .before .before .before .before .before .before .before .before .before .before .pre .numberable .few,
     )
 
 returns-2 : tie.Need-returns-2
 returns-2 c =
-    let a = c .before .before .before .before .before .before .before .before .before .before .before .args in
-    let t = seen (a .counts .now) (a .clients .now) (a .links .now) (a .keys .now) in
+    let a = c .before .before .before .before .before .before .before .before .before .before .before .before .args in
+    let t = seen (a .counts .now) (a .clients .now) (a .links .now) (a .keys .now) (a .log .now) in
     pick-some (accepts t) t (a .seed) (c .before .before .before .before .before .list-accepted .ensures)
     (c .before .before .before .if1 .left) (c .before .before .advance .ensures) (c .before .index-by .ensures .0)
-    (c .numbered .ensures (a .links .now) (a .keys .now))
+    (c .numbered .ensures (a .links .now) (a .keys .now) (a .log .now))
 
 pub pick-spec : {M : Type 1} → statement M
 pick-spec =

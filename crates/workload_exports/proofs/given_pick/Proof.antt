@@ -34,25 +34,26 @@ returns-6 c =
     given-by (c .before .before .before .before .args .seed) (c .before .before .before .before .args .given)
     (c .before .before .step4 .given .1) (c .pick6 .ensures)
 
+returns-7 : tie.Need-returns-7
+returns-7 c =
+    given-by (c .before .before .before .args .seed) (c .before .before .before .args .given) (c .before .enum-told3 .given .1)
+    (c .pick7 .ensures)
+
+returns-8 : tie.Need-returns-8
+returns-8 c =
+    given-by (c .before .before .before .args .seed) (c .before .before .before .args .given) (c .before .enum-told4 .given .1)
+    (c .pick8 .ensures)
+
 pub given-pick-spec : {M : Type 1} → statement M
 given-pick-spec =
     tie.close
     (tie.spec
-    (λ c. search needs)
-    (λ c κs. search needs)
-    (λ c. search needs)
-    (λ c κs. search needs)
-    (λ c. search needs)
-    (λ c κs. search needs)
-    (λ c. search needs)
-    (λ c κs. search needs)
-    (λ c. search needs)
-    (λ c κs. search needs)
-    (λ c. search needs)
-    (λ c κs. search needs)
-    returns
-    returns-2
-    returns-3
-    returns-4
-    returns-5
-    returns-6)
+    (λ c. search needs) (λ c κs. search needs)
+    (λ c. search needs) (λ c κs. search needs)
+    (λ c. search needs) (λ c κs. search needs)
+    (λ c. search needs) (λ c κs. search needs)
+    (λ c. search needs) (λ c κs. search needs)
+    (λ c. search needs) (λ c κs. search needs)
+    (λ c. search needs) (λ c κs. search needs)
+    (λ c. search needs) (λ c κs. search needs)
+    returns returns-2 returns-3 returns-4 returns-5 returns-6 returns-7 returns-8)

@@ -1,5 +1,6 @@
 //! Tables made odd: single words changed, tables cut short or filled to their limits.
 
+use model::{Step, COORDINATOR};
 use schedules::Random;
 use words::layout::*;
 use words::Tables;
@@ -9,12 +10,14 @@ pub fn damage(tables: &mut Tables, random: &mut Random) {
     if random.chance(1, 6) {
         change_together(tables, random);
     }
-    match random.below(14) {
+    match random.below(17) {
         0 => {}
         1 => cut(tables, random),
         2 => change_kept_tag(tables, random),
         3 => change_badge(tables, random),
-        4..=10 => change_word(tables, random),
+        4 | 5 => change_kind(tables, random),
+        6 => change_asked_key(tables, random),
+        7..=13 => change_word(tables, random),
         _ => {
             change_word(tables, random);
             change_word(tables, random);
@@ -64,13 +67,14 @@ fn change_kept_tag(tables: &mut Tables, random: &mut Random) {
 }
 
 /// A word in the place of a badge becomes one just below or above the least that is none: where soundness looks at it (held versions,
-/// clients, set requests, got replies, WRITEs), beside that (behind the last version or record, servers beyond k), and where no badge is
-/// (other links, READs).
+/// clients and the WRITEs they keep, set requests, got replies, WRITEs), beside that (behind the last version or record, servers beyond k),
+/// and where no badge is (other links, READs).
 fn change_badge(tables: &mut Tables, random: &mut Random) {
     let used = |place: usize| tables.count(place);
     let (servers, clients) = (used(SERVERS), used(CLIENTS));
     let which = random.pick(&[1, 2, 2, 4, 6, 7]);
     let place = match which {
+        1 if random.chance(1, 2) => CLIENT_WORDS * random.below(clients) + WRITE_BADGE,
         1 => CLIENT_WORDS * random.below(clients) + BADGES + random.below((servers + 1).min(16)),
         2 => LINK_WORDS * link(tables, LINKS_OF_CLIENT * clients, random) + LINK_BADGE,
         4 => {
@@ -82,6 +86,90 @@ fn change_badge(tables: &mut Tables, random: &mut Random) {
     };
     if let Some(word) = tables.all_mut()[which].get_mut(place) {
         *word = random.pick(&[7, BADGES_BELOW - 1, BADGES_BELOW, BADGES_BELOW + 7, u32::MAX]);
+    }
+}
+
+/// What a link holds becomes of another kind, most often lost, or of a kind that there is not.
+fn change_kind(tables: &mut Tables, random: &mut Random) {
+    let place = LINK_WORDS * link(tables, LINKS_OF_CLIENT * tables.count(CLIENTS), random);
+    if let Some(kind) = tables.links.get_mut(place) {
+        *kind = random.pick(&[LOST, LOST, LOST, LOST, NOTHING, REQUEST, REPLY, 4, 5, 255, 256 + LOST, 65_536 + LOST, u32::MAX]);
+    }
+}
+
+/// A key that a client keeps becomes another one, or a word that is none: below the first count, of a client beyond p, of more than 16
+/// bits. Most often it is one of a client that asks for setpoints; of servers that it does not ask, and of other clients, it is free.
+fn change_asked_key(tables: &mut Tables, random: &mut Random) {
+    let clients = tables.count(CLIENTS);
+    let asking: Vec<usize> = (0..clients).filter(|&client| tables.client(client)[STATE] == 4).collect();
+    let client = if asking.is_empty() || random.chance(1, 5) { random.below(clients) } else { random.pick(&asking) };
+    let place = CLIENT_WORDS * client + ASKED + random.below((tables.count(SERVERS) + 1).min(16));
+    let count = 256 * random.within(1, 255) as u32;
+    let beyond = clients as u32;
+    tables.clients[place] = random.pick(&[
+        0,
+        1,
+        255,
+        256,
+        count,
+        count + beyond - 1,
+        count + beyond,
+        count + 255,
+        65_535,
+        65_536,
+        65_536 + count,
+        u32::MAX,
+    ]);
+}
+
+/// Puts the key of a set or enter request to where it would be stored or entered, at one place or two, now and then with all places in use.
+/// Gives the delivery of that request, where there is one; the tables stay sound.
+pub fn repeat_key(tables: &mut Tables, random: &mut Random) -> Option<Step> {
+    let links = 0..LINKS_OF_CLIENT * tables.count(CLIENTS);
+    let storing = |link: &usize| {
+        let state = tables.client(link / LINKS_OF_CLIENT)[STATE];
+        matches!(state, 1 | 2) && tables.links[LINK_WORDS * link] == REQUEST
+    };
+    let storing: Vec<usize> = links.filter(storing).collect();
+    if storing.is_empty() {
+        return None;
+    }
+    let link = random.pick(&storing);
+    let (client, target, key) = (link / LINKS_OF_CLIENT, link % LINKS_OF_CLIENT, tables.links[LINK_WORDS * link + 1]);
+    let fill = random.chance(1, 2);
+    for _ in 0..random.within(1, 2) {
+        if target == COORDINATOR {
+            if fill || tables.count(ENTRIES) == 1 {
+                fill_log(tables, random);
+            }
+            let tag = random.within(1, tables.count(ENTRIES) - 1);
+            tables.log[LOG_WORDS * tag] = key;
+        } else {
+            if fill || tables.count(HELD + target) == 1 {
+                fill_server(tables, target, random);
+            }
+            let place = random.within(1, tables.count(HELD + target) - 1);
+            tables.keys[VERSIONS_OF_SERVER * target + place] = key;
+        }
+    }
+    if random.chance(1, 2) {
+        // Another tag than the first one of the key may be recorded.
+        let record = RECORD_WORDS * tables.client(client)[RECORD] as usize;
+        tables.writes[record + 2] = random.below(tables.count(ENTRIES)) as u32;
+    }
+    Some(Step::DeliverRequest { client: client as u32, target: target as u32 })
+}
+
+/// A delivery, a loss or sending again on a link, most often one that holds something or is lost.
+pub fn step_on_a_link(tables: &Tables, random: &mut Random) -> Step {
+    let clients = tables.counts.get(CLIENTS).map_or(1, |&clients| clients.clamp(1, 16)) as usize;
+    let link = link(tables, LINKS_OF_CLIENT * clients, random);
+    let (client, target) = ((link / LINKS_OF_CLIENT) as u32, (link % LINKS_OF_CLIENT) as u32);
+    match random.below(4) {
+        0 => Step::DeliverRequest { client, target },
+        1 => Step::DeliverReply { client, target },
+        2 => Step::Lose { client, target },
+        _ => Step::Resend { client, target },
     }
 }
 
@@ -153,6 +241,10 @@ fn near(limit: usize, held: usize, random: &mut Random) -> usize {
 
 fn fill_versions(tables: &mut Tables, random: &mut Random) {
     let server = random.below(tables.count(SERVERS));
+    fill_server(tables, server, random);
+}
+
+fn fill_server(tables: &mut Tables, server: usize, random: &mut Random) {
     let first = VERSIONS_OF_SERVER * server;
     let held = tables.count(HELD + server);
     let filled = near(VERSIONS_OF_SERVER, held, random);

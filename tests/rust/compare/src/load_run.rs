@@ -8,9 +8,10 @@ use crate::tally::Tally;
 use crate::Report;
 use ffi::LoadLibrary;
 use model::load::advance;
+use model::Step;
 use schedules::{Generator, Random};
-use words::layout::{LINK_WORDS, METHOD, REQUEST, SERVERS, STEP};
-use words::load::{next_step, play_load, LoadEnd, NO_STEP, STEP_WORDS};
+use words::layout::{LINKS_OF_CLIENT, LINK_WORDS, LOST, METHOD, NOTHING, REQUEST, SERVERS, STEP};
+use words::load::{next_step, play_load, LoadEnd, LoadPick, NO_STEP, STEP_WORDS};
 use words::Tables;
 
 /// Of so many loads one goes to its end, which takes thousands of steps; for every so many loads a store's tables are looked at.
@@ -23,13 +24,14 @@ const ENOUGH: u32 = 18_000;
 /// In a run of so many loads each of these is to occur.
 const MANY: usize = 1000;
 const DUE_PICKS: [&str; 6] = ["a WRITE", "a READ", "a request", "a reply", "none", "no 2"];
-const DUE_ENDS: [&str; 9] = [
+const DUE_ENDS: [&str; 10] = [
     "method 1 to the end",
     "method 2 to the end",
     "method 3 to the end",
     "at the wanted length",
     "at the last step number",
     "with requests that cannot be delivered",
+    "with lost links alone",
     "with nothing left",
     "no 2",
     "no 12",
@@ -45,9 +47,35 @@ struct Counts {
     ends: Tally,
 }
 
+/// What is compared with the model: the proved crate, or in tests what stands in for it.
+pub trait Loads {
+    fn advance(&self, seed: u32) -> u32;
+    fn next_step(&self, tables: &Tables, seed: u32) -> LoadPick;
+    fn play(&self, tables: &mut Tables, seed: u32, length: u32, list: &mut [u32]) -> LoadEnd;
+}
+
+impl Loads for LoadLibrary {
+    fn advance(&self, seed: u32) -> u32 {
+        LoadLibrary::advance(*self, seed)
+    }
+
+    fn next_step(&self, tables: &Tables, seed: u32) -> LoadPick {
+        LoadLibrary::next_step(*self, tables, seed)
+    }
+
+    fn play(&self, tables: &mut Tables, seed: u32, length: u32, list: &mut [u32]) -> LoadEnd {
+        LoadLibrary::play(*self, tables, seed, length, list)
+    }
+}
+
 /// Plays `cases` loads from openings, and loads on the tables of random runs and on damaged copies of these.
 pub fn compare(arguments: &Arguments) -> Report {
     let library = LoadLibrary::linked().ok_or("libworkload_exports.a is not linked: run tests/rust/build-store")?;
+    compare_by(arguments, &library)
+}
+
+/// The same of any subject.
+pub fn compare_by(arguments: &Arguments, library: &dyn Loads) -> Report {
     let mut counts = Counts::default();
     for case in 0..arguments.cases {
         let seed = arguments.seed_of(case);
@@ -68,7 +96,7 @@ pub fn compare(arguments: &Arguments) -> Report {
 }
 
 /// A load from an opening: now and then to its end, else in one of three ways for some steps.
-fn one_load(library: LoadLibrary, seed: u64, case: usize, counts: &mut Counts) -> Result<(), String> {
+fn one_load(library: &dyn Loads, seed: u64, case: usize, counts: &mut Counts) -> Result<(), String> {
     let mut load = Load::opened(library, seed, counts);
     load.counts.loads += 1;
     if case.is_multiple_of(LOADS_FOR_A_WHOLE) {
@@ -82,7 +110,7 @@ fn one_load(library: LoadLibrary, seed: u64, case: usize, counts: &mut Counts) -
 }
 
 /// A short load on each of the tables of a random run, and on damaged copies of them.
-fn one_store(library: LoadLibrary, seed: u64, counts: &mut Counts) -> Result<(), String> {
+fn one_store(library: &dyn Loads, seed: u64, counts: &mut Counts) -> Result<(), String> {
     let mut random = Random::new(seed.rotate_left(32));
     visit_store(seed, &mut |tables, step| {
         let seed = random.word();
@@ -98,7 +126,7 @@ fn one_store(library: LoadLibrary, seed: u64, counts: &mut Counts) -> Result<(),
 
 /// A load under way: the tables as the model's load left them, and the seed that is next.
 struct Load<'a> {
-    library: LoadLibrary,
+    library: &'a dyn Loads,
     random: Random,
     tables: Tables,
     seed: u32,
@@ -107,7 +135,7 @@ struct Load<'a> {
 
 impl Load<'_> {
     /// The tables of an opening, and a seed.
-    fn opened(library: LoadLibrary, seed: u64, counts: &mut Counts) -> Load<'_> {
+    fn opened<'a>(library: &'a dyn Loads, seed: u64, counts: &'a mut Counts) -> Load<'a> {
         let mut random = Random::new(!seed);
         let opening = Generator::new(seed).opening();
         let mut tables = fresh_tables(&opening, &mut random);
@@ -156,10 +184,24 @@ impl Load<'_> {
     fn at_limits(&mut self) -> Result<(), String> {
         let few = self.random.below(60) as u32;
         self.play(few, STEP_WORDS * few as usize)?;
+        if self.random.chance(1, 3) {
+            self.lose_some();
+        }
         fill_to_limits(&mut self.tables, &mut self.random);
         self.pick()?;
         self.play(400, STEP_WORDS * 400)?;
         self.pick()
+    }
+
+    /// Some of what is on the links is lost: a load has no step that loses or sends again, and so these stay.
+    fn lose_some(&mut self) {
+        for link in 0..self.tables.links.len() / LINK_WORDS {
+            if self.tables.links[LINK_WORDS * link] != NOTHING && self.random.chance(1, 3) {
+                let (client, target) = ((link / LINKS_OF_CLIENT) as u32, (link % LINKS_OF_CLIENT) as u32);
+                // Links of tables that are longer than the press needs are none of it.
+                let _ = words::take(&mut self.tables, &Step::Lose { client, target });
+            }
+        }
     }
 
     /// Some steps, or none; the list is long enough or longer, and now and then too short.
@@ -240,6 +282,7 @@ impl Load<'_> {
             _ if end.steps == length => "at the wanted length",
             _ if self.tables.counts[STEP] == u32::MAX => "at the last step number",
             _ if links().any(|link| link[0] == REQUEST) => "with requests that cannot be delivered",
+            _ if links().any(|link| link[0] == LOST) => "with lost links alone",
             _ => "with nothing left",
         }
     }

@@ -14,6 +14,7 @@ mod damage;
 mod frames_run;
 mod load_run;
 mod load_text_run;
+mod losses;
 mod messages;
 mod pairs;
 mod programs;
@@ -27,6 +28,8 @@ mod tally;
 mod wire_run;
 #[cfg(test)]
 mod wrong_comparisons;
+#[cfg(test)]
+mod wrong_stores;
 
 use arguments::Arguments;
 use std::process::ExitCode;

@@ -14,14 +14,25 @@ const MANY: usize = 1000;
 
 /// Plays `cases` openings.
 pub fn compare(arguments: &Arguments) -> Report {
+    compare_by(arguments, &mut |schedule| run(&arguments.program, schedule))
+}
+
+/// What a program printed, or why it did not.
+pub type Output = Result<Vec<u8>, String>;
+
+/// The same by any program, which gives its output for a schedule.
+pub fn compare_by(arguments: &Arguments, play: &mut dyn FnMut(&[u8]) -> Output) -> Report {
     let mut reached = Reached::default();
     let (mut inputs, mut opened) = (0, 0);
     while opened < arguments.cases {
         let openings = OPENINGS[inputs % OPENINGS.len()];
         let seed = arguments.seed_of(inputs);
         let schedule = schedules::schedule(seed, openings);
-        let output = run(&arguments.program, &schedule)?;
-        let found = judge(&schedule, &output).map_err(|difference| keep(&schedule, &output, seed, &difference))?;
+        let output = play(&schedule)?;
+        let found = judge(&schedule, &output).map_err(|difference| match &arguments.program[..] {
+            [] => format!("input {seed}: {difference}"),
+            _ => keep(&schedule, &output, seed, &difference),
+        })?;
         reached.add(&schedule, &found);
         inputs += 1;
         opened += openings;

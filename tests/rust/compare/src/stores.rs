@@ -1,6 +1,6 @@
 //! Tables to compare on: those of random runs, and damaged copies of them.
 
-use crate::damage::damage;
+use crate::damage::{damage, repeat_key, step_on_a_link};
 use model::Step;
 use schedules::{Generator, Random};
 use words::layout::{CLIENT_WORDS, LINKS_OF_CLIENT, LINK_WORDS, RECORD_WORDS};
@@ -24,12 +24,19 @@ pub fn visit_store(seed: u64, visit: &mut impl FnMut(&mut Tables, &Step) -> Resu
         for _ in 0..3 {
             let mut odd = tables.clone();
             damage(&mut odd, &mut random);
-            let step = match random.below(8) {
+            let step = match random.below(10) {
                 0 | 1 => generator.wrong_step(),
                 2 => generator.opening(),
+                3 | 4 => step_on_a_link(&odd, &mut random),
                 _ => generator.likely_step(),
             };
             visit(&mut odd, &step)?;
+        }
+        if random.chance(1, 4) {
+            let mut odd = tables.clone();
+            if let Some(step) = repeat_key(&mut odd, &mut random) {
+                visit(&mut odd, &step)?;
+            }
         }
     }
     Ok(())

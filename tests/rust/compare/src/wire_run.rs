@@ -8,15 +8,16 @@ use ffi::WireLibrary;
 use frames::link::message_on;
 use model::{Refusal, COORDINATOR};
 use schedules::Random;
-use words::layout::{CLIENTS, LINKS_OF_CLIENT, LINK_WORDS, NOTHING};
+use words::layout::{CLIENTS, LINKS_OF_CLIENT, LINK_WORDS, LOST, NOTHING};
 use words::register::{list_register, LINE_WORDS};
 use words::Tables;
 
 /// In a run of so many tables each of the answers below is to occur.
 const MANY: usize = 100_000;
-const DUE_FRAMES: [&str; 16] = [
+#[rustfmt::skip]
+const DUE_FRAMES: [&str; 17] = [
     "kind 1", "kind 2", "kind 3", "kind 4", "kind 5", "kind 6", "kind 7", "kind 8", "kind 9", "kind 10", "kind 11", "kind 12",
-    "no 2", "no 3", "no 9", "no 12",
+    "no 2", "no 3", "no 9", "no 9 of a lost link", "no 12",
 ];
 const DUE_LISTS: [&str; 6] = [
     "listed",
@@ -47,9 +48,30 @@ struct Counts {
     lists: Tally,
 }
 
+/// What is compared with the model: the proved crates, or in tests what stands in for them.
+pub trait Wire {
+    fn write_link_frame(&self, tables: &Tables, client: u32, target: u32, bytes: &mut [u8]) -> Result<usize, Refusal>;
+    fn list_register(&self, tables: &Tables, list: &mut [u32]) -> Result<usize, Refusal>;
+}
+
+impl Wire for WireLibrary {
+    fn write_link_frame(&self, tables: &Tables, client: u32, target: u32, bytes: &mut [u8]) -> Result<usize, Refusal> {
+        WireLibrary::write_link_frame(*self, tables, client, target, bytes)
+    }
+
+    fn list_register(&self, tables: &Tables, list: &mut [u32]) -> Result<usize, Refusal> {
+        WireLibrary::list_register(*self, tables, list)
+    }
+}
+
 /// Looks at `cases` tables, in each at one link and at the register.
 pub fn compare(arguments: &Arguments) -> Report {
     let library = WireLibrary::linked().ok_or("libwire_exports.a is not linked: run tests/rust/build-store")?;
+    compare_by(arguments, &library)
+}
+
+/// The same of any subject.
+pub fn compare_by(arguments: &Arguments, library: &dyn Wire) -> Report {
     let mut counts = Counts::default();
     let mut stores = 0;
     while counts.tables < arguments.cases {
@@ -87,8 +109,8 @@ fn some_link(tables: &Tables, random: &mut Random) -> (u32, u32) {
     ((link / LINKS_OF_CLIENT) as u32, (link % LINKS_OF_CLIENT) as u32)
 }
 
-/// The frame that a link's message has: 2, 3, then 9. What stands on a link of sound tables can be written.
-fn frame_of(tables: &Tables, client: u32, target: u32) -> Result<Vec<u8>, Refusal> {
+/// The frame that a link's message has: 2, 3, then 9, of a lost link too. What stands on a link of sound tables can be written.
+pub fn frame_of(tables: &Tables, client: u32, target: u32) -> Result<Vec<u8>, Refusal> {
     if !words::sound(tables) {
         return Err(Refusal::Unsound);
     }
@@ -113,7 +135,7 @@ fn room(needed: usize, longest: usize, random: &mut Random) -> usize {
 }
 
 /// One link: the answer, and every lent byte afterwards.
-fn compare_link(library: WireLibrary, tables: &Tables, random: &mut Random, counts: &mut Counts) -> Result<(), String> {
+fn compare_link(library: &dyn Wire, tables: &Tables, random: &mut Random, counts: &mut Counts) -> Result<(), String> {
     let (client, target) = some_link(tables, random);
     let frame = frame_of(tables, client, target);
     let filler = random.word() as u8;
@@ -134,13 +156,14 @@ fn compare_link(library: WireLibrary, tables: &Tables, random: &mut Random, coun
     }
     counts.frames.count(&match expected {
         Ok(_) => format!("kind {}", bytes[0] >> 4),
+        Err(Refusal::NothingThere) if tables.link(client as usize, target as usize)[0] == LOST => "no 9 of a lost link".into(),
         Err(refusal) => refusal.to_string(),
     });
     Ok(())
 }
 
 /// The register: the answer, and every word of the lent list afterwards.
-fn compare_list(library: WireLibrary, tables: &Tables, random: &mut Random, counts: &mut Counts) -> Result<(), String> {
+fn compare_list(library: &dyn Wire, tables: &Tables, random: &mut Random, counts: &mut Counts) -> Result<(), String> {
     let mut whole = vec![0; LINE_WORDS * MOST_LINES];
     let lines = list_register(tables, &mut whole).unwrap_or(0);
     let mut expected_list = vec![random.word(); room(LINE_WORDS * lines, LINE_WORDS * MOST_LINES, random)];

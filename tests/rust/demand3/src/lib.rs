@@ -37,6 +37,9 @@ pub struct Summary {
     pub openings: usize,
     pub tagged_writes: usize,
     pub finished_reads: usize,
+    pub lost_requests: usize,
+    pub lost_replies: usize,
+    pub sent_again: usize,
 }
 
 pub(crate) fn violation(line: usize, what: impl Into<String>) -> Violation {
@@ -125,6 +128,9 @@ fn close(run: Option<Run>, register: Option<&[&str]>, summary: &mut Summary) -> 
     row::real_time(&run, &row)?;
     summary.tagged_writes += run.tagged.len();
     summary.finished_reads += row.len() - run.tagged.len();
+    summary.lost_requests += run.transactions.iter().map(|one| one.lost_requests).sum::<usize>();
+    summary.lost_replies += run.transactions.iter().map(|one| one.lost_replies).sum::<usize>();
+    summary.sent_again += run.sent_again;
     match register {
         Some(printed) => row::register(&run, &row, printed),
         None => Ok(()),

@@ -25,6 +25,9 @@ pub struct Transaction {
     /// A WRITE's by the order of first deliveries at the head, a READ's as shown.
     pub tag: Option<usize>,
     pub deliveries: usize,
+    /// Losses on its panel's links, by what was lost.
+    pub lost_replies: usize,
+    pub lost_requests: usize,
     /// The schedule's line that ended it; before that, the one that began it.
     pub line: usize,
 }
@@ -33,6 +36,21 @@ impl Transaction {
     pub fn is_write(&self) -> bool {
         matches!(self.kind, Kind::Write { .. })
     }
+}
+
+/// The last accepted step on a link, and so what the link holds.
+#[derive(Clone, Copy, PartialEq)]
+enum Last {
+    /// None: nothing, or the request of a begin or of a second round.
+    None,
+    /// A request was delivered: its reply.
+    Request,
+    /// A reply was delivered: nothing, or a second round's request.
+    Reply,
+    /// What it held was lost.
+    Loss,
+    /// It was sent again: a request.
+    Again,
 }
 
 /// The history of one opening.
@@ -45,8 +63,9 @@ pub struct Run {
     step: usize,
     /// For each client, its transaction in progress.
     current: Vec<Option<usize>>,
-    /// For each client and target, whether a request was delivered there and its reply was not.
-    replied: Vec<[bool; 17]>,
+    /// For each client and target.
+    last: Vec<[Last; 17]>,
+    pub sent_again: usize,
 }
 
 impl Run {
@@ -63,7 +82,8 @@ impl Run {
             tagged: Vec::new(),
             step: 1,
             current: vec![None; clients],
-            replied: vec![[false; 17]; clients],
+            last: vec![[Last::None; 17]; clients],
+            sent_again: 0,
         })
     }
 
@@ -81,22 +101,29 @@ impl Run {
             (Asked::Read { client, mask }, Said::Ok) => self.begin(client, mask, Kind::Read { shown: Vec::new() }, line),
             (Asked::Request { client, target }, Said::Ok) => self.request(client, target, line),
             (Asked::Reply { client, target }, said) if said != Said::Ok => self.reply(client, target, said, line),
+            (Asked::Loss { client, target }, Said::Ok) => self.loss(client, target, line),
+            (Asked::Again { client, target }, Said::Ok) => self.again(client, target, line),
             _ => Err(violation(line, "this step has no such answer")),
         }
     }
 
-    /// "A request is answered when its delivery leaves the reply on that link": then the reply can be delivered.
+    /// "A request is answered when its delivery leaves the reply on that link": then the reply can be delivered. Likewise what was sent
+    /// again can be delivered, a request or reply that is there can be lost, and what was lost can be sent again.
     fn refused(&self, asked: &Asked, number: u32, line: usize) -> Result<(), Violation> {
-        match *asked {
-            Asked::Reply { client, target } if self.has_reply(client, target) => {
-                Err(violation(line, format!("the link has a reply, and its delivery is refused by {number}")))
-            }
-            _ => Ok(()),
-        }
+        let what = match *asked {
+            Asked::Request { client, target } if self.last(client, target) == Last::Again => "has a request, and its delivery",
+            Asked::Reply { client, target } if self.last(client, target) == Last::Request => "has a reply, and its delivery",
+            Asked::Loss { client, target } if self.last(client, target) == Last::Again => "has a request, and its loss",
+            Asked::Loss { client, target } if self.last(client, target) == Last::Request => "has a reply, and its loss",
+            Asked::Again { client, target } if self.last(client, target) == Last::Loss => "is lost, and sending again",
+            _ => return Ok(()),
+        };
+        Err(violation(line, format!("the link {what} is refused by {number}")))
     }
 
-    fn has_reply(&self, client: usize, target: usize) -> bool {
-        self.replied.get(client).and_then(|row| row.get(target)).copied().unwrap_or(false)
+    /// The last accepted step on a link, where there is such a link.
+    fn last(&self, client: usize, target: usize) -> Last {
+        self.last.get(client).and_then(|row| row.get(target)).copied().unwrap_or(Last::None)
     }
 
     fn begin(&mut self, client: usize, mask: u32, kind: Kind, line: usize) -> Result<(), Violation> {
@@ -111,27 +138,70 @@ impl Run {
             return Err(violation(line, "a transaction begins while its panel's last one is in progress"));
         }
         self.current[client] = Some(self.transactions.len());
-        self.transactions.push(Transaction { kind, client, mask, begin: self.step, end: None, tag: None, deliveries: 0, line });
+        self.transactions.push(Transaction {
+            kind,
+            client,
+            mask,
+            begin: self.step,
+            end: None,
+            tag: None,
+            deliveries: 0,
+            lost_replies: 0,
+            lost_requests: 0,
+            line,
+        });
         Ok(())
     }
 
-    /// The transaction that a delivery on this link belongs to.
-    fn delivered(&mut self, client: usize, target: usize, line: usize) -> Result<usize, Violation> {
+    /// The transaction that this link belongs to, on which a step of this name is accepted.
+    fn on_link(&self, step: &str, client: usize, target: usize, line: usize) -> Result<usize, Violation> {
         let current = self.current.get(client).copied().flatten();
-        let place = current.ok_or_else(|| violation(line, "a delivery is accepted for a panel that does nothing"))?;
+        let place = current.ok_or_else(|| violation(line, format!("{step} is accepted for a panel that does nothing")))?;
         if target != HEAD && target >= self.opening.len() {
-            return Err(violation(line, "a delivery is accepted for no target"));
+            return Err(violation(line, format!("{step} is accepted for no target")));
+        }
+        Ok(place)
+    }
+
+    /// The same of a delivery, which is counted. On a lost link there is none.
+    fn delivered(&mut self, client: usize, target: usize, line: usize) -> Result<usize, Violation> {
+        let place = self.on_link("a delivery", client, target, line)?;
+        if self.last(client, target) == Last::Loss {
+            return Err(violation(line, "a delivery is accepted on a lost link"));
         }
         self.transactions[place].deliveries += 1;
         Ok(place)
     }
 
+    /// "a link's request or reply is lost": a reply exactly where the last accepted step on that link delivered a request.
+    fn loss(&mut self, client: usize, target: usize, line: usize) -> Result<(), Violation> {
+        let place = self.on_link("a loss", client, target, line)?;
+        let transaction = &mut self.transactions[place];
+        match std::mem::replace(&mut self.last[client][target], Last::Loss) {
+            Last::Loss => return Err(violation(line, "a link is lost that is lost already")),
+            Last::Request => transaction.lost_replies += 1,
+            Last::None | Last::Reply | Last::Again => transaction.lost_requests += 1,
+        }
+        Ok(())
+    }
+
+    /// "a panel sends a lost request again"
+    fn again(&mut self, client: usize, target: usize, line: usize) -> Result<(), Violation> {
+        self.on_link("sending again", client, target, line)?;
+        if self.last(client, target) != Last::Loss {
+            return Err(violation(line, "a link is sent again that is not lost"));
+        }
+        self.last[client][target] = Last::Again;
+        self.sent_again += 1;
+        Ok(())
+    }
+
     fn request(&mut self, client: usize, target: usize, line: usize) -> Result<(), Violation> {
         let place = self.delivered(client, target, line)?;
-        if self.has_reply(client, target) {
+        if self.last(client, target) == Last::Request {
             return Err(violation(line, "a request is delivered on a link that has a reply"));
         }
-        self.replied[client][target] = true;
+        self.last[client][target] = Last::Request;
         let transaction = &mut self.transactions[place];
         if transaction.is_write() && target == HEAD && transaction.tag.is_none() {
             self.tagged.push(place);
@@ -142,10 +212,10 @@ impl Run {
 
     fn reply(&mut self, client: usize, target: usize, said: Said, line: usize) -> Result<(), Violation> {
         let place = self.delivered(client, target, line)?;
-        if !self.has_reply(client, target) {
+        if self.last(client, target) != Last::Request {
             return Err(violation(line, "a reply is delivered where no request was"));
         }
-        self.replied[client][target] = false;
+        self.last[client][target] = Last::Reply;
         match said {
             Said::Write(tag) => self.end_write(place, tag, line),
             Said::Read(tag, shown) => self.end_read(place, tag, shown, line),
@@ -185,12 +255,13 @@ impl Run {
         Ok(())
     }
 
-    /// The number of deliveries at which a READ of m stations ends: 2m under A, 2m + 2 under B and C.
+    /// The number of deliveries at which a READ of m stations ends: 2m under A, 2m + 2 under B and C, and "one delivery more for each of
+    /// its lost replies".
     fn deliveries_of(&self, place: usize) -> Option<usize> {
         let transaction = &self.transactions[place];
         let stations = 2 * transaction.mask.count_ones() as usize;
-        let wanted = if self.method == 1 { stations } else { stations + 2 };
-        (!transaction.is_write()).then_some(wanted)
+        let without_losses = if self.method == 1 { stations } else { stations + 2 };
+        (!transaction.is_write()).then_some(without_losses + transaction.lost_replies)
     }
 
     /// "an unfinished READ has had fewer of them than the number at which it ends"

@@ -11,6 +11,8 @@ pub enum Asked {
     Read { client: usize, mask: u32 },
     Request { client: usize, target: usize },
     Reply { client: usize, target: usize },
+    Loss { client: usize, target: usize },
+    Again { client: usize, target: usize },
     Unreadable,
 }
 
@@ -82,8 +84,16 @@ fn readable(line: &[u8]) -> Option<Asked> {
             Asked::Write { client: at(0)?, mask: numbers[1], badge, setpoints: numbers[3..].to_vec() }
         }
         "R" => exactly(2).map(|_| Asked::Read { client: numbers[0] as usize, mask: numbers[1] })?,
-        ">" => exactly(2).map(|_| Asked::Request { client: numbers[0] as usize, target: numbers[1] as usize })?,
-        "<" => exactly(2).map(|_| Asked::Reply { client: numbers[0] as usize, target: numbers[1] as usize })?,
+        ">" | "<" | "!" | "+" => {
+            exactly(2)?;
+            let (client, target) = (numbers[0] as usize, numbers[1] as usize);
+            match letter {
+                ">" => Asked::Request { client, target },
+                "<" => Asked::Reply { client, target },
+                "!" => Asked::Loss { client, target },
+                _ => Asked::Again { client, target },
+            }
+        }
         _ => return None,
     })
 }

@@ -1,4 +1,4 @@
-//! The check of tables, the five public steps of crate `store`, and the steps on tables known to be sound.
+//! The check of tables, the seven public steps of crate `store`, and the steps on tables known to be sound.
 
 use crate::{lent, lent_mut, refusal};
 use model::key::{has_server, servers_of};
@@ -13,7 +13,7 @@ use words::Tables;
 /// registers, which cost a measured reply 30 instructions.
 macro_rules! taken {
     ($library:expr, $tables:expr, $step:expr, $plain:expr, $replied:expr;
-        $begin_write:ident, $begin_read:ident, $deliver_request:ident, $deliver_reply:ident) => {{
+        $begin_write:ident, $begin_read:ident, $deliver_request:ident, $deliver_reply:ident, $lose:ident, $resend:ident) => {{
         let (library, t) = ($library, $tables);
         match $step {
             Step::Open { method, servers, clients, setpoints } => {
@@ -25,6 +25,8 @@ macro_rules! taken {
             Step::BeginRead { client, mask } => $plain(library.$begin_read(lent_mut(black_box(t)), *client, *mask)),
             Step::DeliverRequest { client, target } => $plain(library.$deliver_request(lent_mut(black_box(t)), *client, *target)),
             Step::DeliverReply { client, target } => $replied(library.$deliver_reply(lent_mut(black_box(t)), *client, *target)),
+            Step::Lose { client, target } => $plain(library.$lose(lent_mut(black_box(t)), *client, *target)),
+            Step::Resend { client, target } => $plain(library.$resend(lent_mut(black_box(t)), *client, *target)),
         }
     }};
 }
@@ -73,7 +75,7 @@ impl StoreLibrary {
     /// Any step on any tables, and what is made of its answer.
     #[inline(always)]
     fn checked<T>(self, tables: &mut Tables, step: &Step, plain: impl Fn(u32) -> T, replied: impl Fn(Crossing) -> T) -> T {
-        taken!(self.0, tables, step, plain, replied; begin_write, begin_read, deliver_request, deliver_reply)
+        taken!(self.0, tables, step, plain, replied; begin_write, begin_read, deliver_request, deliver_reply, lose, resend)
     }
 
     /// The same by the functions that check no tables, which must be sound.
@@ -86,7 +88,8 @@ impl StoreLibrary {
         replied: impl Fn(Crossing) -> T,
     ) -> T {
         taken!(self.0, tables, step, plain, replied;
-            begin_write_unchecked, begin_read_unchecked, deliver_request_unchecked, deliver_reply_unchecked)
+            begin_write_unchecked, begin_read_unchecked, deliver_request_unchecked, deliver_reply_unchecked,
+            lose_unchecked, resend_unchecked)
     }
 }
 

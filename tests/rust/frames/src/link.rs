@@ -3,10 +3,10 @@
 use crate::Message;
 use model::{Link, Reply, Request};
 
-/// The message of a link; none where the link holds nothing.
+/// The message of a link; none where the link holds nothing, and none where what it held was lost.
 pub fn message_on(link: &Link, client: u8, target: u8) -> Option<Message> {
     match link {
-        Link::Nothing => None,
+        Link::Nothing | Link::Lost => None,
         Link::Request(request) => Some(request_message(request, client, target)),
         Link::Reply(reply) => Some(reply_message(reply, client, target)),
     }

@@ -15,6 +15,14 @@ fn an_empty_link_has_no_message() {
     assert_eq!(message_on(&Link::Nothing, 2, 1), None);
 }
 
+/// "a lost link has no frame": neither that of the request that is to be sent again nor that of the reply.
+#[test]
+fn a_lost_link_has_no_message() {
+    for target in [0, 1, 16] {
+        assert_eq!(message_on(&Link::Lost, 2, target), None);
+    }
+}
+
 #[test]
 fn requests() {
     let set = [0x12, 0x08, 0x09, 0, 0x03, 0x80, 0, 0, 0x16, 0x80];

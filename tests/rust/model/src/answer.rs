@@ -18,6 +18,8 @@ pub enum Refusal {
     BadField = 11,
     NoRoom = 12,
     Unreadable = 13,
+    NothingToLose = 14,
+    NotLost = 15,
     BadRecording = 16,
 }
 
@@ -83,7 +85,7 @@ pub fn word(outcome: &Outcome) -> String {
 }
 
 impl Refusal {
-    /// The refusal of a number, 1 to 13 and 16.
+    /// The refusal of a number, 1 to 16.
     pub fn from_number(number: u32) -> Option<Refusal> {
         use Refusal::*;
         let all = [
@@ -100,6 +102,8 @@ impl Refusal {
             BadField,
             NoRoom,
             Unreadable,
+            NothingToLose,
+            NotLost,
             BadRecording,
         ];
         all.into_iter().find(|&refusal| refusal as u32 == number)

@@ -28,7 +28,7 @@ impl Store {
     }
 
     /// "Begin a WRITE: next count; a request to each masked station; state 1." "Every WRITE carries a 16-bit badge number, 0 allowed":
-    /// it stands in the requests and in the record.
+    /// it stands in the requests, in the record and, so that they can be sent again, in the panel.
     pub fn begin_write(&mut self, client: u32, mask: u32, badge: u16, setpoints: &[u32]) -> Outcome {
         let client = self.writer(client, mask, setpoints.len())?;
         self.step += 1;
@@ -38,6 +38,7 @@ impl Store {
         writer.state = State::WritingSetpoints;
         writer.count = count;
         writer.mask = mask;
+        writer.badge = badge;
         writer.setpoints[..setpoints.len()].copy_from_slice(setpoints);
         for server in servers_of(mask) {
             let setpoint = setpoints[server];

@@ -1,7 +1,7 @@
 //! A panel: its state, its fields and its links.
 
 use crate::answer::Shown;
-use crate::key::{servers_of, Entry, Latest, Version};
+use crate::key::{servers_of, Entry, Key, Latest, Version};
 use crate::link::{Link, Request};
 use crate::COORDINATOR;
 
@@ -31,6 +31,11 @@ pub struct Client {
     /// "a panel stores it with each wanted setpoint": the badge, here as wide as a word of the tables, since of stations beyond k any
     /// is there.
     pub badges: [u32; 16],
+    /// "A panel now also keeps its WRITE's badge"
+    pub badge: u16,
+    /// "and, in state 4, the keys it asks for, so that it can send them again": here as the words of the tables, since in other states, and
+    /// of stations that are not asked, any is there.
+    pub asked: [u32; 16],
     /// Under C, the versions received from each server in this READ; n is their number.
     pub versions: [Vec<Version>; 16],
     /// Under C, the log received in this READ.
@@ -52,14 +57,29 @@ impl Client {
         self.servers_answered() && self.links[COORDINATOR] == Link::Nothing
     }
 
-    /// "ask each masked station for its key"; its tag is kept meanwhile, and behind the READ's end.
+    /// "ask each masked station for its key"; key and tag are kept meanwhile, and behind the READ's end.
     pub fn ask_for_keys(&mut self, latest_of: impl Fn(usize) -> Latest) {
         for server in servers_of(self.mask) {
             let Latest { key, tag } = latest_of(server);
             self.links[server] = Link::Request(Request::Get { key });
             self.tags[server] = tag;
+            self.asked[server] = key.word();
         }
         self.state = State::AskingSetpoints;
+    }
+
+    /// The request that this panel, of this number, waits for at a target: what it sent there, from its own fields alone.
+    pub fn request_to(&self, client: usize, target: usize) -> Request {
+        let own = Key { count: self.count, client: client as u8 };
+        match self.state {
+            State::WritingSetpoints => Request::Set { key: own, badge: self.badge, setpoint: self.setpoints[target] },
+            State::WaitingForTag => Request::Enter { key: own, mask: self.mask },
+            State::AskingCoordinator => Request::WhichKeys,
+            State::AskingSetpoints => Request::Get { key: Key::of_word(self.asked[target]) },
+            State::AskingAll if target == COORDINATOR => Request::GetLog,
+            State::AskingAll => Request::GetAll,
+            State::Idle => unreachable!("an idle panel waits for nothing"),
+        }
     }
 
     /// Stores what the asked version of a wanted server has, badge and setpoint together.

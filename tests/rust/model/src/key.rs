@@ -15,6 +15,11 @@ impl Key {
     pub fn word(self) -> u32 {
         256 * u32::from(self.count) + u32::from(self.client)
     }
+
+    /// The key of such a number, which is one of a key in its range.
+    pub fn of_word(word: u32) -> Key {
+        Key { count: (word / 256) as u8, client: (word % 256) as u8 }
+    }
 }
 
 /// One record of a station's versions: "Version records hold [the badge] after the key".
@@ -55,6 +60,11 @@ pub fn latest(log: &[Entry], server: usize, tag: usize) -> Latest {
     let mut entries = log[..=tag].iter();
     let tag = entries.rposition(|entry| has_server(entry.mask, server)).expect("tag 0 has all stations");
     Latest { key: log[tag].key, tag }
+}
+
+/// The first tag whose entry bears a key.
+pub fn first_tag_of(log: &[Entry], key: Key) -> Option<usize> {
+    log.iter().position(|entry| entry.key == key)
 }
 
 /// "A key is looked up as the first version that bears it."

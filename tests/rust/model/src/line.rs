@@ -29,6 +29,9 @@ pub fn step_of(line: &[u8]) -> Option<Step> {
         (b'R', &[client, mask]) => Some(Step::BeginRead { client, mask }),
         (b'>', &[client, target]) => Some(Step::DeliverRequest { client, target }),
         (b'<', &[client, target]) => Some(Step::DeliverReply { client, target }),
+        // "In the yard these are `! panel target` and `+ panel target`."
+        (b'!', &[client, target]) => Some(Step::Lose { client, target }),
+        (b'+', &[client, target]) => Some(Step::Resend { client, target }),
         _ => None,
     }
 }

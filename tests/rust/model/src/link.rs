@@ -1,4 +1,4 @@
-//! What a link (panel, target) holds: nothing, a request or a reply with its contents.
+//! What a link (panel, target) holds: nothing, a request or a reply with its contents; or what it held was lost.
 
 use crate::key::{Entry, Key, Latest, Version};
 
@@ -30,4 +30,6 @@ pub enum Link {
     Nothing,
     Request(Request),
     Reply(Reply),
+    /// "A lost link is a fourth link content": the panel still waits for it.
+    Lost,
 }

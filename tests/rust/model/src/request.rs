@@ -1,7 +1,7 @@
 //! The delivery of a request: what a station or the head does with it, and the reply left on the link.
 
 use crate::answer::{Answer, Outcome, Refusal};
-use crate::key::{latest, version_of, Entry, Version};
+use crate::key::{first_tag_of, latest, version_of, Entry, Version};
 use crate::link::{Link, Reply, Request};
 use crate::store::Store;
 use crate::MOST_HELD;
@@ -10,10 +10,21 @@ use crate::MOST_HELD;
 pub(crate) enum Due {
     Append(Version),
     Enter(Entry),
+    /// A set or an enter whose key is there already: nothing is stored, and the reply is this one.
+    Confirm(Reply),
     TellKeys,
     TellVersion(Version),
     TellVersions,
     TellLog,
+}
+
+/// Whether there is a place behind so many versions or entries.
+fn room(held: usize) -> Result<(), Refusal> {
+    if held < MOST_HELD {
+        Ok(())
+    } else {
+        Err(Refusal::FullOrNotHeld)
+    }
 }
 
 impl Store {
@@ -27,14 +38,21 @@ impl Store {
         Ok((client, target, self.due(target, request)?))
     }
 
-    /// "a set or enter request finds 256 versions or log entries, or a get request a key not held": 8
+    /// "a set or enter request finds 256 versions or log entries, or a get request a key not held": 8. Ahead of it, "A station that holds
+    /// the key already acknowledges without storing; a head that has it answers its first tag; both also when full."
     fn due(&self, target: usize, request: &Request) -> Result<Due, Refusal> {
         match *request {
-            Request::Set { key, badge, setpoint } if self.servers[target].len() < MOST_HELD => {
-                Ok(Due::Append(Version { key, badge, setpoint }))
+            Request::Set { key, badge, setpoint } => {
+                let held = &self.servers[target];
+                match version_of(held, key) {
+                    Some(_) => Ok(Due::Confirm(Reply::SetDone)),
+                    None => room(held.len()).map(|()| Due::Append(Version { key, badge, setpoint })),
+                }
             }
-            Request::Enter { key, mask } if self.log.len() < MOST_HELD => Ok(Due::Enter(Entry { key, mask })),
-            Request::Set { .. } | Request::Enter { .. } => Err(Refusal::FullOrNotHeld),
+            Request::Enter { key, mask } => match first_tag_of(&self.log, key) {
+                Some(tag) => Ok(Due::Confirm(Reply::Entered { tag })),
+                None => room(self.log.len()).map(|()| Due::Enter(Entry { key, mask })),
+            },
             Request::WhichKeys => Ok(Due::TellKeys),
             Request::Get { key } => version_of(&self.servers[target], key).map(Due::TellVersion).ok_or(Refusal::FullOrNotHeld),
             Request::GetAll => Ok(Due::TellVersions),
@@ -54,6 +72,7 @@ impl Store {
         match due {
             Due::Append(version) => self.append_version(target, version),
             Due::Enter(entry) => self.append_entry(client, entry),
+            Due::Confirm(reply) => reply,
             Due::TellKeys => self.newest_keys(),
             Due::TellVersion(Version { badge, setpoint, .. }) => Reply::Got { badge, setpoint },
             Due::TellVersions => Reply::All { versions: self.servers[target].clone() },

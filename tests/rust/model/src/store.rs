@@ -72,6 +72,8 @@ impl Store {
             Step::BeginRead { client, mask } => self.begin_read(*client, *mask),
             Step::DeliverRequest { client, target } => self.deliver_request(*client, *target),
             Step::DeliverReply { client, target } => self.deliver_reply(*client, *target),
+            Step::Lose { client, target } => self.lose(*client, *target),
+            Step::Resend { client, target } => self.resend(*client, *target),
         }
     }
 

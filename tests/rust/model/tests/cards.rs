@@ -291,7 +291,7 @@ fn badges_are_stored_with_the_setpoints() {
         let mut stored = [11; 16];
         stored[0] = 7;
         assert_eq!(store.clients[0].badges, stored);
-        // A WRITE stores its setpoints in its panel, and no badge.
+        // A WRITE stores its setpoints in its panel, and its badge apart from these.
         assert_eq!(store.clients[1].badges, [0; 16]);
     }
 }

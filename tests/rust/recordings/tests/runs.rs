@@ -34,6 +34,19 @@ fn lines_that_are_refused() {
     assert_eq!(frames(schedule).iter().map(|(number, _)| *number).collect::<Vec<_>>(), [8]);
 }
 
+/// A frame that is lost is not delivered, and what is sent again is when it arrives, as the same frame.
+#[test]
+fn lost_frames() {
+    let schedule = WRITE.replacen("> 0 0\n", "! 0 0\n+ 0 0\n> 0 0\n! 0 0\n+ 0 0\n> 0 0\n", 1);
+    let (lost, whole) = (frames(&schedule), frames(WRITE));
+    assert_eq!(lost.iter().map(|(number, _)| *number).collect::<Vec<_>>(), [5, 8, 9, 10, 11]);
+    assert_eq!((&lost[0].1, &lost[1].1), (&whole[0].1, &whole[0].1));
+    assert_eq!(
+        lost[2..].iter().map(|(_, frame)| frame).collect::<Vec<_>>(),
+        whole[1..].iter().map(|(_, frame)| frame).collect::<Vec<_>>()
+    );
+}
+
 /// What stands on a link when a new press is opened is never delivered.
 #[test]
 fn reopened() {

@@ -1,4 +1,4 @@
-//! The text of tables, as docs/USING.md has it: `setpoint-store tables 1`, each table's name, its number of words and the words, `end`.
+//! The text of tables, as docs/USING.md has it: `setpoint-store tables 2`, each table's name, its number of words and the words, `end`.
 
 use crate::Refused;
 use std::fmt::Write;
@@ -6,7 +6,8 @@ use std::str::SplitAsciiWhitespace;
 use words::layout::{needed, CLIENTS, SERVERS};
 use words::Tables;
 
-const HEAD: [&str; 3] = ["setpoint-store", "tables", "1"];
+/// The number of the format: 1 had rows of 70 words for a panel.
+const HEAD: [&str; 3] = ["setpoint-store", "tables", "2"];
 const NAMES: [&str; 8] = ["counts", "clients", "links", "keys", "values", "log", "writes", "reads"];
 const MOST: usize = 16;
 const WORDS_OF_LINE: usize = 16;

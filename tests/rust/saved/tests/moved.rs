@@ -101,7 +101,7 @@ fn some_text() -> String {
 #[test]
 fn the_text_is_one() {
     let text = some_text();
-    assert!(text.starts_with("setpoint-store tables 1\ncounts 23\n2 2 2 4 1 1 1 1 1 0 "), "{text}");
+    assert!(text.starts_with("setpoint-store tables 2\ncounts 23\n2 2 2 4 1 1 1 1 1 0 "), "{text}");
     assert!(text.ends_with("\nend\n"));
     let again = read(text.as_bytes()).unwrap();
     assert_eq!(written(&again), text);
@@ -113,16 +113,17 @@ fn what_is_no_text_of_tables() {
     let text = some_text();
     let first_line = "counts 23\n2 2 2";
     for (old, new, why) in [
-        ("setpoint-store tables 1", "setpoint-store tables 2", "does not begin"),
+        ("setpoint-store tables 2", "setpoint-store tables 1", "does not begin"),
+        ("setpoint-store tables 2", "setpoint-store tables 3", "does not begin"),
         ("setpoint-store", "", "does not begin"),
         ("counts 23", "counts", "the table clients is missing"),
         ("counts 23", "counts 22", "the table clients is missing"),
         ("counts 23", "counts 24", "counts has 24 words"),
-        ("clients 140", "clients 139", "the table links is missing"),
-        ("clients 140", "clients 141", "word 140 of clients is missing"),
-        ("clients 140", "clients 1121", "clients has 1121 words"),
-        ("clients 140", "clients 4294967296", "clients has no number"),
-        ("clients 140", "clients -1", "clients has no number"),
+        ("clients 174", "clients 173", "the table links is missing"),
+        ("clients 174", "clients 175", "word 174 of clients is missing"),
+        ("clients 174", "clients 1393", "clients has 1393 words"),
+        ("clients 174", "clients 4294967296", "clients has no number"),
+        ("clients 174", "clients -1", "clients has no number"),
         ("links 136", "lines 136", "the table links is missing"),
         (first_line, "counts 23\n2 4294967296 2", "word 1 of counts"),
         (first_line, "counts 23\n2 02 2", "word 1 of counts"),

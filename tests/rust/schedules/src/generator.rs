@@ -3,14 +3,14 @@
 use crate::lines::line_of;
 use crate::random::Random;
 use crate::wrong::{self, badge, Size};
-use model::{Link, Method, Player, State, Step, Store};
+use model::{Link, Method, Player, State, Step, Store, MOST_BEGUN};
 
 /// What a section is after.
 #[derive(Clone, Copy, PartialEq)]
 enum Aim {
     /// Transactions of all kinds, many at a time.
     Overlaps,
-    /// As many WRITEs as can begin, and one more.
+    /// As many WRITEs as can begin, and one more; what answers the last of them is lost often, so that full tables are asked again.
     AllWrites,
     /// As many READs as can begin, and one more.
     AllReads,
@@ -18,6 +18,11 @@ enum Aim {
 
 /// The setpoint of every WRITE whose setpoints are not its own: tags and badges alone tell these WRITEs apart.
 const EQUAL_SETPOINT: u32 = 1800;
+
+/// Of so many steps that are to be accepted one is a loss, and, while something is lost, one of fewer sends it again. With those among the
+/// wrong lines, about one line in six is one of the two.
+const LOST: usize = 9;
+const SENT_AGAIN: usize = 6;
 
 /// A schedule in the making, with the store as the lines so far left it.
 pub struct Generator {
@@ -86,7 +91,7 @@ impl Generator {
         match self.aim {
             Aim::Overlaps if self.random.chance(1, 20) => self.random.within(400, 1500),
             Aim::Overlaps => self.random.within(0, 250),
-            _ => self.random.within(1800, 3200),
+            _ => self.random.within(2200, 3600),
         }
     }
 
@@ -120,9 +125,9 @@ impl Generator {
         setpoints
     }
 
-    /// The next line. One of four is to be refused; with those that the store happens to refuse, one of three is.
+    /// The next line. Two of seven are to be refused; with those that the store happens to refuse, one of three is.
     fn line(&mut self) -> Vec<u8> {
-        if self.random.chance(1, 4) {
+        if self.random.chance(2, 7) {
             return self.wrong_line();
         }
         line_of(&self.likely_step())
@@ -155,12 +160,39 @@ impl Generator {
     /// A step that the store most likely accepts.
     pub fn likely_step(&mut self) -> Step {
         let store = self.player.store.as_ref().expect("opened");
-        let waiting = waiting_links(store);
+        let Links { holding, lost } = Links::of(store);
         let idle = store.clients.iter().any(|client| client.state == State::Idle);
-        if waiting.is_empty() || (idle && self.random.chance(1, 5)) {
+        let all_begun = self.aim == Aim::AllWrites && store.writes.len() == MOST_BEGUN;
+        if !lost.is_empty() && self.random.chance(1, SENT_AGAIN) {
+            return self.resend(&lost);
+        }
+        if let Some(loss) = self.loss(&holding, all_begun) {
+            return loss;
+        }
+        if idle && (self.random.chance(1, 5) || (holding.is_empty() && lost.is_empty())) {
             return self.begin();
         }
-        self.delivery(&waiting)
+        if holding.is_empty() {
+            return self.resend(&lost);
+        }
+        self.delivery(&holding)
+    }
+
+    /// The loss of a request or reply, now and then.
+    fn loss(&mut self, holding: &[(usize, usize, bool)], all_begun: bool) -> Option<Step> {
+        let replies: Vec<_> = holding.iter().copied().filter(|&(.., request)| !request).collect();
+        let (from, often) = if all_begun { (&replies[..], 2) } else { (holding, LOST) };
+        if from.is_empty() || !self.random.chance(1, often) {
+            return None;
+        }
+        let (client, target, _) = self.random.pick(from);
+        Some(Step::Lose { client: client as u32, target: target as u32 })
+    }
+
+    /// One of these links is sent again.
+    fn resend(&mut self, lost: &[(usize, usize)]) -> Step {
+        let (client, target) = self.random.pick(lost);
+        Step::Resend { client: client as u32, target: target as u32 }
     }
 
     /// A delivery on one of these links, often on one of the favourite client's.
@@ -232,17 +264,27 @@ impl Generator {
     }
 }
 
-/// The links that hold something: client, target, and whether it is a request.
-fn waiting_links(store: &Store) -> Vec<(usize, usize, bool)> {
-    let mut waiting = Vec::new();
-    for (client, row) in store.clients.iter().enumerate() {
-        for (target, link) in row.links.iter().enumerate() {
-            match link {
-                Link::Nothing => {}
-                Link::Request(_) => waiting.push((client, target, true)),
-                Link::Reply(_) => waiting.push((client, target, false)),
+/// The links that panels wait for.
+#[derive(Default)]
+struct Links {
+    /// Those that hold something: client, target, and whether it is a request.
+    holding: Vec<(usize, usize, bool)>,
+    lost: Vec<(usize, usize)>,
+}
+
+impl Links {
+    fn of(store: &Store) -> Links {
+        let mut links = Links::default();
+        for (client, row) in store.clients.iter().enumerate() {
+            for (target, link) in row.links.iter().enumerate() {
+                match link {
+                    Link::Nothing => {}
+                    Link::Request(_) => links.holding.push((client, target, true)),
+                    Link::Reply(_) => links.holding.push((client, target, false)),
+                    Link::Lost => links.lost.push((client, target)),
+                }
             }
         }
+        links
     }
-    waiting
 }

@@ -12,6 +12,8 @@ pub fn line_of(step: &Step) -> Vec<u8> {
         Step::BeginRead { client, mask } => ('R', vec![*client, *mask]),
         Step::DeliverRequest { client, target } => ('>', vec![*client, *target]),
         Step::DeliverReply { client, target } => ('<', vec![*client, *target]),
+        Step::Lose { client, target } => ('!', vec![*client, *target]),
+        Step::Resend { client, target } => ('+', vec![*client, *target]),
     };
     let words = numbers.iter().map(|number| format!(" {number}"));
     format!("{letter}{}", words.collect::<String>()).into_bytes()

@@ -14,7 +14,7 @@ pub struct Size {
 /// A line that is most likely of no shape that the program knows.
 pub fn unreadable(random: &mut Random, size: Size) -> Vec<u8> {
     let good = line_of(&step_of_any_kind(random, size));
-    let letter = random.pick(b"OWR><");
+    let letter = random.pick(b"OWR><!+");
     match random.below(21) {
         0 => Vec::new(),
         1 => vec![b' '],
@@ -26,7 +26,7 @@ pub fn unreadable(random: &mut Random, size: Size) -> Vec<u8> {
         7 => replaced(&good, b"\t"),
         8 => replaced(&good, b""),
         9 => [&good[..], b"\r"].concat(),
-        10 => [&[random.pick(b"owrXY0=!+\x00\xff")][..], &good[1..]].concat(),
+        10 => [&[random.pick(b"owrXY0=?*-\x00\xff")][..], &good[1..]].concat(),
         11 => replaced(&good, random.pick(&[&b" 0"[..], b" -", b" +", b" 00", b" 0x"])),
         12 => [&good[..], random.pick(&[&b"x"[..], b".", b",1", b" x", b"\x00", b"=1"])].concat(),
         13 => [&[letter][..], random.pick(&[&b" 4294967296 1"[..], b" 0 4294967296", b" 0 42949672960"])].concat(),
@@ -75,7 +75,7 @@ fn noise(random: &mut Random) -> Vec<u8> {
 /// A line of numbers that has about 200 bytes: 200 is a line, 201 is none.
 fn too_long(random: &mut Random) -> Vec<u8> {
     let length = random.pick(&[199, 200, 201, 202, 203, 400, 401, 1000, 5000]);
-    let start = random.pick(&[&b"O 2 1 1"[..], b"W 0 1 0", b"R 0 1", b"> 0 0", b"xyz"]);
+    let start = random.pick(&[&b"O 2 1 1"[..], b"W 0 1 0", b"R 0 1", b"> 0 0", b"! 0 0", b"+ 0 0", b"xyz"]);
     let mut line = start.to_vec();
     while line.len() + 2 <= length {
         line.extend(b" 7");
@@ -87,7 +87,7 @@ fn too_long(random: &mut Random) -> Vec<u8> {
 /// A step with arguments out of their ranges, or at their ends, or within them: then only by luck at the right time.
 pub fn step_of_any_kind(random: &mut Random, size: Size) -> Step {
     let client = client(random, size.clients);
-    match random.below(5) {
+    match random.below(7) {
         0 => bad_opening(random),
         1 => {
             let setpoints = (0..random.below(18)).map(|place| place as u32).collect();
@@ -95,7 +95,9 @@ pub fn step_of_any_kind(random: &mut Random, size: Size) -> Step {
         }
         2 => Step::BeginRead { client, mask: mask(random, size.servers) },
         3 => Step::DeliverRequest { client, target: target(random, size.servers) },
-        _ => Step::DeliverReply { client, target: target(random, size.servers) },
+        4 => Step::DeliverReply { client, target: target(random, size.servers) },
+        5 => Step::Lose { client, target: target(random, size.servers) },
+        _ => Step::Resend { client, target: target(random, size.servers) },
     }
 }
 

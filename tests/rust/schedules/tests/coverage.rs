@@ -1,7 +1,7 @@
 //! That the schedules reach what they are for: every answer, every refusal that an opened run has, and the limits.
 
 use model::answer::word;
-use model::{line, Player, Refusal};
+use model::{line, Player, Refusal, Step};
 use schedules::schedule;
 use std::collections::BTreeMap;
 
@@ -23,7 +23,7 @@ fn every_answer_occurs() {
     for answer in ["ok", "wait", "next", "write", "read"] {
         assert!(found.get(answer).is_some_and(|&times| times > 200), "{answer}: {found:?}");
     }
-    for number in [1, 2, 3, 4, 5, 6, 7, 9, Refusal::Unreadable as u8] {
+    for number in [1, 2, 3, 4, 5, 6, 7, 9, Refusal::Unreadable as u8, 14, 15] {
         assert!(found.contains_key(&format!("no {number}")), "{number}: {found:?}");
     }
 }
@@ -34,6 +34,24 @@ fn about_a_third_of_the_lines_is_refused() {
     let all: usize = found.values().sum();
     let refused: usize = found.iter().filter(|(answer, _)| answer.starts_with("no ")).map(|(_, times)| times).sum();
     assert!((30..37).contains(&(100 * refused / all)), "{refused} of {all}");
+}
+
+/// A line of every letter, `!` and `+` among those that are not readable too: one of six lines loses or sends again.
+#[test]
+fn about_a_sixth_of_the_lines_loses_or_sends_again() {
+    let (mut all, mut losses, mut unreadable) = (0, 0, 0);
+    for seed in 100..120 {
+        for line in line::lines(&schedule(seed, 10)) {
+            all += 1;
+            match line::step_of(line) {
+                Some(Step::Lose { .. } | Step::Resend { .. }) => losses += 1,
+                None if line.starts_with(b"!") || line.starts_with(b"+") => unreadable += 1,
+                _ => {}
+            }
+        }
+    }
+    assert!((15..=18).contains(&(100 * losses / all)), "{losses} of {all}");
+    assert!(unreadable > 100, "{unreadable}");
 }
 
 /// The numbers of a W line, where nothing else stands behind its letter.

@@ -1,7 +1,5 @@
 //! Where each word of the lent tables stands.
 
-use model::Key;
-
 /// The eight tables, each one slice of 32-bit words.
 #[derive(Clone, Debug, Default, PartialEq, Eq)]
 pub struct Tables {
@@ -17,7 +15,7 @@ pub struct Tables {
 
 /// Words of each table's row, and rows of a fixed number.
 pub const COUNTS_WORDS: usize = 23;
-pub const CLIENT_WORDS: usize = 70;
+pub const CLIENT_WORDS: usize = 87;
 pub const LINK_WORDS: usize = 4;
 pub const LINKS_OF_CLIENT: usize = 17;
 pub const VERSIONS_OF_SERVER: usize = 256;
@@ -47,6 +45,8 @@ pub const SETPOINTS: usize = 5;
 pub const RECEIVED: usize = 21;
 pub const TAGS: usize = 38;
 pub const BADGES: usize = 54;
+pub const WRITE_BADGE: usize = 70;
+pub const ASKED: usize = 71;
 
 /// The place of the badge in a link's words and in a record's, and how many badges there are.
 pub const LINK_BADGE: usize = 3;
@@ -57,6 +57,7 @@ pub const BADGES_BELOW: u32 = 65_536;
 pub const NOTHING: u32 = 0;
 pub const REQUEST: u32 = 1;
 pub const REPLY: u32 = 2;
+pub const LOST: u32 = 3;
 
 /// The words that each table needs for k servers and p clients.
 pub fn needed(servers: usize, clients: usize) -> [usize; 8] {
@@ -144,9 +145,4 @@ pub fn link_place(client: usize, target: usize) -> usize {
 /// The values of a server's versions stand at 256 times the server plus the version's place, badge first.
 pub fn value_place(server: usize, place: usize) -> usize {
     VALUE_WORDS * (VERSIONS_OF_SERVER * server + place)
-}
-
-/// "a key is 256 times its count plus its client", back.
-pub fn key_of(word: u32) -> Key {
-    Key { count: (word / 256) as u8, client: (word % 256) as u8 }
 }

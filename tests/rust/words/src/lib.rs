@@ -18,12 +18,17 @@ pub fn take(tables: &mut Tables, step: &Step) -> Outcome {
     if let Step::Open { method, servers, clients, setpoints } = step {
         return open(tables, *method, *servers, *clients, setpoints);
     }
+    take_by(tables, |store| store.take(step))
+}
+
+/// The same of any step but an opening, taken by this function on the store that the tables hold.
+pub fn take_by(tables: &mut Tables, take: impl FnOnce(&mut Store) -> Outcome) -> Outcome {
     if !sound(tables) {
         return Err(Refusal::Unsound);
     }
     let before = store_of(tables);
     let mut after = before.clone();
-    let answer = after.take(step)?;
+    let answer = take(&mut after)?;
     writing::write_changes(tables, &before, &after);
     Ok(answer)
 }

@@ -24,6 +24,7 @@ fn row_of(step: &Step) -> [u32; STEP_WORDS] {
         Step::DeliverRequest { client, target } => [2, client, target, 0],
         Step::DeliverReply { client, target } => [3, client, target, 0],
         Step::Open { .. } => unreachable!("a load opens nothing"),
+        Step::Lose { .. } | Step::Resend { .. } => unreachable!("a load loses nothing"),
     }
 }
 

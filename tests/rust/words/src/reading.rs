@@ -2,7 +2,7 @@
 
 use crate::layout::*;
 use model::key::latest;
-use model::{Client, Entry, Link, Method, ReadRecord, Reply, Request, State, Store, Version, WriteRecord, COORDINATOR};
+use model::{Client, Entry, Key, Link, Method, ReadRecord, Reply, Request, State, Store, Version, WriteRecord, COORDINATOR};
 
 /// The store that sound tables hold.
 pub fn store_of(tables: &Tables) -> Store {
@@ -24,7 +24,7 @@ fn versions(tables: &Tables, server: usize) -> Vec<Version> {
     let keys = &tables.keys[VERSIONS_OF_SERVER * server..];
     let version = |place: usize| {
         let value = tables.value(server, place);
-        Version { key: key_of(keys[place]), badge: badge_of(value[0]), setpoint: value[1] }
+        Version { key: Key::of_word(keys[place]), badge: badge_of(value[0]), setpoint: value[1] }
     };
     (0..tables.count(HELD + server)).map(version).collect()
 }
@@ -35,7 +35,7 @@ fn badge_of(word: u32) -> u16 {
 
 fn entry(tables: &Tables, tag: usize) -> Entry {
     let words = tables.entry(tag);
-    Entry { key: key_of(words[0]), mask: words[1] }
+    Entry { key: Key::of_word(words[0]), mask: words[1] }
 }
 
 /// End 0 is "no end".
@@ -80,7 +80,9 @@ fn client_of(tables: &Tables, servers: &[Vec<Version>], log: &[Entry], client: u
         tag: row[TAG] as usize,
         setpoints: row[SETPOINTS..RECEIVED].try_into().expect("16 setpoints"),
         tags: std::array::from_fn(|server| row[TAGS + server] as usize),
-        badges: row[BADGES..CLIENT_WORDS].try_into().expect("16 badges"),
+        badges: row[BADGES..WRITE_BADGE].try_into().expect("16 badges"),
+        badge: badge_of(row[WRITE_BADGE]),
+        asked: row[ASKED..CLIENT_WORDS].try_into().expect("16 keys"),
         log: log[..received[COORDINATOR] as usize].to_vec(),
         record: row[RECORD] as usize,
         ..Client::default()
@@ -99,12 +101,14 @@ fn link_of(words: &[u32], state: State, target: usize, servers: &[Vec<Version>],
     match words[0] {
         NOTHING => Link::Nothing,
         REQUEST => Link::Request(request_of(words, state, target)),
-        _ => Link::Reply(reply_of(words, state, target, servers, log)),
+        REPLY => Link::Reply(reply_of(words, state, target, servers, log)),
+        LOST => Link::Lost,
+        kind => unreachable!("sound tables have links of kinds 0 to 3, and not {kind}"),
     }
 }
 
 fn request_of(words: &[u32], state: State, target: usize) -> Request {
-    let key = key_of(words[1]);
+    let key = Key::of_word(words[1]);
     match state {
         State::WritingSetpoints => Request::Set { key, badge: badge_of(words[LINK_BADGE]), setpoint: words[2] },
         State::WaitingForTag => Request::Enter { key, mask: words[2] },

@@ -128,10 +128,17 @@ fn client_sound(tables: &Tables, press: &Press, client: usize) -> bool {
         && (row[TAG] as usize) < tables.count(ENTRIES)
         && (0..press.servers).all(|server| (row[TAGS + server] as usize) < tables.count(ENTRIES))
         && (0..press.servers).all(|server| badge(row[BADGES + server]))
+        && badge(row[WRITE_BADGE])
+        && (0..press.servers).all(|server| asked_sound(press, row, server))
         && (0..LINKS_OF_CLIENT).all(|target| link_sound(tables, press, client, target))
         && (0..LINKS_OF_CLIENT).all(|target| received_sound(tables, client, target))
         && waits(tables, client)
         && in_progress(tables, client)
+}
+
+/// "in state 4, the keys it asks for", of each station that it asks; what stands there else is free.
+fn asked_sound(press: &Press, row: &[u32], server: usize) -> bool {
+    row[STATE] != 4 || !has_server(row[MASK], server) || press.key(row[ASKED + server])
 }
 
 fn link_empty(tables: &Tables, client: usize, target: usize) -> bool {
@@ -157,6 +164,8 @@ fn link_sound(tables: &Tables, press: &Press, client: usize, target: usize) -> b
         NOTHING => true,
         REQUEST => sends_to(row, target) && request_sound(press, client, row[STATE], link),
         REPLY => sends_to(row, target) && reply_sound(tables, row[STATE], target, link),
+        // "sound wherever the panel waits for that link"
+        LOST => sends_to(row, target),
         _ => false,
     }
 }

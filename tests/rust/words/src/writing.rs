@@ -112,7 +112,9 @@ fn client_words(client: &Client) -> [u32; CLIENT_WORDS] {
     for (server, &tag) in client.tags.iter().enumerate() {
         row[TAGS + server] = tag as u32;
     }
-    row[BADGES..].copy_from_slice(&client.badges);
+    row[BADGES..WRITE_BADGE].copy_from_slice(&client.badges);
+    row[WRITE_BADGE] = u32::from(client.badge);
+    row[ASKED..].copy_from_slice(&client.asked);
     row
 }
 
@@ -124,6 +126,7 @@ fn link_words(link: &Link) -> [u32; LINK_WORDS] {
             [REQUEST, key, number, badge]
         }
         Link::Reply(reply) => [REPLY, 0, reply_number(reply), reply_badge(reply)],
+        Link::Lost => [LOST, 0, 0, 0],
     }
 }
 

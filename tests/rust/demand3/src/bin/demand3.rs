@@ -18,7 +18,12 @@ fn main() -> ExitCode {
         Ok(seen) => {
             let lines = format!("lines: {}, accepted {}, refused {}", seen.lines, seen.accepted, seen.refused);
             let row = format!("in the row: WRITEs {}, READs {}", seen.tagged_writes, seen.finished_reads);
-            verdict(&format!("demand 3 holds of this run.\n{lines}; openings: {}\n{row}", seen.openings), ExitCode::SUCCESS)
+            let losses = match (seen.lost_requests, seen.lost_replies) {
+                (0, 0) => String::new(),
+                (requests, replies) => format!("\nlost: requests {requests}, replies {replies}; sent again: {}", seen.sent_again),
+            };
+            let text = format!("demand 3 holds of this run.\n{lines}; openings: {}\n{row}{losses}", seen.openings);
+            verdict(&text, ExitCode::SUCCESS)
         }
         Err(violation) if violation.fits => verdict(&format!("demand 3 is BROKEN: {violation}"), ExitCode::FAILURE),
         Err(violation) => unchecked(&format!("{output} is no output of {schedule}: {violation}")),
