@@ -42,5 +42,5 @@ def shown(tag, mask, values):
 
 
 def overlap(begin, end, writes):
-    """ "A READ's overlap counts the finished WRITEs that began before its end and ended after its begin."; writes are (begin, end)"""
+    """ "A READ's overlap counts the … WRITEs that began before its end and ended after its begin."; writes are (begin, end), all finished"""
     return sum(1 for began, ended in writes if began < end and ended > begin)

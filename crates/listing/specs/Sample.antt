@@ -20,13 +20,13 @@ pub sample-listed : registerWords sample ≡ (1 ∷ 0 ∷ 1 ∷ 3 ∷ 4 ∷ 14 �
 unfolding sample flatMap listedTo insertedAll inserted passing placesBelow sumBelow
 sample-listed = refl
 
--- WRITEs: 0 and 3 of tag 2, 1 untagged, 2 of tag 1 and unfinished. READs: 1 is at tag 0, 3 unfinished, and 4, 0 and 2 are at tag 1: 4 began
+-- WRITEs: 0 and 3 of tag 2, 1 untagged and unfinished, 2 of tag 1 and unfinished. READs: 1 is at tag 0, 3 unfinished, and 4, 0 and 2 are at tag 1: 4 began
 -- first, though its record stands last; 0 and 2 tie, though 2 ended before 0. The WRITEs' badges are 7, 8, 9 and 65535; what stands in a
 -- READ's record there is none.
 unfoldable pub mixed : Tables
 mixed =
     recorded 3 4 5
-    ((0 ∷ 1 ∷ 2 ∷ 2 ∷ 9 ∷ 7 ∷ []) ++ ((1 ∷ 1 ∷ 0 ∷ 3 ∷ 0 ∷ 8 ∷ []) ++
+    ((0 ∷ 1 ∷ 2 ∷ 2 ∷ 9 ∷ 7 ∷ []) ++ ((1 ∷ 1 ∷ 0 ∷ 10 ∷ 0 ∷ 8 ∷ []) ++
     ((2 ∷ 1 ∷ 1 ∷ 4 ∷ 0 ∷ 9 ∷ []) ++ (0 ∷ 2 ∷ 2 ∷ 10 ∷ 20 ∷ 65535 ∷ []))))
     ((3 ∷ 1 ∷ 1 ∷ 11 ∷ 18 ∷ 5 ∷ []) ++ ((4 ∷ 1 ∷ 0 ∷ 6 ∷ 17 ∷ 0 ∷ []) ++
     ((5 ∷ 2 ∷ 1 ∷ 11 ∷ 14 ∷ 5 ∷ []) ++ ((3 ∷ 3 ∷ 0 ∷ 19 ∷ 0 ∷ 0 ∷ []) ++ (4 ∷ 2 ∷ 1 ∷ 9 ∷ 10 ∷ 5 ∷ [])))))
@@ -35,11 +35,11 @@ pub mixed-listed : register mixed ≡ read 1 ∷ write 2 ∷ read 4 ∷ read 0 �
 unfolding mixed listedTo insertedAll inserted passing placesBelow
 mixed-listed = refl
 
--- Overlaps: READ 1 overlaps WRITEs 0 and 3. WRITE 0 ended at 9, where READ 4 began, and WRITE 3 began at 10, where READ 4 ended, so READ 4
--- overlaps neither; READs 0 and 2 began behind the end of WRITE 0, and overlap WRITE 3.
+-- Overlaps: READ 1 overlaps all four WRITEs, finished or not. WRITE 0 ended at 9, where READ 4 began, and WRITEs 1 and 3 began at 10, where
+-- READ 4 ended, so READ 4 overlaps WRITE 2 alone; READs 0 and 2 began behind the end of WRITE 0, and overlap the other three.
 pub mixed-words : registerWords mixed ≡
-    (1 ∷ 0 ∷ 4 ∷ 1 ∷ 6 ∷ 17 ∷ 2 ∷ 0 ∷ []) ++ ((0 ∷ 1 ∷ 2 ∷ 1 ∷ 4 ∷ 0 ∷ 0 ∷ 9 ∷ []) ++
-    ((1 ∷ 1 ∷ 4 ∷ 2 ∷ 9 ∷ 10 ∷ 0 ∷ 0 ∷ []) ++ ((1 ∷ 1 ∷ 3 ∷ 1 ∷ 11 ∷ 18 ∷ 1 ∷ 0 ∷ []) ++ ((1 ∷ 1 ∷ 5 ∷ 2 ∷ 11 ∷ 14 ∷ 1 ∷ 0 ∷ []) ++
+    (1 ∷ 0 ∷ 4 ∷ 1 ∷ 6 ∷ 17 ∷ 4 ∷ 0 ∷ []) ++ ((0 ∷ 1 ∷ 2 ∷ 1 ∷ 4 ∷ 0 ∷ 0 ∷ 9 ∷ []) ++
+    ((1 ∷ 1 ∷ 4 ∷ 2 ∷ 9 ∷ 10 ∷ 1 ∷ 0 ∷ []) ++ ((1 ∷ 1 ∷ 3 ∷ 1 ∷ 11 ∷ 18 ∷ 3 ∷ 0 ∷ []) ++ ((1 ∷ 1 ∷ 5 ∷ 2 ∷ 11 ∷ 14 ∷ 3 ∷ 0 ∷ []) ++
     ((0 ∷ 2 ∷ 0 ∷ 1 ∷ 2 ∷ 9 ∷ 0 ∷ 7 ∷ []) ++ (0 ∷ 2 ∷ 0 ∷ 2 ∷ 10 ∷ 20 ∷ 0 ∷ 65535 ∷ []))))))
 unfolding mixed flatMap listedTo insertedAll inserted passing placesBelow sumBelow
 mixed-words = refl

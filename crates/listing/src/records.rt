@@ -25,16 +25,16 @@ pub fn has_tag(records: &[u32], tag: u32, place: usize) -> bool
     records::record_word(records, place, records::TAG) == tag
 }
 
-// Whether a WRITE is finished, began before an end and ended after a begin.
+// Whether a WRITE began before an end, and ended after a begin or has no end.
 fn overlaps(writes: &[u32], begin: u32, end: u32, place: usize) -> bool
     requires { ⌜ HasRow recordWidth (now writes) place ⌝ }
     ensures { λ r. ⌜ r ≡ overlaps (now (writes .entry)) begin end place ⌝ }
 {
-    if !is_finished(writes, place) {
-        return false;
-    }
     if end <= records::record_word(writes, place, records::BEGIN) {
         return false;
+    }
+    if !is_finished(writes, place) {
+        return true;
     }
     begin < records::record_word(writes, place, records::END)
 }

@@ -16,8 +16,7 @@ use Rattle.serial.specs.Steps.{Event, opened, begun-write, begun-read, r
 use Rattle.serial.specs.History.{Transaction, Doing, nothing, writing, tagged, reading, History, history, BehindOpenings}
 use Rattle.serial.specs.Row.{row, Walk, RealTime}
 
--- the number of deliveries at which a READ of a mask ends: two for each of its stations, and what the method adds; "one delivery more for each
--- of its lost replies"
+-- the deliveries at which a READ of a mask ends: two for each station, what the method adds, "one … more for each of its lost replies"
 abbrev pub enough : ℕ → ℕ → ℕ → ℕ
 enough extra mask losses = 2 * serversIn mask + extra + losses
 
@@ -64,8 +63,7 @@ pub record Claim (steps : List Played) (h : History) : Type 0 where
   pub realTime : RealTime (row h)
   -- each accepted request delivery leaves the reply on that link
   pub answered : Each Answers steps
-  -- a READ of m stations ends at exactly the 2m-th accepted delivery on its own links under A, the (2m + 2)-th under B and C, and one more
-  -- for each of its lost replies
+  -- a READ of m stations ends at exactly its 2m-th delivery under A, its (2m + 2)-th under B and C, one more for each lost reply
   pub ends : Each (EndsAt (h .extra)) (row h)
   -- and an unfinished one has had fewer
   pub unfinished : (q : ℕ) → Unfinished (h .extra) (h .doing q)

@@ -71,8 +71,7 @@ transactionOf isWrite q mask value tag begin end deliveries losses =
       losses = losses;
     }
 
--- What a client is at: no transaction; a WRITE whose request at target 16 was not delivered yet; a WRITE of a tag; a READ with its deliveries
--- and its lost replies so far.
+-- What a client is at: no transaction; a WRITE that has no tag yet; a WRITE of a tag; a READ, its deliveries and its lost replies so far.
 pub data Doing : Type 0 where
   nothing : Doing
   writing : (mask badge : ℕ) → List ℕ → (begin : ℕ) → Doing
@@ -196,8 +195,7 @@ arrived (arrival.Write tag) d q i h = marked q i false (wrote tag (h .doing q) q
 arrived (arrival.Read tag) d q i h = marked q i false (showed tag d (h .doing q) q h)
 arrived (arrival.Refused n) d q i h = passed h
 
--- "a READ needs one delivery more for each of its lost replies": a loss is of a reply exactly where the last accepted step on its link is the
--- delivery of a request
+-- "one delivery more for each of its lost replies": a loss is of a reply where the last accepted step on its link delivered a request
 abbrev pub lostOf : Bool → ℕ → ℕ
 lostOf true losses = suc losses
 lostOf false losses = losses
@@ -215,8 +213,7 @@ repeated (writing mask badge setpoints begin) h = passed h
 repeated (tagged tag) h = passed h
 repeated (reading mask begin deliveries losses) h = passed h
 
--- Behind an accepted opening there is nothing yet. Demand 3: a READ of m stations ends at exactly the 2m-th delivery on its links under A, at
--- the (2m + 2)-th under B and C, and one more for each of its lost replies.
+-- Behind an accepted opening there is nothing yet. A READ of m stations ends at its 2m-th delivery under A, its (2m + 2)-th under B and C.
 abbrev pub noWrite : Transaction
 noWrite = writeOf 0 0 (valueWritten 0 0 []) 0 0 none
 

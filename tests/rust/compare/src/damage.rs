@@ -173,6 +173,29 @@ pub fn step_on_a_link(tables: &Tables, random: &mut Random) -> Step {
     }
 }
 
+/// A begin or an end in the records becomes that of another, or one step more or less: of sound tables "begin and end are any". What has no
+/// end gets none, and no end is taken, so that they stay sound.
+pub fn change_record_step(tables: &mut Tables, random: &mut Random) {
+    if tables.count(WRITES) + tables.count(READS) == 0 {
+        return;
+    }
+    let (from, place) = record_step(tables, random);
+    let near = tables.all()[from][place].wrapping_add(random.pick(&[0, 0, 1, u32::MAX]));
+    let (to, place) = record_step(tables, random);
+    let word = &mut tables.all_mut()[to][place];
+    if place % RECORD_WORDS != RECORD_END || (*word != 0 && near != 0) {
+        *word = near;
+    }
+}
+
+/// The table, numbered as in `Tables::all`, and the place of some record's begin or end.
+fn record_step(tables: &Tables, random: &mut Random) -> (usize, usize) {
+    let writes = tables.count(WRITES);
+    let record = random.below(writes + tables.count(READS));
+    let (which, record) = if record < writes { (6, record) } else { (7, record - writes) };
+    (which, RECORD_WORDS * record + random.pick(&[RECORD_BEGIN, RECORD_END]))
+}
+
 /// A place in a table, which is numbered as in `Tables::all`.
 fn word_place(tables: &Tables, which: usize, random: &mut Random) -> usize {
     let used = |place: usize| tables.counts.get(place).map_or(0, |&count| count as usize % 257);

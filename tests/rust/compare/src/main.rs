@@ -29,6 +29,8 @@ mod wire_run;
 #[cfg(test)]
 mod wrong_comparisons;
 #[cfg(test)]
+mod wrong_registers;
+#[cfg(test)]
 mod wrong_stores;
 
 use arguments::Arguments;

@@ -1,13 +1,16 @@
 //! Frames of links and the register's listing, from any tables: answers, bytes and rows as the model has them.
 
 use crate::arguments::Arguments;
+use crate::damage::change_record_step;
 use crate::stores::{shown, visit_store};
 use crate::tally::Tally;
 use crate::Report;
 use ffi::WireLibrary;
 use frames::link::message_on;
-use model::{Refusal, COORDINATOR};
+use model::{Refusal, WriteRecord, COORDINATOR};
 use schedules::Random;
+use std::cmp::Ordering;
+use std::collections::BTreeSet;
 use words::layout::{CLIENTS, LINKS_OF_CLIENT, LINK_WORDS, LOST, NOTHING};
 use words::register::{list_register, LINE_WORDS};
 use words::Tables;
@@ -27,6 +30,13 @@ const DUE_LISTS: [&str; 6] = [
     "with READs that tie",
     "with badges above 255",
 ];
+/// Where unfinished WRITEs of listed registers are beside a finished READ, those with a tag and those without.
+const DUE_UNFINISHED: [[&str; 4]; 2] = [
+    ["a tag, begun before it", "a tag, begun during it", "a tag, begun at its end", "a tag, begun after it"],
+    ["no tag, begun before it", "no tag, begun during it", "no tag, begun at its end", "no tag, begun after it"],
+];
+/// And finished ones: those that overlap it, and those that would by `≤` for `<`.
+const DUE_FINISHED: [&str; 3] = ["ended after its begin", "ended at its begin", "ended after its begin, begun at its end"];
 
 /// A READ's kind, and words of a row of the register.
 const READ: u32 = 1;
@@ -46,6 +56,7 @@ struct Counts {
     sound: usize,
     frames: Tally,
     lists: Tally,
+    pairs: Tally,
 }
 
 /// What is compared with the model: the proved crates, or in tests what stands in for them.
@@ -81,7 +92,10 @@ pub fn compare_by(arguments: &Arguments, library: &dyn Wire) -> Report {
             compare_link(library, tables, &mut random, &mut counts)?;
             compare_list(library, tables, &mut random, &mut counts)?;
             counts.tables += 1;
-            counts.sound += usize::from(words::sound(tables));
+            if words::sound(tables) {
+                counts.sound += 1;
+                compare_changed_list(library, tables, &mut random, &mut counts)?;
+            }
             let _ = words::take(tables, step);
             Ok(())
         });
@@ -91,9 +105,12 @@ pub fn compare_by(arguments: &Arguments, library: &dyn Wire) -> Report {
     if arguments.cases >= MANY {
         counts.frames.require(&DUE_FRAMES)?;
         counts.lists.require(&DUE_LISTS)?;
+        counts.pairs.require(&DUE_UNFINISHED.concat())?;
+        counts.pairs.require(&DUE_FINISHED)?;
     }
-    let Counts { tables, sound, frames, lists } = counts;
-    Ok(format!("{tables} tables, {sound} of them sound, {stores} stores; links: {frames}; registers: {lists}"))
+    let Counts { tables, sound, frames, lists, pairs } = counts;
+    let places = format!("where a WRITE is beside a READ: {pairs}");
+    Ok(format!("{tables} tables, {sound} of them sound, {stores} stores; links: {frames}; registers: {lists}; {places}"))
 }
 
 /// A link, most often one that holds something, and sometimes one that is not there.
@@ -162,6 +179,13 @@ fn compare_link(library: &dyn Wire, tables: &Tables, random: &mut Random, counts
     Ok(())
 }
 
+/// The register of sound tables whose records have other begins and ends.
+fn compare_changed_list(library: &dyn Wire, tables: &Tables, random: &mut Random, counts: &mut Counts) -> Result<(), String> {
+    let mut changed = tables.clone();
+    (0..random.within(1, 3)).for_each(|_| change_record_step(&mut changed, random));
+    compare_list(library, &changed, random, counts)
+}
+
 /// The register: the answer, and every word of the lent list afterwards.
 fn compare_list(library: &dyn Wire, tables: &Tables, random: &mut Random, counts: &mut Counts) -> Result<(), String> {
     let mut whole = vec![0; LINE_WORDS * MOST_LINES];
@@ -181,6 +205,7 @@ fn compare_list(library: &dyn Wire, tables: &Tables, random: &mut Random, counts
         Ok(lines) => {
             counts.lists.count("listed");
             count_orders(&list[..LINE_WORDS * lines], &mut counts.lists);
+            count_pairs(tables, &mut counts.pairs);
         }
         Err(refusal) => counts.lists.count(&refusal.to_string()),
     }
@@ -201,5 +226,33 @@ fn count_orders(list: &[u32], lists: &mut Tally) {
     }
     if rows.iter().any(|row| row[BADGE] > 255) {
         lists.count("with badges above 255");
+    }
+}
+
+/// Counts where WRITEs are beside finished READs, each place once for a register.
+fn count_pairs(tables: &Tables, pairs: &mut Tally) {
+    let store = words::store_of(tables);
+    let finished = store.reads.iter().filter_map(|read| read.end.map(|end| (read.begin, end)));
+    let beside = |(begin, end)| store.writes.iter().filter_map(move |write| place_beside(write, begin, end));
+    finished.flat_map(beside).collect::<BTreeSet<_>>().into_iter().for_each(|name| pairs.count(name));
+}
+
+/// Of a READ with this begin and end.
+fn place_beside(write: &WriteRecord, begin: u32, end: u32) -> Option<&'static str> {
+    let [overlapping, at_begin, at_end] = DUE_FINISHED;
+    let Some(ended) = write.end else {
+        let places = DUE_UNFINISHED[usize::from(write.tag == 0)];
+        return Some(match write.begin {
+            begun if begun > end => places[3],
+            begun if begun == end => places[2],
+            begun if begun > begin => places[1],
+            _ => places[0],
+        });
+    };
+    match (ended.cmp(&begin), write.begin.cmp(&end)) {
+        (Ordering::Greater, Ordering::Less) => Some(overlapping),
+        (Ordering::Equal, Ordering::Less) => Some(at_begin),
+        (Ordering::Greater, Ordering::Equal) => Some(at_end),
+        _ => None,
     }
 }

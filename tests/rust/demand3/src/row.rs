@@ -50,7 +50,7 @@ pub fn walk(run: &Run, row: &[usize]) -> Result<(), Violation> {
                 let value = |server: usize| Value { setpoint: setpoints[server], tag: tag(run, place), badge: *badge };
                 stations.iter().for_each(|&server| values[server] = value(server));
             }
-            Kind::Read { shown } => {
+            Kind::Read { shown, .. } => {
                 let due: Vec<(usize, Value)> = stations.iter().map(|&server| (server, values[server])).collect();
                 if *shown != due {
                     let what = format!("the READ shows {}, and the row has {}", text_of(shown), text_of(&due));
@@ -85,12 +85,6 @@ pub fn real_time(run: &Run, row: &[usize]) -> Result<(), Violation> {
     Ok(())
 }
 
-/// "A READ's overlap counts the finished WRITEs that began before its end and ended after its begin."
-fn overlap(run: &Run, read: &Transaction) -> usize {
-    let writes = run.transactions.iter().filter(|other| other.is_write());
-    writes.filter(|write| Some(write.begin) < read.end && write.end.is_some_and(|end| end > read.begin)).count()
-}
-
 /// A line of the register.
 fn line_of(run: &Run, place: usize) -> String {
     let transaction = &run.transactions[place];
@@ -99,7 +93,7 @@ fn line_of(run: &Run, place: usize) -> String {
     let tag = tag(run, place);
     match &transaction.kind {
         Kind::Write { count, badge, .. } => format!("W {tag} {client} {count} {begin} {end_text} {badge}"),
-        Kind::Read { .. } => format!("R {tag} {client} {begin} {end_text} {}", overlap(run, transaction)),
+        Kind::Read { beside, .. } => format!("R {tag} {client} {begin} {end_text} {beside}"),
     }
 }
 

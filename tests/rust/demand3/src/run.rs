@@ -10,8 +10,9 @@ const HEAD: usize = 16;
 pub enum Kind {
     /// `count` is how many WRITEs its client has begun; `badge` and `setpoints` are those of its begin.
     Write { count: usize, badge: u32, setpoints: Vec<u32> },
-    /// What it showed, once it has ended.
-    Read { shown: Vec<(usize, Value)> },
+    /// What it showed, once it has ended; and its overlap: "all WRITEs in progress at some moment of the READ", those that are in progress
+    /// when it begins and those that begin while it is.
+    Read { shown: Vec<(usize, Value)>, beside: usize },
 }
 
 /// "A transaction begins at an accepted begin and finishes at the next reply delivered to its panel that answers write or read."
@@ -98,7 +99,10 @@ impl Run {
                 let count = self.transactions.iter().filter(|one| one.client == client && one.is_write()).count() + 1;
                 self.begin(client, mask, Kind::Write { count, badge, setpoints }, line)
             }
-            (Asked::Read { client, mask }, Said::Ok) => self.begin(client, mask, Kind::Read { shown: Vec::new() }, line),
+            (Asked::Read { client, mask }, Said::Ok) => {
+                let beside = self.current.iter().flatten().filter(|&&place| self.transactions[place].is_write()).count();
+                self.begin(client, mask, Kind::Read { shown: Vec::new(), beside }, line)
+            }
             (Asked::Request { client, target }, Said::Ok) => self.request(client, target, line),
             (Asked::Reply { client, target }, said) if said != Said::Ok => self.reply(client, target, said, line),
             (Asked::Loss { client, target }, Said::Ok) => self.loss(client, target, line),
@@ -137,6 +141,9 @@ impl Run {
         if self.current[client].is_some() {
             return Err(violation(line, "a transaction begins while its panel's last one is in progress"));
         }
+        if matches!(kind, Kind::Write { .. }) {
+            self.count_beside_reads();
+        }
         self.current[client] = Some(self.transactions.len());
         self.transactions.push(Transaction {
             kind,
@@ -151,6 +158,15 @@ impl Run {
             line,
         });
         Ok(())
+    }
+
+    /// A WRITE begins beside each READ in progress.
+    fn count_beside_reads(&mut self) {
+        for &place in self.current.iter().flatten() {
+            if let Kind::Read { beside, .. } = &mut self.transactions[place].kind {
+                *beside += 1;
+            }
+        }
     }
 
     /// The transaction that this link belongs to, on which a step of this name is accepted.
@@ -241,7 +257,7 @@ impl Run {
     fn end_read(&mut self, place: usize, tag: usize, shown: Vec<(usize, Value)>, line: usize) -> Result<(), Violation> {
         let wanted = self.deliveries_of(place);
         let transaction = &mut self.transactions[place];
-        let Kind::Read { shown: kept } = &mut transaction.kind else {
+        let Kind::Read { shown: kept, .. } = &mut transaction.kind else {
             return Err(violation(line, "a WRITE answers read"));
         };
         if let Some(wanted) = wanted.filter(|&wanted| wanted != transaction.deliveries) {

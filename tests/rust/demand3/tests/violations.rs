@@ -1,6 +1,7 @@
 //! Outputs made wrong by hand: the checker must report each, and for the right reason.
 
 use demand3::check;
+use std::path::Path;
 
 /// Document 01's sample.
 const SAMPLE: &str = include_str!("../../../../examples/sample.txt");
@@ -194,6 +195,32 @@ fn tags_by_the_order_of_deliveries_at_the_head() {
 #[test]
 fn an_invented_overlap() {
     assert!(sample_report("R 0 1 4 14 1", "R 0 1 4 14 0").contains("register"));
+}
+
+/// Document 02's E7, by hand: panels that are switched off in their WRITE before, during and after a READ.
+#[test]
+fn unfinished_writes_in_the_overlap() {
+    let cards = ["a", "b", "c"].map(|method| {
+        let root = Path::new(env!("CARGO_MANIFEST_DIR")).join("../../../tests/schedules");
+        let text = |end: &str| std::fs::read_to_string(root.join(format!("unfinished_{method}.{end}"))).expect("a schedule");
+        (text("txt"), text("out"))
+    });
+    for (schedule, printed) in &cards {
+        for line in printed.lines().filter(|line| line.starts_with("R ")) {
+            let (front, overlap) = line.rsplit_once(' ').expect("an overlap");
+            let right: usize = overlap.parse().expect("a number");
+            for wrong in (0..12).filter(|&wrong| wrong != right) {
+                let due = format!("in place of \"{line}\"");
+                assert!(report(schedule, printed, line, &format!("{front} {wrong}")).contains(&due), "{line}, {wrong}");
+            }
+        }
+    }
+    // An opening starts anew: what was in progress is so no more.
+    let schedule = "O 2 1 2 5\nW 0 1 0 6\nO 2 1 2 5\nR 1 1\n> 1 16\n< 1 16\n> 1 0\nW 0 1 0 6\n< 1 0\nW 1 1 0 7\n";
+    let right = "1 ok\n2 ok\n3 ok\n4 ok\n5 ok\n6 next\n7 ok\n8 ok\n9 read 0 0=5@0#0\n10 ok\nR 0 1 2 7 1\n";
+    for wrong in ["R 0 1 2 7 0", "R 0 1 2 7 2", "R 0 1 2 7 3"] {
+        assert!(report(schedule, right, "R 0 1 2 7 1", wrong).contains("the register has"), "{wrong}");
+    }
 }
 
 #[test]

@@ -30,9 +30,10 @@ pub enum Listed<'a> {
     Read { record: &'a ReadRecord, end: u32, overlap: usize },
 }
 
-/// "A READ's overlap counts the finished WRITEs that began before its end and ended after its begin."
+/// "A READ's overlap counts the … WRITEs that began before its end and ended after its begin." "A WRITE begun before the READ's end and not
+/// finished overlaps it, tagged or not."
 fn overlap(writes: &[WriteRecord], begin: u32, end: u32) -> usize {
-    let overlaps = |write: &&WriteRecord| write.begin < end && write.end.is_some_and(|ended| ended > begin);
+    let overlaps = |write: &&WriteRecord| write.begin < end && write.end.is_none_or(|ended| ended > begin);
     writes.iter().filter(overlaps).count()
 }
 

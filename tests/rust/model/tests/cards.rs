@@ -2,7 +2,7 @@
 
 use model::history::{listing, Listed};
 use model::key::{latest, servers_of, Entry, Key, Latest};
-use model::{replay, Answer, Link, ReadRecord, Refusal, Request, Shown, Store, Version};
+use model::{replay, Answer, Link, ReadRecord, Refusal, Request, Shown, Store, Version, WriteRecord};
 
 fn opened(method: u32, servers: u32, clients: u32) -> Store {
     let setpoints: Vec<u32> = (0..servers).map(|server| 100 + server).collect();
@@ -324,4 +324,41 @@ fn reads_of_one_tag_by_begin() {
         Listed::Write(_) => unreachable!("there are READs only"),
     };
     assert_eq!(listing(&[], &reads).iter().map(panel).collect::<Vec<_>>(), [1, 2, 0, 3]);
+}
+
+/// "A WRITE begun before the READ's end and not finished overlaps it, tagged or not", on records with any numbers: a READ from 10 to 20, and
+/// one that ends where it began.
+#[test]
+fn overlaps_of_finished_and_unfinished_writes() {
+    let writes = [
+        (9, Some(10), [0, 0]),
+        (9, Some(11), [1, 1]),
+        (0, Some(u32::MAX), [1, 1]),
+        (19, Some(11), [1, 0]),
+        (20, Some(30), [0, 0]),
+        (20, Some(1), [0, 0]),
+        (9, None, [1, 1]),
+        (10, None, [1, 0]),
+        (19, None, [1, 0]),
+        (20, None, [0, 0]),
+        (21, None, [0, 0]),
+        (u32::MAX, None, [0, 0]),
+        (0, None, [1, 1]),
+    ];
+    let reads = [finished(0, 0, 10, 20), finished(0, 0, 10, 10)];
+    let overlaps = |writes: &[WriteRecord]| -> Vec<usize> {
+        let of_read = |line: &Listed| match line {
+            Listed::Read { overlap, .. } => Some(*overlap),
+            Listed::Write(_) => None,
+        };
+        listing(writes, &reads).iter().filter_map(of_read).collect()
+    };
+    for tag in [0, 1] {
+        let record = |&(begin, end, _): &(u32, Option<u32>, _)| WriteRecord { client: 1, count: 1, tag, begin, end, badge: 0 };
+        for write in &writes {
+            assert_eq!(overlaps(&[record(write)]), write.2, "tag {tag}, {write:?}");
+        }
+        // Of all of them together, the number.
+        assert_eq!(overlaps(&writes.iter().map(record).collect::<Vec<_>>()), [7, 4]);
+    }
 }

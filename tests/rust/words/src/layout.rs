@@ -48,6 +48,10 @@ pub const BADGES: usize = 54;
 pub const WRITE_BADGE: usize = 70;
 pub const ASKED: usize = 71;
 
+/// Places of begin and end in a record's words.
+pub const RECORD_BEGIN: usize = 3;
+pub const RECORD_END: usize = 4;
+
 /// The place of the badge in a link's words and in a record's, and how many badges there are.
 pub const LINK_BADGE: usize = 3;
 pub const RECORD_BADGE: usize = 5;
