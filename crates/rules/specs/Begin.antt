@@ -82,18 +82,6 @@ pub record Asking : Type 0 where
 abbrev pub asking : List ℕ → List ℕ → Asking
 asking clients links = record { clients = clients; links = links }
 
--- "the last tag"
-abbrev pub lastTag : Tables → ℕ
-lastTag t = entriesOf t - 1
-
--- "A: take the last tag and its keys from panel 0's log, then ask each masked station for its key."
-abbrev pub askingByA : ℕ → ℕ → Tables → Asking
-askingByA q mask t =
-    asking
-    (keptAsking q mask (t .log) (lastTag t) (serversOf t)
-    (putClientWord (startedClient askingSetpoints mask (readsOf t) q (t .clients)) q tagField (lastTag t)))
-    (sentGets q mask (t .log) (lastTag t) (serversOf t) (t .links))
-
 -- "B: ask the head"
 abbrev pub askingByB : ℕ → ℕ → Tables → Asking
 askingByB q mask t = asking (startedClient askingKeys mask (readsOf t) q (t .clients)) (sendAsk q coordinator (t .links))
@@ -102,8 +90,9 @@ askingByB q mask t = asking (startedClient askingKeys mask (readsOf t) q (t .cli
 abbrev pub askingByC : ℕ → ℕ → Tables → Asking
 askingByC q mask t = asking (startedClient askingAll mask (readsOf t) q (t .clients)) (sendAsk q coordinator (sentAsks q mask (serversOf t) (t .links)))
 
+-- "nothing new begins" by A
 abbrev pub askingBy : ℕ → ℕ → ℕ → Tables → Asking
-askingBy method q mask t = cond (eqb method 1) (askingByA q mask t) (cond (eqb method 2) (askingByB q mask t) (askingByC q mask t))
+askingBy method q mask t = cond (eqb method 2) (askingByB q mask t) (askingByC q mask t)
 
 abbrev pub begunReadWith : ℕ → ℕ → Asking → Tables → Tables
 begunReadWith q mask a t =
