@@ -1,11 +1,12 @@
--- "the lowest number counts": tables that are not sound give 2, whatever else a step asks.
+-- "the lowest number counts": tables that are not sound give 2, whatever else a step asks; and what a retired method gives.
 use Prim.Native.Nat.{ℕ}
-use mathlib.Core.Path.{_≡_}
-use mathlib.Core.Bool.{false}
+use mathlib.Core.Path.{_≡_, refl}
+use mathlib.Core.Bool.{true, false}
 use mathlib.Core.List.{List}
-use Rattle.tables.specs.Tables.{Tables}
+use lib.Dec.{leb}
+use Rattle.tables.specs.Tables.{Tables, methodOf, clientsOf}
 use Rattle.soundness.specs.Sound.{sound}
-use Rattle.refusals.specs.Refusals.{writeRefusal, readRefusal, deliveryRefusal}
+use Rattle.refusals.specs.Refusals.{isRetired, openRefusal, writeRefusal, readRefusal, deliveryRefusal}
 
 module _ (t : Tables) (unsound : sound t ≡ false) where
   pub write-by-2 : (q mask : ℕ) (setpoints : List ℕ) → writeRefusal q mask setpoints t ≡ 2
@@ -19,3 +20,18 @@ module _ (t : Tables) (unsound : sound t ≡ false) where
   pub delivery-by-2 : (q i : ℕ) → deliveryRefusal q i t ≡ 2
   unfolding deliveryRefusal
   delivery-by-2 q i = rw unsound
+
+-- "An opening with method 1 returns 1", for every k and p
+pub open-by-1 : (k p : ℕ) (setpoints : List ℕ) (t : Tables) → openRefusal 1 k p setpoints t ≡ 1
+unfolding openRefusal
+open-by-1 k p setpoints t = refl
+
+-- "any begin on such tables returns 4": of a client that is there, whatever else it asks
+module _ (t : Tables) (s : sound t ≡ true) (retired : isRetired (methodOf t) ≡ true) (q : ℕ) (there : leb (clientsOf t) q ≡ false) where
+  pub write-by-4 : (mask : ℕ) (setpoints : List ℕ) → writeRefusal q mask setpoints t ≡ 4
+  unfolding writeRefusal
+  write-by-4 mask setpoints = rw (s, there, retired)
+
+  pub read-by-4 : (mask : ℕ) → readRefusal q mask t ≡ 4
+  unfolding readRefusal
+  read-by-4 mask = rw (s, there, retired)
