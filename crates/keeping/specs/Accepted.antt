@@ -110,7 +110,8 @@ unbarred : (m : ℕ) (b : Bool) → isRetired m ≡ false → (isRetired m && b)
 unbarred m b e = rw e
 
 -- a begin that is accepted is not barred
-module _ (t : Tables) (absent barred free fits spent : Bool) (e : cond (not (sound t)) 2 (beginFault absent barred free fits spent) ≡ 0) where
+module _ (t : Tables) (absent barred free fits spent : Bool)
+    (e : cond (not (sound t)) 2 (beginFault absent barred free fits spent) ≡ 0) where
   allowed : barred ≡ false
   allowed = passed absent barred free fits spent (has (sound t) 1 (beginFault absent barred free fits spent) e .1) .allowed
 

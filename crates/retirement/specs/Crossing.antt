@@ -27,8 +27,8 @@ use Rattle.refusals.specs.Refusals.{openRefusal, writeRefusal, readRefusal, del
 use Rattle.refusals.specs.Steps as store
 use Rattle.refusals.specs.Former.{formerlyBegunRead, formerOpenRefusal, formerWriteRefusal, formerReadRefusal, formerOpen}
 use Rattle.refusals.specs.Former.{formerBeginWrite, formerBeginRead}
-use Rattle.serial.specs.Steps.{Step, opening, beginning-write, beginning-read, request, reply, losing, resending, Event, opened, begun-write}
-use Rattle.serial.specs.Steps.{begun-read, requested, replied, lost, resent, play, run, leftBy}
+use Rattle.serial.specs.Steps.{Step, opening, beginning-write, beginning-read, request, reply, losing, resending, Event, opened}
+use Rattle.serial.specs.Steps.{begun-write, begun-read, requested, replied, lost, resent, play, run, leftBy}
 use Rattle.serial.specs.Former.{MixedStep, today, former-write, former-read, mixed, formerly}
 use Rattle.serial.specs.Sample.{zeros, shows}
 
@@ -61,9 +61,12 @@ midway = leftBy (run mixed (map formerly ahead) zeros) zeros
 
 -- Today's steps there: begins of a client that is busy, with a mask of no server, of the client that wrote and of the one that read;
 -- a client that is not there; the former rules refuse a busy client too, and then today's number counts. Then all goes on to its end.
+abbrev begins : List Step
+begins = beginning-write 1 3 12 new ∷ beginning-read 0 0 ∷ beginning-write 0 3 12 new ∷ beginning-read 1 3 ∷ beginning-read 2 3 ∷ []
+
 abbrev pub moved : List MixedStep
 moved =
-    map today (beginning-write 1 3 12 new ∷ beginning-read 0 0 ∷ beginning-write 0 3 12 new ∷ beginning-read 1 3 ∷ beginning-read 2 3 ∷ []) ++
+    map today begins ++
     (former-write 1 3 12 new ∷ former-read 1 3 ∷ []) ++
     map today (losing 0 0 ∷ resending 0 0 ∷ request 0 0 ∷ behind ++ (beginning-read 0 3 ∷ beginning-write 1 3 12 new ∷ []))
 

@@ -14,8 +14,8 @@ use Rattle.tables.specs.Layout.{countAt, methodField, stepField, entriesField, 
 use Rattle.tables.specs.Layout.{putClientWord, countField, stateField, tagField, setpointsField, receivedField, tagsField, badgesField}
 use Rattle.tables.specs.Layout.{askedField, serverPlaces, logPlaces, putEntry}
 use Rattle.tables.specs.Links.{targets}
-use Rattle.tables.specs.Tables.{recordOf}
-use Rattle.tables.specs.Tables.{Tables, withWrites, withReads, methodOf, serversOf, writesOf, readsOf, entriesOf, heldOf, stateOf, countOf, maskOf, tagOf, contentAt}
+use Rattle.tables.specs.Tables.{Tables, withWrites, withReads, methodOf, serversOf, writesOf, readsOf, entriesOf, heldOf, stateOf}
+use Rattle.tables.specs.Tables.{countOf, maskOf, tagOf, recordOf, contentAt}
 use Rattle.tables.specs.declared.links.Contents.{Contents}
 use Rattle.tables.specs.declared.links.Content.{Content}
 use Rattle.tables.specs.declared.links.Content.the-variants.{Nothing, Request, Reply, Lost}
@@ -58,7 +58,8 @@ module _ (t : Tables) (q i : ℕ) where
   Stays x = Unmoved t (x .tables)
 
   -- what was stored before touches neither of the three numbers
-  filled : (content : Content) (t″ : Tables) → ((f : ℕ) → f < heldField → (f ≡ entriesField → ⊥) → countAt (t″ .counts) f ≡ countAt (t .counts) f) →
+  filled : (content : Content) (t″ : Tables) →
+      ((f : ℕ) → f < heldField → (f ≡ entriesField → ⊥) → countAt (t″ .counts) f ≡ countAt (t .counts) f) →
       t″ .clients ≡ t .clients → Stays (answeredBy content q i t″)
   filled content t″ same rows = record {
     method = counted-other (t″ .counts) methodField (λ z. omega arith) ∙ same methodField (omega arith) (λ z. omega arith);
@@ -145,12 +146,14 @@ module _ (t : Tables) (q i : ℕ) where
 abbrev countIn : List ℕ → ℕ → ℕ
 countIn clients p = clientWord clients p countField
 
-put-count : (clients : List ℕ) (q f v p : ℕ) → f < clientWidth → (f ≡ countField → ⊥) → countIn (putClientWord clients q f v) p ≡ countIn clients p
+put-count : (clients : List ℕ) (q f v p : ℕ) → f < clientWidth → (f ≡ countField → ⊥) →
+    countIn (putClientWord clients q f v) p ≡ countIn clients p
 put-count clients q f v p l d = word-other clientWidth clients q f v p countField l (omega arith) (λ y. d (sym (y .1)))
 
 kept-count : (field : ℕ) (wanted : ℕ → Bool) (word : ℕ → ℕ) (q k p : ℕ) (clients : List ℕ) → countField < field → field + k ≤ clientWidth →
     countIn (keptWords field wanted word q k clients) p ≡ countIn clients p
-kept-count field wanted word q k p clients l h = kept-other field wanted word q k h clients p countField (omega arith) (λ y. omega (arith, y .1))
+kept-count field wanted word q k p clients l h =
+    kept-other field wanted word q k h clients p countField (omega arith) (λ y. omega (arith, y .1))
 
 module _ (t : Tables) (few : serversOf t ≤ 16) (q i : ℕ) (target : i < targets) where
   abbrev StaysReply : Arrived → Type 0
@@ -216,7 +219,8 @@ module _ (t : Tables) (few : serversOf t ≤ 16) (q i : ℕ) (target : i < targe
 
     got-count : (p : ℕ) → countIn (gotValue w q i t) p ≡ countOf t p
     got-count p =
-        put-count (putClientWord (t .clients) q (setpointsField + i) (w .number)) q (badgesField + i) (w .badge) p (omega arith) (λ z. omega arith)
+        let row = putClientWord (t .clients) q (setpointsField + i) (w .number) in
+        put-count row q (badgesField + i) (w .badge) p (omega arith) (λ z. omega arith)
         ∙ put-count (t .clients) q (setpointsField + i) (w .number) p (omega arith) (λ z. omega arith)
 
     got-stays : StaysReply (onGot w q i t)
