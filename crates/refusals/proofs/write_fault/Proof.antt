@@ -1,7 +1,7 @@
 -- `refusals::write_fault` meets its contract: each way out is one value of the tests in their order.
 use Prim.Native.Nat.{ℕ}
 use mathlib.Core.Path.{sym, ap, _∙_}
-use mathlib.Core.Bool.{_&&_}
+use mathlib.Core.Bool.{Bool, _&&_}
 use lib.Dec.{eqb}
 use borrow.Author.Tests.{not-true}
 use Rattle.ranges.specs.Tests.{holds, most, above, is, is-not}
@@ -77,7 +77,7 @@ returns-5 c =
     let at-if1 = at-count-at2 .before in
     let at-count-at = at-if1 .before in
     let a = at-count-at .before .before .before .args in
-    let fits = λ (k : ℕ). maskWithin (a .mask) k && eqb (a .given) k in
+    let fits : ℕ → Bool = λ k. maskWithin (a .mask) k && eqb (a .given) k in
     λ links keys values log writes reads.
     refused-7
     (above (at-count-at .count-at .ensures) (at-if1 .if1 .left))
@@ -100,7 +100,7 @@ returns-6 c =
     let at-if1 = at-count-at2 .before in
     let at-count-at = at-if1 .before in
     let a = at-count-at .before .before .before .args in
-    let fits = λ (k : ℕ). maskWithin (a .mask) k && eqb (a .given) k in
+    let fits : ℕ → Bool = λ k. maskWithin (a .mask) k && eqb (a .given) k in
     λ links keys values log writes reads.
     begins
     (above (at-count-at .count-at .ensures) (at-if1 .if1 .left))
