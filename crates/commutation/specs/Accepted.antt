@@ -75,6 +75,7 @@ moved q i t t′ clients servers early d =
 
 -- Two accepted requests at different targets, on sound tables.
 module _ (q i r j : ℕ) (t : Tables) (s : Sound t) (apart : i ≡ j → ⊥) where
+  -- what stands between the two, in the order that was played and in the other
   abbrev u : Tables
   u = requestDelivered q i t .tables
 
@@ -86,42 +87,45 @@ module _ (q i r j : ℕ) (t : Tables) (s : Sound t) (apart : i ≡ j → ⊥) wh
     here : AtTarget q i t
     here = at-target q i t s d
 
-    first-fact : Deliverable r j t
-    first-fact =
+    -- the second may be delivered first: it is of the same press, and the first was early enough
+    sooner-deliverable : Deliverable r j t
+    sooner-deliverable =
         moved r j u t (sym (delivered-count q i t here clientsField (omega arith)))
         (sym (delivered-count q i t here serversField (omega arith))) (d .early) d′
 
     there : AtTarget r j t
-    there = at-target r j t s first-fact
+    there = at-target r j t s sooner-deliverable
 
     -- the answer of the second, if it comes first
     sooner : requestDelivered r j t .answer ≡ Ok
     sooner = sym (answer-behind q i r j t here there apart) ∙ e′
 
     sound-between : Sound u′
-    sound-between = rw (goes-through r j t s first-fact) at (deliverRequest-sound r j t s)
+    sound-between = rw (goes-through r j t s sooner-deliverable) at (deliverRequest-sound r j t s)
 
     same-step : stepOf u′ ≡ stepOf u
     same-step = delivered-step r j t there sooner (s .long .counts) ∙ sym (delivered-step q i t here e (s .long .counts))
 
-    second-fact : Deliverable q i u′
-    second-fact =
+    -- and the first second, with the step number that the second had
+    later-deliverable : Deliverable q i u′
+    later-deliverable =
         moved q i t u′ (delivered-count r j t there clientsField (omega arith)) (delivered-count r j t there serversField (omega arith))
         (rw same-step (d′ .early)) d
 
+    -- so no number stops either
     through : Swapped play t (request q i) (request r j)
     through =
         let equal : deliverRequest q i (deliverRequest r j t .tables) .tables ≡ deliverRequest r j (deliverRequest q i t .tables) .tables =
         rw (
-          goes-through r j t s first-fact,
-          goes-through q i u′ sound-between second-fact,
+          goes-through r j t s sooner-deliverable,
+          goes-through q i u′ sound-between later-deliverable,
           goes-through q i t s d,
           goes-through r j u su d′,
         ) (delivered-swap q i r j t here there apart) in
         record {
-          sooner = rw (goes-through r j t s first-fact, goes-through q i t s d, goes-through r j u su d′)
+          sooner = rw (goes-through r j t s sooner-deliverable, goes-through q i t s d, goes-through r j u su d′)
               (ap (requested r j) (sym (answer-behind q i r j t here there apart)));
-          later = rw (goes-through r j t s first-fact, goes-through q i u′ sound-between second-fact, goes-through q i t s d)
+          later = rw (goes-through r j t s sooner-deliverable, goes-through q i u′ sound-between later-deliverable, goes-through q i t s d)
               (ap (requested q i) (answer-behind r j q i t there here (λ z. apart (sym z))));
           tables = equal;
           behind = λ rest. ap (run play rest) equal;
