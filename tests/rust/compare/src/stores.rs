@@ -72,12 +72,17 @@ pub fn shown(tables: &Tables) -> String {
     )
 }
 
-/// The first word that differs.
+/// The first word that differs from the model's.
 pub fn differing(proved: &Tables, tables: &Tables) -> String {
+    differing_from(proved, tables, "the model's")
+}
+
+/// The first word that differs from that of other tables, which are named so.
+pub fn differing_from(tables: &Tables, other: &Tables, named: &str) -> String {
     const NAMES: [&str; 8] = ["counts", "clients", "links", "keys", "values", "log", "writes", "reads"];
-    for (which, (one, other)) in proved.all().into_iter().zip(tables.all()).enumerate() {
+    for (which, (one, other)) in tables.all().into_iter().zip(other.all()).enumerate() {
         if let Some(place) = (0..one.len()).find(|&place| one[place] != other[place]) {
-            return format!("{}[{place}] is {}, the model's {}", NAMES[which], one[place], other[place]);
+            return format!("{}[{place}] is {}, {named} {}", NAMES[which], one[place], other[place]);
         }
     }
     "none".into()
