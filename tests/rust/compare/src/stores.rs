@@ -6,21 +6,21 @@ use schedules::{Generator, Random};
 use words::layout::{CLIENT_WORDS, LINKS_OF_CLIENT, LINK_WORDS, RECORD_WORDS};
 use words::Tables;
 
+/// Visits tables with a step: what the visitor is.
+type Visit<'a> = dyn FnMut(&mut Tables, &Step) -> Result<(), String> + 'a;
+
 /// Opens a store in tables that hold anything and lets it go on by its own steps. All of these tables, and damaged copies,
 /// are visited, each with a step; the visitor takes the step on them.
-pub fn visit_store(seed: u64, visit: &mut impl FnMut(&mut Tables, &Step) -> Result<(), String>) -> Result<(), String> {
-    let mut generator = Generator::new(seed);
+pub fn visit_store(seed: u64, visit: &mut Visit) -> Result<(), String> {
+    let mut generator = Generator::mixed(seed);
     let mut random = Random::new(!seed);
     let opening = generator.opening();
     let mut tables = fresh_tables(&opening, &mut random);
-    for step in [generator.wrong_step(), opening.clone()] {
-        visit(&mut tables, &step)?;
-    }
-    let _ = generator.player.take(&opening);
+    visit(&mut tables, &generator.wrong_step())?;
+    visit_next(&mut generator, &mut tables, &opening, visit)?;
     for _ in 0..random.within(1, 120) {
         let step = generator.likely_step();
-        let _ = generator.player.take(&step);
-        visit(&mut tables, &step)?;
+        visit_next(&mut generator, &mut tables, &step, visit)?;
         for _ in 0..3 {
             let mut odd = tables.clone();
             damage(&mut odd, &mut random);
@@ -38,6 +38,18 @@ pub fn visit_store(seed: u64, visit: &mut impl FnMut(&mut Tables, &Step) -> Resu
                 visit(&mut odd, &step)?;
             }
         }
+    }
+    Ok(())
+}
+
+/// The next step of the store. The visitor refuses an opening by method 1 and a begin on such tables, and leaves all as it was: then the
+/// store and its tables go on by the former rules.
+fn visit_next(generator: &mut Generator, tables: &mut Tables, step: &Step, visit: &mut Visit) -> Result<(), String> {
+    let only_formerly = generator.player.only_formerly(step);
+    let _ = generator.take(step);
+    visit(tables, step)?;
+    if only_formerly {
+        words::take_mixed(tables, step).map_err(|refusal| format!("the former rules answer {step:?} with {refusal}"))?;
     }
     Ok(())
 }

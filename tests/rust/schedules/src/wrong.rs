@@ -149,7 +149,8 @@ fn bad_opening(random: &mut Random) -> Step {
             0 => method = random.pick(&[0, 4, 257, 258, 259, u32::MAX]),
             1 => asked = random.pick(&[0, 17, 256, 257, u32::MAX]),
             2 => clients = random.pick(&[0, 17, 256, 258, u32::MAX]),
-            3 => (method, clients) = (1, 1),
+            // Refused for every k and p.
+            3 => (method, clients) = (1, random.pick(&[1, 2, 3, 16])),
             _ => given = random.pick(&[servers - 1, servers + 1]),
         }
     }
