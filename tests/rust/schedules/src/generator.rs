@@ -101,7 +101,10 @@ impl Generator {
 
     fn before_opening(&mut self) {
         for _ in 0..self.random.below(8) {
-            let line = self.wrong_line();
+            let line = match self.random.below(16) {
+                0 => line_of(&wrong::opening_by_method_1(&mut self.random)),
+                _ => self.wrong_line(),
+            };
             self.push(&line);
         }
     }
