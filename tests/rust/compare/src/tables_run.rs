@@ -33,9 +33,10 @@ const RETIRED: [&str; 9] = [
 /// What alone makes tables not sound: each is to occur.
 const UNSOUND: [&str; 4] = ["a lost link", "a kind beyond 3", "a kept badge", "a kept key"];
 
-/// What deliveries, losses and what is sent again answer on such tables.
+/// What deliveries, losses and what is sent again answer on such tables, and an opening by another method.
 #[rustfmt::skip]
-const GOING_ON: [&str; 13] = [
+const GOING_ON: [&str; 14] = [
+    "O ok",
     "> ok", "> no 3", "> no 8", "> no 9",
     "< wait", "< next", "< write", "< read", "< no 9",
     "! ok", "! no 14", "+ ok", "+ no 15",
@@ -50,7 +51,7 @@ struct Counts {
     losses: Tally,
     unsound: Tally,
     retired: Tally,
-    /// Steps on sound tables of method 1 that are no begin, by their answers.
+    /// Steps on sound tables of method 1 that are no begin and no opening by method 1, by their answers.
     going_on: Tally,
 }
 
