@@ -4,7 +4,7 @@
 
 use crate::arguments::Arguments;
 use crate::damage::fill_to_limits;
-use crate::stores::{differing, fresh_tables, shown, visit_store};
+use crate::stores::{differing, fresh_tables, shown, visit_saved, visit_store};
 use crate::tally::Tally;
 use crate::Report;
 use ffi::LoadLibrary;
@@ -90,6 +90,8 @@ pub fn compare_by(arguments: &Arguments, library: &dyn Loads) -> Report {
             one_store(library, seed, &mut counts).map_err(|difference| format!("store {seed}: {difference}"))?;
         }
     }
+    let mut random = Random::new(arguments.seed);
+    let saved = visit_saved(&mut |tables, step| short_load(library, tables, step, &mut random, &mut counts))?;
     let Counts { loads, steps, tables, picks, ends } = counts;
     if loads == 0 || steps == 0 || tables == 0 {
         return Err(format!("nothing was compared: {loads} loads, {steps} steps, {tables} tables"));
@@ -98,7 +100,7 @@ pub fn compare_by(arguments: &Arguments, library: &dyn Loads) -> Report {
         picks.require(&DUE_PICKS)?;
         ends.require(&DUE_ENDS)?;
     }
-    Ok(format!("{loads} loads from openings, {steps} steps; {tables} other tables; next steps: {picks}; ends: {ends}"))
+    Ok(format!("{loads} loads from openings, {steps} steps; {tables} other tables, of {saved} saved ones too; next steps: {picks}; ends: {ends}"))
 }
 
 /// A load from an opening: now and then to its end, else in one of three ways for some steps.
@@ -150,16 +152,25 @@ fn deliveries_left(store: &Store) -> u32 {
 /// A short load on each of the tables of a random run, and on damaged copies of them.
 fn one_store(library: &dyn Loads, seed: u64, counts: &mut Counts) -> Result<(), String> {
     let mut random = Random::new(seed.rotate_left(32));
-    visit_store(seed, &mut |tables, step| {
-        let seed = random.word();
-        let mut load = Load { library, random: random.clone(), tables: tables.clone(), seed, counts };
-        load.counts.tables += 1;
-        load.pick()?;
-        load.part()?;
-        random = load.random;
-        let _ = words::take(tables, step);
-        Ok(())
-    })
+    visit_store(seed, &mut |tables, step| short_load(library, tables, step, &mut random, counts))
+}
+
+/// A load on tables, which then go on by the model.
+fn short_load(
+    library: &dyn Loads,
+    tables: &mut Tables,
+    step: &Step,
+    random: &mut Random,
+    counts: &mut Counts,
+) -> Result<(), String> {
+    let seed = random.word();
+    let mut load = Load { library, random: random.clone(), tables: tables.clone(), seed, counts };
+    load.counts.tables += 1;
+    load.pick()?;
+    load.part()?;
+    *random = load.random;
+    let _ = words::take(tables, step);
+    Ok(())
 }
 
 /// A load under way: the tables as the model's load left them, and the seed that is next.

@@ -2,7 +2,7 @@
 
 use crate::arguments::Arguments;
 use crate::losses;
-use crate::stores::{differing, shown, visit_store};
+use crate::stores::{differing, shown, visit_saved, visit_store};
 use crate::tally::Tally;
 use crate::Report;
 use ffi::StoreLibrary;
@@ -93,6 +93,7 @@ pub fn compare_by(arguments: &Arguments, library: &dyn Subject) -> Report {
         visited.map_err(|difference| format!("store {seed}: {difference}"))?;
         stores += 1;
     }
+    let saved = visit_saved(&mut |tables, step| compare_step(library, tables, step, &mut counts))?;
     if arguments.cases >= MANY {
         counts.answers.require(&DUE)?;
         [&losses::DUE[..], &losses::REFUSED, &losses::TWICE].iter().try_for_each(|due| counts.losses.require(due))?;
@@ -103,7 +104,7 @@ pub fn compare_by(arguments: &Arguments, library: &dyn Subject) -> Report {
     let Counts { tables, sound, answers, losses, unsound, retired, going_on } = counts;
     let of_method_1 = format!("of method 1: {retired}, and {going_on}");
     Ok(format!(
-        "{tables} tables, {sound} of them sound, {stores} stores; answers: {answers}; {losses}; not sound: {unsound}; {of_method_1}"
+        "{tables} tables, {sound} of them sound, {stores} stores and {saved} saved; answers: {answers}; {losses}; not sound: {unsound}; {of_method_1}"
     ))
 }
 
