@@ -46,6 +46,7 @@ const TRIED: usize = 2;
 /// What is asked of the subject: in tests also that its own two orders alone show what is wrong.
 #[derive(Clone, Copy, PartialEq)]
 pub enum Asked {
+    #[cfg_attr(not(test), allow(dead_code))]
     EqualOrders,
     EqualOrdersAsTheModel,
 }
