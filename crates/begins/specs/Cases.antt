@@ -9,7 +9,7 @@ use Rattle.keys.specs.Keys.{keyOf}
 use Rattle.tables.specs.Layout.{writesField, readsField}
 use Rattle.tables.specs.Tables.{Tables, tablesOf, methodOf, serversOf, writesOf, countOf}
 use Rattle.rules.specs.Common.{begunCounts, begunRecords}
-use Rattle.rules.specs.Begin.{storedSetpoints, sentSets, startedWriter, begunWrite, Asking, asking, askingByA, askingByB, askingByC}
+use Rattle.rules.specs.Begin.{storedSetpoints, sentSets, startedWriter, begunWrite, Asking, asking, askingByB, askingByC}
 use Rattle.rules.specs.Begin.{askingBy}
 use Rattle.rules.specs.Begin.{begunRead}
 
@@ -20,14 +20,11 @@ startedWrite q mask place count badge setpoints k clients = storedSetpoints q se
 module _ (q mask : ℕ) (t : Tables) where
   -- the methods; m is what was read of the counts, x what was asked
   module _ {m : ℕ} {x : Asking} (d : m ≡ methodOf t) where
-    pub by-a : m ≡ 1 → x ≡ askingByA q mask t → x ≡ askingBy (methodOf t) q mask t
-    by-a e f = rw (← d, eq-eqb m 1 e) f
+    pub by-b : m ≡ 2 → x ≡ askingByB q mask t → x ≡ askingBy (methodOf t) q mask t
+    by-b e f = rw (← d, eq-eqb m 2 e) f
 
-    pub by-b : (m ≡ 1 → ⊥) → m ≡ 2 → x ≡ askingByB q mask t → x ≡ askingBy (methodOf t) q mask t
-    by-b a e f = rw (← d, ne-eqb m 1 a, eq-eqb m 2 e) f
-
-    pub by-c : (m ≡ 1 → ⊥) → (m ≡ 2 → ⊥) → x ≡ askingByC q mask t → x ≡ askingBy (methodOf t) q mask t
-    by-c a b f = rw (← d, ne-eqb m 1 a, ne-eqb m 2 b) f
+    pub by-c : (m ≡ 2 → ⊥) → x ≡ askingByC q mask t → x ≡ askingBy (methodOf t) q mask t
+    by-c e f = rw (← d, ne-eqb m 2 e) f
 
   pub read-begun : {counts clients links reads : List ℕ} → asking clients links ≡ askingBy (methodOf t) q mask t →
       counts ≡ begunCounts readsField (t .counts) → reads ≡ begunRecords readsField (t .counts) q mask 0 (t .reads) →

@@ -14,7 +14,7 @@ ghost use Rattle.coordinator.specs.Log.{HasEntry};
 ghost use Rattle.coordinator.specs.Latest.{latestWord, latestTagAt};
 ghost use Rattle.rules.specs.Words.{keepWord};
 ghost use Rattle.rules.specs.Begin.{sentSets, sentGets, keptAsking, sentAsks, sendGet, begunWrite};
-ghost use Rattle.rules.specs.Begin.{asking, askingByA, askingByB, askingByC, askingBy, begunRead};
+ghost use Rattle.rules.specs.Begin.{asking, askingByB, askingByC, askingBy, begunRead};
 ghost use Rattle.history.specs.Ready.{BeginReady};
 ghost use Rattle.begins.specs.Ready.{AskReady, WriteReady};
 ghost use Rattle.begins.specs.Cases.{startedWrite};
@@ -217,40 +217,6 @@ pub fn begin_write(
     history::begin(counts, writes, counts::WRITES, client as u32, count, badge);
 }
 
-// A: takes the last tag and its keys from the log, and asks each masked server for its key.
-fn ask_by_a(
-    counts: &[u32],
-    clients: &mut [u32],
-    links: &mut [u32],
-    log: &[u32],
-    client: usize,
-    mask: u32,
-)
-    requires { ⌜ AskReady (now counts) (now clients) (now links) (now log) client ⌝ }
-    ensures { λ _. ⌜ ((keys values writes reads : List ℕ) →
-        asking (now (clients .exit)) (now (links .exit)) ≡ askingByA client mask (tablesOf (now (counts .entry)) (now (clients .entry)) (now (links .entry)) keys values (now (log .entry)) writes reads)) ⌝ }
-{
-    let tag = counts::count_at(counts, counts::ENTRIES) - 1;
-    let servers = counts::count_at(counts, counts::SERVERS);
-    start_client(
-        clients,
-        client,
-        states::ASKING_SETPOINTS,
-        mask,
-        counts::count_at(counts, counts::READS),
-    );
-    clients::put_client_word(clients, client, clients::TAG, tag);
-    send_gets(
-        clients,
-        links,
-        log,
-        client,
-        mask,
-        tag as usize,
-        servers as usize,
-    );
-}
-
 // B: asks the coordinator.
 fn ask_by_b(counts: &[u32], clients: &mut [u32], links: &mut [u32], client: usize, mask: u32)
     requires { ⌜ (countWords ≤ length (now counts)) × ((HasRow clientWidth (now clients) client) × (HasLinks (now links) client)) ⌝ }
@@ -287,24 +253,14 @@ fn ask_by_c(counts: &[u32], clients: &mut [u32], links: &mut [u32], client: usiz
 }
 
 // What a READ asks, by the method.
-fn ask(
-    counts: &[u32],
-    clients: &mut [u32],
-    links: &mut [u32],
-    log: &[u32],
-    client: usize,
-    mask: u32,
-)
-    requires { ⌜ AskReady (now counts) (now clients) (now links) (now log) client ⌝ }
-    ensures { λ _. ⌜ ((keys values writes reads : List ℕ) →
+fn ask(counts: &[u32], clients: &mut [u32], links: &mut [u32], client: usize, mask: u32)
+    requires { ⌜ AskReady (now counts) (now clients) (now links) client ⌝ }
+    ensures { λ _. ⌜ ((keys values log writes reads : List ℕ) →
         asking (now (clients .exit)) (now (links .exit))
-        ≡ askingBy (countAt (now (counts .entry)) methodField) client mask (tablesOf (now (counts .entry)) (now (clients .entry)) (now (links .entry)) keys values (now (log .entry)) writes reads)) ⌝ }
+        ≡ askingBy (countAt (now (counts .entry)) methodField) client mask
+        (tablesOf (now (counts .entry)) (now (clients .entry)) (now (links .entry)) keys values log writes reads)) ⌝ }
 {
-    let method = counts::count_at(counts, counts::METHOD);
-    if method == 1 {
-        return ask_by_a(counts, clients, links, log, client, mask);
-    }
-    if method == 2 {
+    if counts::count_at(counts, counts::METHOD) == 2 {
         return ask_by_b(counts, clients, links, client, mask);
     }
     ask_by_c(counts, clients, links, client, mask)
@@ -315,17 +271,17 @@ pub fn begin_read(
     counts: &mut [u32],
     clients: &mut [u32],
     links: &mut [u32],
-    log: &[u32],
     reads: &mut [u32],
     client: usize,
     mask: u32,
 )
-    requires { ⌜ AskReady (now counts) (now clients) (now links) (now log) client ⌝ }
+    requires { ⌜ AskReady (now counts) (now clients) (now links) client ⌝ }
     requires { ⌜ (BeginReady (now counts) (now reads) readsField) × (client < 16) ⌝ }
-    ensures { λ _. ⌜ ((keys values writes : List ℕ) →
-        tablesOf (now (counts .exit)) (now (clients .exit)) (now (links .exit)) keys values (now (log .entry)) writes (now (reads .exit))
-        ≡ begunRead client mask (tablesOf (now (counts .entry)) (now (clients .entry)) (now (links .entry)) keys values (now (log .entry)) writes (now (reads .entry)))) ⌝ }
+    ensures { λ _. ⌜ ((keys values log writes : List ℕ) →
+        tablesOf (now (counts .exit)) (now (clients .exit)) (now (links .exit)) keys values log writes (now (reads .exit))
+        ≡ begunRead client mask
+        (tablesOf (now (counts .entry)) (now (clients .entry)) (now (links .entry)) keys values log writes (now (reads .entry)))) ⌝ }
 {
-    ask(&*counts, clients, links, log, client, mask);
+    ask(&*counts, clients, links, client, mask);
     history::begin(counts, reads, counts::READS, client as u32, mask, 0);
 }

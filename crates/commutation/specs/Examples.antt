@@ -53,7 +53,7 @@ enterAndSet =
 abbrev pub getLogAndSet : List Step
 getLogAndSet = beginning-read 0 3 ∷ request 0 0 ∷ losing 0 0 ∷ beginning-write 1 1 9 (900 ∷ 12 ∷ []) ∷ []
 
--- By A, client 1 writes at both servers: two sets of one client.
+-- By B, client 1 writes at both servers: two sets of one client.
 abbrev pub twoSets : List Step
 twoSets = beginning-write 1 3 9 (900 ∷ 12 ∷ []) ∷ []
 
@@ -96,7 +96,6 @@ abbrev pub endOf : Tables → ℕ
 endOf t = recordWord (t .writes) 0 endOfRecord
 
 pub record Examples : Type 0 where
-  pub by-A : Opened 1
   pub by-B : Opened 2
   pub by-C : Opened 3
   pub set-enter : Alike (behind 2 enterAndSet) 1 1 0 16
@@ -108,7 +107,7 @@ pub record Examples : Type 0 where
   -- the reply tells the log's one entry, and server 0 has a version more
   pub get-log-told : contentAt (left 3 getLogAndSet 0 16 1 0) 0 16 ≡ rules.reply 1
   pub get-log-held : heldOf (left 3 getLogAndSet 0 16 1 0) 0 ≡ 2
-  pub two-sets : Alike (behind 1 twoSets) 1 0 1 1
+  pub two-sets : Alike (behind 2 twoSets) 1 0 1 1
 
 -- What differs: accepted in both orders, two enters give tag 1 to the client that comes first, so that its key stands there; a WRITE that
 -- ends keeps the number of the step; and an enter that is not sent yet is refused.
@@ -132,7 +131,6 @@ unfolding zeros store.open′ store.beginWrite store.beginRead store.deliverRequ
     onNewEnter onWhichKeys onGet onGetAll onRequestIn requestDelivered onSetDone onEntered onKeys onGot onAll onReplyIn replyDelivered
     linkLost sentIn linkResent
 examples = record {
-  by-A = refl;
   by-B = refl;
   by-C = refl;
   set-enter = record { accepted = record { one = refl; other = refl; sooner = refl; later = refl }; same = refl };

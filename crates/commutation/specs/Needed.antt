@@ -17,7 +17,7 @@ use Rattle.commutation.specs.Equal.{differ}
 use Rattle.commutation.specs.Examples.{opens, Opened, behind, BothAccepted, enterAndSet, getLogAndSet, twoSets}
 use Rattle.commutation.specs.Examples.{twoEnters, setAndReply, replyAndEnter, endOf, examples, differing}
 
--- Of each example it says that the orders are alike: of two clients and of one, at the coordinator, by all methods, behind losses.
+-- Of each example it says that the orders are alike: of two clients and of one, at the coordinator, by both methods, behind losses.
 module _ (claim : Swaps play) where
   told : (method : ℕ) → Opened method → (steps : List Step) (q i r j : ℕ) → BothAccepted (behind method steps) q i r j → (i ≡ j → ⊥) →
       Swapped play (behind method steps) (request q i) (request r j)
@@ -38,8 +38,8 @@ module _ (claim : Swaps play) where
   pub told-get-log-set : Swapped play (behind 3 getLogAndSet) (request 0 16) (request 1 0)
   told-get-log-set = told 3 (examples .by-C) getLogAndSet 0 16 1 0 (examples .get-log-set .accepted) (λ e. omega arith)
 
-  pub told-two-sets : Swapped play (behind 1 twoSets) (request 1 0) (request 1 1)
-  told-two-sets = told 1 (examples .by-A) twoSets 1 0 1 1 (examples .two-sets .accepted) (λ e. omega arith)
+  pub told-two-sets : Swapped play (behind 2 twoSets) (request 1 0) (request 1 1)
+  told-two-sets = told 2 (examples .by-B) twoSets 1 0 1 1 (examples .two-sets .accepted) (λ e. omega arith)
 
 -- two accepted requests of different clients, at any targets
 pub record OfDifferentClients (x y : Event) : Type 0 where

@@ -1,4 +1,5 @@
--- An accepted begin of a READ keeps sound tables sound, by each method: the client sends a round, and its record stands in the next place.
+-- An accepted begin of a READ keeps sound tables sound, by each method, A's too, which the former rules accept: the client sends a round,
+-- and its record stands in the next place.
 use Prim.Native.Nat.{ℕ, _+_, _≤_, _<_}
 use mathlib.Core.Path.{_≡_, refl, sym, _∙_}
 use mathlib.Core.Bool.{true, false, not, _&&_, _||_, or-true, or-false}
@@ -21,7 +22,8 @@ use Rattle.tables.specs.Tables.{Tables, methodOf, serversOf, clientsOf, stepOf,
 use Rattle.tables.specs.Tables.{recordOf, receivedOf}
 use Rattle.tables.specs.declared.links.Content.{Content}
 use Rattle.rules.specs.Common.{writing, askingKeys, askingSetpoints, askingAll, coordinator, request}
-use Rattle.rules.specs.Begin.{lastTag, sentGets, keptAsking, sendAsk, sentAsks, asking, begunReadWith, begunRead}
+use Rattle.rules.specs.Begin.{sentGets, keptAsking, sendAsk, sentAsks, asking, begunReadWith}
+use Rattle.refusals.specs.Former.{lastTag, formerlyBegunRead}
 use Rattle.soundness.specs.Sound.{isWriting, isReading, uses}
 use Rattle.soundness.specs.Facts.{KeptFacts, ClientFacts, ReadFacts, RecordsFacts, Sound}
 use Rattle.soundness.specs.Room.{few-servers, client-links, link-row, next-read}
@@ -320,8 +322,8 @@ module _ (q mask : ℕ) (t : Tables) (s : Sound t) (b : Beginnable q mask t) (fe
     keptC =
         begun-kept q mask putsC rowC linksC t s b few row-askedC movesC (rw (wordC stateField (omega arith))) (rw (wordC stateField (omega arith))) (wordC countField (omega arith)) (wordC recordField (omega arith)) (sent-client afterC q sentC)
 
-  begun-read : (eqb (methodOf t) 1 && not (eqb q 0)) ≡ false → Kept q t (begunRead q mask t)
-  unfolding begunRead
+  begun-read : (eqb (methodOf t) 1 && not (eqb q 0)) ≡ false → Kept q t (formerlyBegunRead q mask t)
+  unfolding formerlyBegunRead
   begun-read reader =
       by-equal (methodOf t) 1
       (λ e. rw (eq-eqb (methodOf t) 1 e) (keptA e reader))
@@ -330,5 +332,5 @@ module _ (q mask : ℕ) (t : Tables) (s : Sound t) (b : Beginnable q mask t) (fe
       (λ f. rw (ne-eqb (methodOf t) 1 d, ne-eqb (methodOf t) 2 f) (keptC d f)))
 
 module _ (q mask : ℕ) (t : Tables) (s : Sound t) (a : Readable q mask t) where
-  pub begunRead-kept : Kept q t (begunRead q mask t)
+  pub begunRead-kept : Kept q t (formerlyBegunRead q mask t)
   begunRead-kept = begun-read q mask t s (a .begin) (a .few) (a .part)

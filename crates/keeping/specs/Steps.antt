@@ -20,7 +20,7 @@ use Rattle.soundness.specs.Facts.{Sound}
 use Rattle.refusals.specs.Refusals.{atLastStep, openRefusal, writeRefusal, readRefusal, deliveryRefusal}
 use Rattle.refusals.specs.Steps.{badgeOf, open′, beginWrite, beginRead, deliverRequest, deliverReply, lose, resend}
 use Rattle.refusals.specs.Either.{by-refusal, by-refusal-arrived, unstopped}
-use Rattle.keeping.specs.Accepted.{openable, writable, readable, deliverable}
+use Rattle.keeping.specs.Accepted.{openable, writable, readable, as-formerly, deliverable}
 use Rattle.keeping.specs.Frame.{Kept, kept-same}
 use Rattle.keeping.specs.Opening.{opened-sound}
 use Rattle.keeping.specs.BeginWrite.{begunWrite-kept}
@@ -69,7 +69,7 @@ module _ (q mask : ℕ) (t : Tables) (s : Sound t) where
   beginRead-kept =
       by-refusal (λ x. Kept q t (x .tables)) (readRefusal q mask t) (left Ok (begunRead q mask t)) t
       (λ n e. kept-same q t s)
-      (λ e. begunRead-kept q mask t s (readable q mask t e))
+      (λ e. rw (← as-formerly q mask t e) (begunRead-kept q mask t s (readable q mask t e)))
 
   pub beginRead-sound : Sound (beginRead q mask t .tables)
   beginRead-sound = beginRead-kept .sound

@@ -1,14 +1,14 @@
 -- Laws of the opening of a load: what one that is accepted knows, and that with more than 16 servers it is refused whatever its setpoints.
 use Prim.Native.Nat.{ℕ, _+_, _-_, _≤_, _<_}
 use mathlib.Core.Path.{_≡_, sym, ap, subst, _∙_}
-use mathlib.Core.Bool.{Bool, true, false, cond, _&&_}
+use mathlib.Core.Bool.{Bool, true, false, cond, not, _&&_}
 use mathlib.Core.List.{List, [], _∷_, _++_}
 use native.Mathlib.Omega.{arith}
 use lib.ListN.{length, take, replicate, length-replicate, replicate-append-replicate}
 use lib.Seq.{take-at}
 use lib.Dec.{leb}
 use borrow.Author.Tests.{leb-true, leb-false}
-use Rattle.ranges.specs.Tests.{by-test}
+use Rattle.ranges.specs.Tests.{by-test, both-right}
 use Rattle.tables.specs.Tables.{Tables}
 use Rattle.rules.specs.declared.Answer.{Answer}
 use Rattle.rules.specs.declared.Answer.the-variants.{Ok, Refused}
@@ -16,7 +16,7 @@ use Rattle.rules.specs.Answers.{Left, left}
 use Rattle.rules.specs.Open.{opened}
 use Rattle.soundness.specs.Sound.{pressFits}
 use Rattle.soundness.specs.Facts.{Press, press-facts}
-use Rattle.refusals.specs.Refusals.{openRefusal}
+use Rattle.refusals.specs.Refusals.{isRetired, pressOpens, openRefusal}
 use Rattle.refusals.specs.Steps.{open′}
 use Rattle.refusals.specs.Either.{unstopped}
 use Rattle.keeping.specs.Accepted.{openable}
@@ -42,8 +42,10 @@ module _ (m k p : ℕ) (t : Tables) where
   too-many : 16 < k → (setpoints : List ℕ) → open′ m k p setpoints t ≡ left (Refused 1) t
   unfolding open′ openRefusal
   too-many h setpoints =
-      let unfit : pressFits m k p ≡ false = by-test (pressFits m k p)
-      (λ e. let z : ⊥ = omega (arith, press-facts m k p e .servers .most, h) in absurd z)
+      let unfit : pressOpens m k p ≡ false = by-test (pressOpens m k p)
+      (λ e.
+      let fits = press-facts m k p (both-right (not (isRetired m)) (pressFits m k p) e) in
+      let z : ⊥ = omega (arith, fits .servers .most, h) in absurd z)
       (λ e. e) in
       rw unfit
 

@@ -24,7 +24,8 @@ use Rattle.tables.specs.declared.links.Content.the-variants.{Nothing, Request, 
 use Rattle.rules.specs.Answers.{Left, Arrived}
 use Rattle.rules.specs.Common.{idle, writing, entering, askingKeys, askingSetpoints, askingAll, reply, nextStep, pending, endedRecord}
 use Rattle.rules.specs.Common.{taggedRecord}
-use Rattle.rules.specs.Begin.{nextCount, begunWrite, begunRead}
+use Rattle.rules.specs.Begin.{nextCount, begunWrite}
+use Rattle.refusals.specs.Former.{formerlyBegunRead}
 use Rattle.rules.specs.Request.{answeredBy, gotFrom, holding, storedBy, enteredBy, onNewSet, onSet, onNewEnter, onEnter, onWhichKeys, onGet}
 use Rattle.rules.specs.Request.{onGetAll}
 use Rattle.rules.specs.Request.{onRequestIn, onRequest, requestDelivered}
@@ -59,12 +60,12 @@ module _ (t : Tables) (s : Sound t) (q mask : ℕ) where
             (λ z. omega arith) (λ z. omega arith)) refl;
       }
 
-  pub read-moves : Readable q mask t → Moved t (begunRead q mask t)
-  unfolding begunRead
+  pub read-moves : Readable q mask t → Moved t (formerlyBegunRead q mask t)
+  unfolding formerlyBegunRead
   read-moves r =
       let long = s .long .counts in
       let step = begun-step readsField (t .counts) long (omega arith) (λ z. omega arith) in
-      let t′ = begunRead q mask t in
+      let t′ = formerlyBegunRead q mask t in
       record {
         step = step;
         writes = grew-same writes t t′ (begun-other readsField (t .counts) long (omega arith) (λ z. omega arith) writesField

@@ -16,14 +16,16 @@ use Rattle.refusals.specs.Refusals.{openRefusal, writeRefusal, readRefusal, del
 use Rattle.refusals.specs.Steps.{badgeOf, open′, beginWrite, beginRead, deliverRequest, deliverReply, lose, resend}
 use Rattle.refusals.specs.Either.{by-refusal, by-refusal-arrived}
 use Rattle.soundness.specs.Facts.{Sound}
-use Rattle.keeping.specs.Accepted.{Openable, writable, readable, deliverable, target-below}
+use Rattle.keeping.specs.Accepted.{Openable, writable, readable, as-formerly, deliverable, target-below}
 use Rattle.keeping.specs.Opening.{opened-words, opened-sound}
 use Rattle.serial.specs.Steps.{Step, opening, beginning-write, beginning-read, request, reply, losing, resending, Event, play}
 use Rattle.serial.specs.Steps.{begun-write, begun-read, requested, replied, lost, resent}
 use Rattle.serial.specs.Steps as event
 use Rattle.serial.specs.History.{openedWith}
-use Rattle.serial.proofs.Openings.{play-starts}
-use Rattle.serial.proofs.Theorem.{play-fair}
+use Rattle.serial.specs.Former.{mixed}
+use Rattle.serial.proofs.Openings.{play-starts, mixed-starts}
+use Rattle.serial.proofs.Mixed.{by-rules}
+use Rattle.serial.proofs.Theorem.{play-fair, mixed-fair}
 use Rattle.moments.specs.Claim.{ByMoments}
 use Rattle.moments.specs.Growth.{stays, moves}
 use Rattle.moments.specs.StepLaws.{write-moves, read-moves, requested-steps, replied-steps, lost-steps, resent-steps}
@@ -54,7 +56,7 @@ module _ (t : Tables) (s : Sound t) where
   step-goes (beginning-read q mask) =
       by-refusal (Leaving (begun-read q mask)) (readRefusal q mask t) (left Ok (begunRead q mask t)) t
       (λ m e. stays refl)
-      (λ e. moves (read-moves t s q mask (readable q mask t e)))
+      (λ e. rw (← as-formerly q mask t e) (moves (read-moves t s q mask (readable q mask t e))))
   step-goes (request q i) =
       by-refusal (Leaving (requested q i)) (deliveryRefusal q i t) (requestDelivered q i t) t (λ m e. stays refl)
       (λ e. requested-steps t s q i)
@@ -73,3 +75,22 @@ play-records = record { starts = play-starts Started opened-starts; sound = play
 -- The overlap is by moments.
 pub theorem : ByMoments play
 theorem = overlap-by-moments play play-records
+
+-- and so it is where openings and begins go by the former rules
+pub mixed-records : Recording mixed
+mixed-records = record {
+  starts = mixed-starts Started opened-starts;
+  sound = mixed-fair .sound;
+  goes = λ step t s.
+      by-rules (λ x. Goes (x .event) t (x .tables)) t
+      (record {
+        now = step-goes t s;
+        opens = λ method k p setpoints o. tt;
+        writes = λ q mask badge setpoints w. moves (write-moves t s q mask (badgeOf badge) setpoints w);
+        reads = λ q mask r. moves (read-moves t s q mask r);
+      })
+      step;
+}
+
+pub former : ByMoments mixed
+former = overlap-by-moments mixed mixed-records

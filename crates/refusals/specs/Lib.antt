@@ -2,6 +2,7 @@
 pub mod Refusals
 pub mod Order
 pub mod Steps
+pub mod Former
 pub mod Either
 pub mod Cases
 pub mod Examples

@@ -1,14 +1,14 @@
 // In which order a step is refused, on tables known to be sound. 0 refuses nothing.
 ghost use mathlib.Core.Path.{_≡_};
 ghost use mathlib.Core.List.{List};
-ghost use mathlib.Core.Bool.{not, _&&_};
+ghost use mathlib.Core.Bool.{_&&_};
 ghost use Prim.Native.Nat.{ℕ, _≤_, _<_};
 ghost use lib.ListN.{length};
 ghost use lib.Dec.{eqb};
 ghost use Rattle.keys.specs.Masks.{maskWithin};
 ghost use Rattle.tables.specs.Layout.{countWords};
 ghost use Rattle.tables.specs.Tables.{tablesOf};
-ghost use Rattle.refusals.specs.Refusals.{isTargetOf, writeFault, readFault, deliveryFault};
+ghost use Rattle.refusals.specs.Refusals.{isRetired, isTargetOf, writeFault, readFault, deliveryFault};
 ghost use Rattle.refusals.specs.Cases.{Judged, isSpent};
 use rules::states;
 use tables::clients;
@@ -43,23 +43,11 @@ pub fn delivery_fault(counts: &[u32], client: u32, target: u32) -> u8
     0
 }
 
-// Under method 1 client 0 does not write, and no other reads.
-fn may_not_write(method: u32, client: u32) -> bool
-    ensures { λ r. ⌜ r ≡ (eqb method 1 && eqb client 0) ⌝ }
+// Method 1 is retired: nothing new begins on its tables.
+pub fn is_retired(method: u32) -> bool
+    ensures { λ r. ⌜ r ≡ isRetired method ⌝ }
 {
-    if method == 1 {
-        return client == 0;
-    }
-    false
-}
-
-fn may_not_read(method: u32, client: u32) -> bool
-    ensures { λ r. ⌜ r ≡ (eqb method 1 && not (eqb client 0)) ⌝ }
-{
-    if method == 1 {
-        return client != 0;
-    }
-    false
+    method == 1
 }
 
 // What both kinds of begin ask last: a record's place, and a step number that can grow.
@@ -92,7 +80,7 @@ pub fn write_fault(counts: &[u32], clients: &[u32], client: u32, mask: u32, give
     if counts::count_at(counts, counts::CLIENTS) <= client {
         return 3;
     }
-    if may_not_write(counts::count_at(counts, counts::METHOD), client) {
+    if is_retired(counts::count_at(counts, counts::METHOD)) {
         return 4;
     }
     if clients::client_word(clients, client as usize, clients::STATE) != states::IDLE {
@@ -115,7 +103,7 @@ pub fn read_fault(counts: &[u32], clients: &[u32], client: u32, mask: u32) -> u8
     if counts::count_at(counts, counts::CLIENTS) <= client {
         return 3;
     }
-    if may_not_read(counts::count_at(counts, counts::METHOD), client) {
+    if is_retired(counts::count_at(counts, counts::METHOD)) {
         return 4;
     }
     if clients::client_word(clients, client as usize, clients::STATE) != states::IDLE {

@@ -18,7 +18,8 @@ use Rattle.rules.specs.Words.{every}
 use Rattle.rules.specs.WordsLaws.{kept-other}
 use Rattle.rules.specs.Common.{askingKeys, askingSetpoints, askingAll}
 use Rattle.rules.specs.Common as rules
-use Rattle.rules.specs.Begin.{nextCount, begunWrite, keptTags, keptAsking, Asking, askingByA, askingBy, lastTag, begunRead}
+use Rattle.rules.specs.Begin.{nextCount, begunWrite, keptTags, keptAsking, Asking}
+use Rattle.refusals.specs.Former.{lastTag, askingByA, formerlyAsking, formerlyBegunRead}
 use Rattle.soundness.specs.Sound.{isReading}
 use Rattle.soundness.specs.Room.{few-servers, client-row}
 use Rattle.rules.specs.declared.Answer.the-variants.{Ok}
@@ -129,7 +130,7 @@ module _ (t : Tables) (h : History) (numbers : List ℕ) (a : Agrees t h numbers
     abbrev Asks : Asking → Type 0
     Asks x = (isReading (clientWord (x .clients) q stateField) ≡ true) × (clientWord (x .clients) q recordField ≡ readsOf t)
 
-    asks : Asks (askingBy (methodOf t) q mask t)
+    asks : Asks (formerlyAsking (methodOf t) q mask t)
     asks =
         either Asks (eqb (methodOf t) 1)
         (rw (askedA stateField (omega arith)) refl, askedA recordField (omega arith))
@@ -137,8 +138,8 @@ module _ (t : Tables) (h : History) (numbers : List ℕ) (a : Agrees t h numbers
         (rw (asked (readPuts askingKeys) refl stateField (omega arith)) refl, asked (readPuts askingKeys) refl recordField (omega arith))
         (rw (asked (readPuts askingAll) refl stateField (omega arith)) refl, asked (readPuts askingAll) refl recordField (omega arith)))
 
-    read-counts : Counts t (begunRead q mask t) (entriesOf t) (writesOf t) (readsOf t + 1)
-    unfolding begunRead
+    read-counts : Counts t (formerlyBegunRead q mask t) (entriesOf t) (writesOf t) (readsOf t + 1)
+    unfolding formerlyBegunRead
     read-counts =
         let long = a .sound .long .counts in
         record {
@@ -148,18 +149,19 @@ module _ (t : Tables) (h : History) (numbers : List ℕ) (a : Agrees t h numbers
           step = begun-step readsField (t .counts) long (omega arith) (λ z. omega arith);
         }
 
-    read-agrees : Agrees (begunRead q mask t) (begun (h .doing q) q (reading mask (h .clock) 0 0) h) (more numbers (stepOf t + 1))
-    unfolding begunRead
+    read-agrees : Agrees (formerlyBegunRead q mask t) (begun (h .doing q) q (reading mask (h .clock) 0 0) h)
+        (more numbers (stepOf t + 1))
+    unfolding formerlyBegunRead
     read-agrees =
         rw (at-rest t numbers q (h .doing q) (a .clients q reader) (b .begin .free))
-        (read-begins t (begunRead q mask t) h numbers a q reader (begunRead-kept q mask t (a .sound) b)
+        (read-begins t (formerlyBegunRead q mask t) h numbers a q reader (begunRead-kept q mask t (a .sound) b)
         mask refl refl read-counts (b .few) (asks .0) (asks .1))
 
-    read-step : stepOf (begunRead q mask t) ≡ suc (stepOf t)
+    read-step : stepOf (formerlyBegunRead q mask t) ≡ suc (stepOf t)
     read-step = read-counts .step ∙ add-one (stepOf t)
 
-    pub read-follows : Follows t h numbers (record { event = begun-read q mask Ok; tables = begunRead q mask t })
+    pub read-follows : Follows t h numbers (record { event = begun-read q mask Ok; tables = formerlyBegunRead q mask t })
     read-follows = record {
-      agrees = as-next t h numbers a (begunRead q mask t) (after (begun-read q mask Ok) h) read-agrees;
+      agrees = as-next t h numbers a (formerlyBegunRead q mask t) (after (begun-read q mask Ok) h) read-agrees;
       step = read-step;
     }

@@ -16,7 +16,7 @@ use Rattle.rules.specs.declared.Answer.the-variants.{Ok}
 use Rattle.refusals.specs.Refusals.{openRefusal, writeRefusal, readRefusal, deliveryRefusal}
 use Rattle.refusals.specs.Steps.{badgeOf, open′, beginWrite, beginRead, deliverRequest, deliverReply, lose, resend}
 use Rattle.refusals.specs.Either.{by-refusal, by-refusal-arrived}
-use Rattle.keeping.specs.Accepted.{Openable, openable, writable, readable, deliverable}
+use Rattle.keeping.specs.Accepted.{Openable, openable, writable, readable, as-formerly, deliverable}
 use Rattle.keeping.specs.Opening.{Opened, opened-words, opened-sound}
 use Rattle.listing.specs.Register.{isFinished, register}
 use Rattle.listing.specs.Places.{places-none}
@@ -24,9 +24,11 @@ use Rattle.serial.specs.Steps.{Step, opening, beginning-write, beginning-read, 
 use Rattle.serial.specs.Steps.{begun-read, play}
 use Rattle.serial.specs.Steps as event
 use Rattle.serial.specs.History.{History, openedWith}
-use Rattle.serial.proofs.Openings.{play-starts}
+use Rattle.serial.specs.Former.{mixed}
+use Rattle.serial.proofs.Openings.{play-starts, mixed-starts}
+use Rattle.serial.proofs.Mixed.{by-rules}
 use Rattle.serial.proofs.Fair.{Standing}
-use Rattle.serial.proofs.Theorem.{play-fair}
+use Rattle.serial.proofs.Theorem.{play-fair, mixed-fair}
 use Rattle.register_order.specs.Order.{SameOrder}
 use Rattle.register_order.specs.Agreement.{Agrees}
 use Rattle.register_order.specs.Laws.{passed-agrees}
@@ -67,13 +69,17 @@ module _ (floor : ℕ → ℕ) (t : Tables) (h : History) (numbers : List ℕ) (
   abbrev Leaving : (Answer → Event) → Left → Type 0
   Leaving event x = Follows t h numbers (record { event = event (x .answer); tables = x .tables })
 
+  opened-follows : (method k p : ℕ) (setpoints : List ℕ) → Openable method k p setpoints t →
+      Leaving (event.opened method k p setpoints) (left Ok (opened method k p setpoints t))
+  opened-follows method k p setpoints o =
+      let start = opened-starts method k p setpoints t o in record { agrees = start .agrees; step = start .step }
+
   step-follows : (step : Step) → Follows t h numbers (play step t)
   unfolding open′ beginWrite beginRead deliverRequest deliverReply lose resend
   step-follows (opening method k p setpoints) =
       by-refusal (Leaving (event.opened method k p setpoints)) (openRefusal method k p setpoints t) (left Ok (opened method k p setpoints t)) t
       (λ m e. record { agrees = passed-agrees t h numbers a; step = refl })
-      (λ e. let o = opened-starts method k p setpoints t (openable method k p setpoints t e) in
-      record { agrees = o .agrees; step = o .step })
+      (λ e. opened-follows method k p setpoints (openable method k p setpoints t e))
   step-follows (beginning-write q mask badge setpoints) =
       by-refusal (Leaving (begun-write q mask badge setpoints)) (writeRefusal q mask setpoints t)
       (left Ok (begunWrite q mask (badgeOf badge) setpoints t)) t
@@ -82,7 +88,7 @@ module _ (floor : ℕ → ℕ) (t : Tables) (h : History) (numbers : List ℕ) (
   step-follows (beginning-read q mask) =
       by-refusal (Leaving (begun-read q mask)) (readRefusal q mask t) (left Ok (begunRead q mask t)) t
       (λ m e. record { agrees = passed-agrees t h numbers a; step = refl })
-      (λ e. read-follows t h numbers a q mask (readable q mask t e))
+      (λ e. rw (← as-formerly q mask t e) (read-follows t h numbers a q mask (readable q mask t e)))
   step-follows (request q i) =
       by-refusal (AnswersRequest floor t h numbers s a q i) (deliveryRefusal q i t) (requestDelivered q i t) t
       (λ m e. request-refused floor t h numbers s a q i m)
@@ -110,3 +116,22 @@ play-follows = record {
 -- The register's order is the row's order.
 pub theorem : SameOrder register play
 theorem = in-order play play-follows
+
+-- and so it is where openings and begins go by the former rules
+pub mixed-follows : Following mixed
+mixed-follows = record {
+  fair = mixed-fair;
+  starts = mixed-starts Started opened-starts;
+  follows = λ step floor t h numbers s a.
+      by-rules (Follows t h numbers) t
+      (record {
+        now = step-follows floor t h numbers s a;
+        opens = opened-follows floor t h numbers s a;
+        writes = λ q mask badge setpoints w. write-follows t h numbers a q mask badge setpoints w;
+        reads = λ q mask r. read-follows t h numbers a q mask r;
+      })
+      step;
+}
+
+pub former : SameOrder register mixed
+former = in-order mixed mixed-follows

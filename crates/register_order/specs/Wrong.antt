@@ -28,7 +28,7 @@ use Rattle.serial.specs.History.{changed}
 use Rattle.serial.specs.Row as row
 use Rattle.serial.specs.Sample.{zeros, laterFirst}
 use Rattle.serial.specs.WrongStores.{first, enteringTwice}
-use Rattle.serial.specs.Wrong.{thenReadByA, thenReadByB, thenReadByC, twoReads, replyLess, requestOnly, overtaken, lossyByB}
+use Rattle.serial.specs.Wrong.{thenReadByB, thenReadByC, twoReads, replyLess, requestOnly, overtaken, lossyByB}
 use Rattle.serial.specs.Wrong.{enteredAgain, enteredBetween}
 use Rattle.register_order.specs.Parts as part
 use Rattle.register_order.specs.Parts.{lines, rowed, Differs, Computed, differs}
@@ -46,7 +46,6 @@ exchanged = part.client ∷ part.mask ∷ part.begin ∷ part.end ∷ []
 -- ---- what the tests of every part say of each, computed
 
 record Tested : Type 0 where
-  byA : open′ 1 2 2 first zeros .answer ≡ Ok
   byB : open′ 2 2 2 first zeros .answer ≡ Ok
   byC : open′ 3 2 2 first zeros .answer ≡ Ok
   not-finished-only : Computed finishedOnly play 3 twoReads (part.count ∷ particulars)
@@ -59,14 +58,14 @@ record Tested : Type 0 where
   not-kinds-exchanged : Computed kindsExchanged play 2 thenReadByB (part.kind ∷ exchanged)
   not-tag-of-read : Computed writesByBegin (misread tagOfRecord 0) 2 thenReadByB (part.tag ∷ [])
   not-tag-of-write : Computed writesByBegin (miswritten tagOfRecord 2) 3 thenReadByC (part.tag ∷ [])
-  not-client-of-read : Computed register (misread clientOfRecord 1) 1 thenReadByA (part.client ∷ [])
+  not-client-of-read : Computed register (misread clientOfRecord 0) 2 thenReadByB (part.client ∷ [])
   not-client-of-write : Computed register (miswritten clientOfRecord 1) 2 thenReadByB (part.client ∷ [])
   not-mask-of-read : Computed register (misread numberOfRecord 1) 2 thenReadByB (part.mask ∷ [])
-  not-begin-of-read : Computed register (misread beginOfRecord 1) 1 thenReadByA (part.begin ∷ [])
+  not-begin-of-read : Computed register (misread beginOfRecord 1) 2 thenReadByB (part.begin ∷ [])
   not-begin-of-write : Computed register (miswritten beginOfRecord 1) 3 thenReadByC (part.begin ∷ [])
   not-end-of-read : Computed register (misread endOfRecord 99) 3 thenReadByC (part.end ∷ [])
   not-end-of-write : Computed register (miswritten endOfRecord 0) 2 thenReadByB (part.end ∷ [])
-  not-entered-twice : Computed register enteringTwice 3 enteredAgain (part.tag ∷ [])
+  not-entered-twice : Computed register (enteringTwice play) 3 enteredAgain (part.tag ∷ [])
   right-lossy : Computed register play 2 lossyByB []
   right-between : Computed register play 3 enteredBetween []
 
@@ -78,7 +77,6 @@ unfolding zeros laterFirst lines rowed changed row.readsOf row.rowTo open′ beg
     begunRead onSet onNewSet onEnter onNewEnter onWhichKeys onGet onGetAll onRequestIn requestDelivered onSetDone onEntered onKeys onGot
     onAll onReplyIn replyDelivered linkLost sentIn linkResent lose resend placesBelow passing inserted insertedAll listedTo
 tested = record {
-  byA = refl;
   byB = refl;
   byC = refl;
   not-finished-only = refl;
@@ -104,9 +102,6 @@ tested = record {
 }
 
 -- each opens as the store does
-opensA : opened 1 2 2 first (open′ 1 2 2 first zeros .answer) ≡ opened 1 2 2 first Ok
-opensA = ap (opened 1 2 2 first) (tested .byA)
-
 opensB : opened 2 2 2 first (open′ 2 2 2 first zeros .answer) ≡ opened 2 2 2 first Ok
 opensB = ap (opened 2 2 2 first) (tested .byB)
 
@@ -161,8 +156,8 @@ pub not-tag-of-write : Differs writesByBegin (miswritten tagOfRecord 2) 3 thenRe
 not-tag-of-write = differs writesByBegin (miswritten tagOfRecord 2) 3 thenReadByC part.tag [] opensC (tested .not-tag-of-write)
 
 -- the panel
-pub not-client-of-read : Differs register (misread clientOfRecord 1) 1 thenReadByA (part.client ∷ [])
-not-client-of-read = differs register (misread clientOfRecord 1) 1 thenReadByA part.client [] opensA (tested .not-client-of-read)
+pub not-client-of-read : Differs register (misread clientOfRecord 0) 2 thenReadByB (part.client ∷ [])
+not-client-of-read = differs register (misread clientOfRecord 0) 2 thenReadByB part.client [] opensB (tested .not-client-of-read)
 
 pub not-client-of-write : Differs register (miswritten clientOfRecord 1) 2 thenReadByB (part.client ∷ [])
 not-client-of-write = differs register (miswritten clientOfRecord 1) 2 thenReadByB part.client [] opensB (tested .not-client-of-write)
@@ -172,8 +167,8 @@ pub not-mask-of-read : Differs register (misread numberOfRecord 1) 2 thenReadByB
 not-mask-of-read = differs register (misread numberOfRecord 1) 2 thenReadByB part.mask [] opensB (tested .not-mask-of-read)
 
 -- the begin
-pub not-begin-of-read : Differs register (misread beginOfRecord 1) 1 thenReadByA (part.begin ∷ [])
-not-begin-of-read = differs register (misread beginOfRecord 1) 1 thenReadByA part.begin [] opensA (tested .not-begin-of-read)
+pub not-begin-of-read : Differs register (misread beginOfRecord 1) 2 thenReadByB (part.begin ∷ [])
+not-begin-of-read = differs register (misread beginOfRecord 1) 2 thenReadByB part.begin [] opensB (tested .not-begin-of-read)
 
 pub not-begin-of-write : Differs register (miswritten beginOfRecord 1) 3 thenReadByC (part.begin ∷ [])
 not-begin-of-write = differs register (miswritten beginOfRecord 1) 3 thenReadByC part.begin [] opensC (tested .not-begin-of-write)
@@ -186,5 +181,5 @@ pub not-end-of-write : Differs register (miswritten endOfRecord 0) 2 thenReadByB
 not-end-of-write = differs register (miswritten endOfRecord 0) 2 thenReadByB part.end [] opensB (tested .not-end-of-write)
 
 -- an enter request that is sent again gives its WRITE a second tag
-pub not-entered-twice : Differs register enteringTwice 3 enteredAgain (part.tag ∷ [])
-not-entered-twice = differs register enteringTwice 3 enteredAgain part.tag [] opensC (tested .not-entered-twice)
+pub not-entered-twice : Differs register (enteringTwice play) 3 enteredAgain (part.tag ∷ [])
+not-entered-twice = differs register (enteringTwice play) 3 enteredAgain part.tag [] opensC (tested .not-entered-twice)

@@ -21,8 +21,9 @@ use Rattle.rules.specs.Words.{every}
 use Rattle.rules.specs.WordsLaws.{kept-other, kept-there}
 use Rattle.rules.specs.Common.{writing, askingKeys, askingSetpoints, askingAll, coordinator, request, setRequest, startedClient}
 use Rattle.rules.specs.Loss.{sentBy}
-use Rattle.rules.specs.Begin.{startedWriter, storedSetpoints, nextCount, begunWrite, sentAsks, lastTag, askingByA, askingByB, askingByC}
-use Rattle.rules.specs.Begin.{begunReadWith, begunRead}
+use Rattle.rules.specs.Begin.{startedWriter, storedSetpoints, nextCount, begunWrite, sentAsks, askingByB, askingByC}
+use Rattle.rules.specs.Begin.{begunReadWith}
+use Rattle.refusals.specs.Former.{lastTag, askingByA, formerlyBegunRead}
 use Rattle.soundness.specs.Facts.{Sound}
 use Rattle.soundness.specs.Room.{few-servers, client-fits, client-row, client-links, link-row}
 use Rattle.keeping.specs.Accepted.{Beginnable}
@@ -175,8 +176,8 @@ module _ (t : Tables) (s : Sound t) (q mask : ℕ) (b : Beginnable q mask t) whe
       beside asked q coordinator i (request opening 0) d
       ∙ sent-not q (λ j. request opening 0) (λ j. ask-fits) mask (serversOf t) few (t .links) long i e) ∙ none i l)))
 
-  pub read-carries : (i : ℕ) → i < targets → Carried t (begunRead q mask t) q i
-  unfolding begunRead
+  pub read-carries : (i : ℕ) → i < targets → Carried t (formerlyBegunRead q mask t) q i
+  unfolding formerlyBegunRead
   read-carries i l =
       by-test (eqb (methodOf t) 1)
       (λ e. rw e (a-carries i l))

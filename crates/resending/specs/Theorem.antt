@@ -22,9 +22,11 @@ use Rattle.rules.specs.declared.Arrival.the-variants as arrival
 use Rattle.rules.specs.declared.Delivered.{Delivered}
 use Rattle.refusals.specs.Refusals.{openRefusal, writeRefusal, readRefusal, deliveryRefusal}
 use Rattle.refusals.specs.Steps.{badgeOf, open′, beginWrite, beginRead, deliverRequest, deliverReply, lose, resend}
+use Rattle.refusals.specs.Former.{formerlyBegunRead}
 use Rattle.refusals.specs.Either.{by-refusal, by-refusal-arrived}
 use Rattle.soundness.specs.Facts.{Sound}
-use Rattle.keeping.specs.Accepted.{Openable, openable, Writable, writable, readable, Deliverable, deliverable, target-below}
+use Rattle.keeping.specs.Accepted.{Openable, openable, Writable, writable, Readable, readable, as-formerly, Deliverable, deliverable}
+use Rattle.keeping.specs.Accepted.{target-below}
 use Rattle.keeping.specs.Links.{kind-empty}
 use Rattle.keeping.specs.Frame.{Kept, kept-same}
 use Rattle.keeping.specs.Opening.{opened-words, opened-sound}
@@ -37,7 +39,9 @@ use Rattle.serial.specs.Steps.{Step, opening, beginning-write, beginning-read, 
 use Rattle.serial.specs.Steps.{begun-write, begun-read, requested, replied, lost, resent}
 use Rattle.serial.specs.Steps as event
 use Rattle.serial.specs.History.{openedWith}
-use Rattle.serial.proofs.Openings.{play-starts}
+use Rattle.serial.specs.Former.{mixed}
+use Rattle.serial.proofs.Openings.{play-starts, mixed-starts}
+use Rattle.serial.proofs.Mixed.{by-rules}
 use Rattle.resending.specs.Claim.{SendsAgain}
 use Rattle.resending.specs.Carried.{Carried, carried-empty}
 use Rattle.resending.specs.Still.{still-same, still-carries, requested-still, lost-still, resent-still, resent-leaves}
@@ -104,29 +108,43 @@ module _ (t : Tables) (s : Sound t) where
         by-client q _ (linkResent-kept q i t s d) (λ j l. still-carries t _ (resent-still q i t target) q j l)
         (sent-if (linkResent q i t .answer) refl)
 
+  opened-carries : (method k p : ℕ) (setpoints : List ℕ) → Openable method k p setpoints t →
+      Leaving (event.opened method k p setpoints) (left Ok (opened method k p setpoints t))
+  opened-carries method k p setpoints o =
+      let start = opened-starts method k p setpoints t o in
+      record {
+        sound = start .sound;
+        clients = λ q i l m. (
+          λ full. absurd (not-both (start .empty q i l m) full),
+          carried-empty t (opened method k p setpoints t) q i (start .empty q i l m),
+        );
+        sent = tt;
+      }
+
+  write-begun-carries : (q mask badge : ℕ) (setpoints : List ℕ) → Writable q mask setpoints t →
+      Leaving (begun-write q mask badge setpoints) (left Ok (begunWrite q mask (badgeOf badge) setpoints t))
+  write-begun-carries q mask badge setpoints w =
+      by-client q _ (begunWrite-kept q mask (badgeOf badge) setpoints t s w (mod-lt badge (omega arith)))
+      (write-carries t s q mask (w .begin) (badgeOf badge) setpoints (low q mask setpoints w)) tt
+
+  read-begun-carries : (q mask : ℕ) → Readable q mask t → Leaving (begun-read q mask) (left Ok (formerlyBegunRead q mask t))
+  read-begun-carries q mask r = by-client q _ (begunRead-kept q mask t s r) (read-carries t s q mask (r .begin)) tt
+
   step-carries : (step : Step) → Carries t (play step t)
   unfolding open′ beginWrite beginRead deliverRequest deliverReply lose resend
   step-carries (opening method k p setpoints) =
       by-refusal (Leaving (event.opened method k p setpoints)) (openRefusal method k p setpoints t) (left Ok (opened method k p setpoints t)) t
       (λ m e. refused-carries (event.opened method k p setpoints (Refused m)) tt)
-      (λ e. let o = opened-starts method k p setpoints t (openable method k p setpoints t e) in
-      record {
-        sound = o .sound;
-        clients = λ q i l m.
-            (λ full. absurd (not-both (o .empty q i l m) full), carried-empty t (opened method k p setpoints t) q i (o .empty q i l m));
-        sent = tt;
-      })
+      (λ e. opened-carries method k p setpoints (openable method k p setpoints t e))
   step-carries (beginning-write q mask badge setpoints) =
       by-refusal (Leaving (begun-write q mask badge setpoints)) (writeRefusal q mask setpoints t)
       (left Ok (begunWrite q mask (badgeOf badge) setpoints t)) t
       (λ m e. refused-carries (begun-write q mask badge setpoints (Refused m)) tt)
-      (λ e. let w = writable q mask setpoints t e in
-      by-client q _ (begunWrite-kept q mask (badgeOf badge) setpoints t s w (mod-lt badge (omega arith)))
-      (write-carries t s q mask (w .begin) (badgeOf badge) setpoints (low q mask setpoints w)) tt)
+      (λ e. write-begun-carries q mask badge setpoints (writable q mask setpoints t e))
   step-carries (beginning-read q mask) =
       by-refusal (Leaving (begun-read q mask)) (readRefusal q mask t) (left Ok (begunRead q mask t)) t
       (λ m e. refused-carries (begun-read q mask (Refused m)) tt)
-      (λ e. let r = readable q mask t e in by-client q _ (begunRead-kept q mask t s r) (read-carries t s q mask (r .begin)) tt)
+      (λ e. rw (← as-formerly q mask t e) (read-begun-carries q mask (readable q mask t e)))
   step-carries (request q i) =
       by-refusal (Leaving (requested q i)) (deliveryRefusal q i t) (requestDelivered q i t) t
       (λ m e. refused-carries (requested q i (Refused m)) tt)
@@ -153,3 +171,21 @@ play-carries = record { starts = play-starts Started opened-starts; carries = λ
 -- What is sent again is what was first sent.
 pub theorem : SendsAgain play
 theorem = sends-again play play-carries
+
+-- and so it is where openings and begins go by the former rules
+pub mixed-carries : Carrying mixed
+mixed-carries = record {
+  starts = mixed-starts Started opened-starts;
+  carries = λ step t s.
+      by-rules (Carries t) t
+      (record {
+        now = step-carries t s;
+        opens = opened-carries t s;
+        writes = write-begun-carries t s;
+        reads = read-begun-carries t s;
+      })
+      step;
+}
+
+pub former : SendsAgain mixed
+former = sends-again mixed mixed-carries

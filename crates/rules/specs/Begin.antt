@@ -1,5 +1,5 @@
 -- "Begin a WRITE" and "Begin a READ": what an accepted begin changes.
-use Prim.Native.Nat.{ℕ, _+_, _-_}
+use Prim.Native.Nat.{ℕ, _+_}
 use mathlib.Core.Bool.{cond}
 use mathlib.Core.List.{List}
 use lib.ListN.{getD}
@@ -10,13 +10,12 @@ use Rattle.keys.specs.declared.Key.{Key}
 use Rattle.keys.specs.Keys.{keyOf, opening}
 use Rattle.keys.specs.Masks.{hasServer}
 use Rattle.coordinator.specs.Latest.{latestKey, latestWord, latestTagAt}
-use Rattle.tables.specs.Layout.{writesField, readsField, countField, tagField, setpointsField, tagsField, writeBadgeField, askedField}
-use Rattle.tables.specs.Layout.{putClientWord}
+use Rattle.tables.specs.Layout.{writesField, readsField, countField, setpointsField, tagsField, writeBadgeField, askedField, putClientWord}
 use Rattle.tables.specs.Links.{putLink}
-use Rattle.tables.specs.Tables.{Tables, tablesOf, methodOf, serversOf, entriesOf, writesOf, readsOf, countOf}
+use Rattle.tables.specs.Tables.{Tables, tablesOf, methodOf, serversOf, writesOf, readsOf, countOf}
 use Rattle.rules.specs.Words.{every, keptWords}
-use Rattle.rules.specs.Common.{writing, askingKeys, askingSetpoints, askingAll, coordinator, request, setRequest}
-use Rattle.rules.specs.Common.{begunCounts, begunRecords, startedClient}
+use Rattle.rules.specs.Common.{writing, askingKeys, askingAll, coordinator, request, setRequest, begunCounts, begunRecords}
+use Rattle.rules.specs.Common.{startedClient}
 
 -- "a WRITE also [stores] its k setpoints"
 abbrev pub storedSetpoints : ℕ → List ℕ → ℕ → List ℕ → List ℕ
@@ -82,18 +81,6 @@ pub record Asking : Type 0 where
 abbrev pub asking : List ℕ → List ℕ → Asking
 asking clients links = record { clients = clients; links = links }
 
--- "the last tag"
-abbrev pub lastTag : Tables → ℕ
-lastTag t = entriesOf t - 1
-
--- "A: take the last tag and its keys from panel 0's log, then ask each masked station for its key."
-abbrev pub askingByA : ℕ → ℕ → Tables → Asking
-askingByA q mask t =
-    asking
-    (keptAsking q mask (t .log) (lastTag t) (serversOf t)
-    (putClientWord (startedClient askingSetpoints mask (readsOf t) q (t .clients)) q tagField (lastTag t)))
-    (sentGets q mask (t .log) (lastTag t) (serversOf t) (t .links))
-
 -- "B: ask the head"
 abbrev pub askingByB : ℕ → ℕ → Tables → Asking
 askingByB q mask t = asking (startedClient askingKeys mask (readsOf t) q (t .clients)) (sendAsk q coordinator (t .links))
@@ -102,8 +89,9 @@ askingByB q mask t = asking (startedClient askingKeys mask (readsOf t) q (t .cli
 abbrev pub askingByC : ℕ → ℕ → Tables → Asking
 askingByC q mask t = asking (startedClient askingAll mask (readsOf t) q (t .clients)) (sendAsk q coordinator (sentAsks q mask (serversOf t) (t .links)))
 
+-- "nothing new begins" by A
 abbrev pub askingBy : ℕ → ℕ → ℕ → Tables → Asking
-askingBy method q mask t = cond (eqb method 1) (askingByA q mask t) (cond (eqb method 2) (askingByB q mask t) (askingByC q mask t))
+askingBy method q mask t = cond (eqb method 2) (askingByB q mask t) (askingByC q mask t)
 
 abbrev pub begunReadWith : ℕ → ℕ → Asking → Tables → Tables
 begunReadWith q mask a t =

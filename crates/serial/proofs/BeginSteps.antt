@@ -29,7 +29,8 @@ use Rattle.rules.specs.Common.{idle, askingKeys, askingSetpoints, askingAll, co
 use Rattle.rules.specs.Common as rules
 use Rattle.rules.specs.Begin.{storedSetpoints, startedWriter, nextCount, begunWrite, sentGets, keptTags, keptKeys, sendAsk, sentAsks}
 use Rattle.rules.specs.Begin.{asking}
-use Rattle.rules.specs.Begin.{lastTag, askingByA, askingByB, askingByC, begunReadWith, begunRead}
+use Rattle.rules.specs.Begin.{askingByB, askingByC, begunReadWith}
+use Rattle.refusals.specs.Former.{lastTag, askingByA, formerlyBegunRead}
 use Rattle.rules.specs.declared.Answer.the-variants.{Ok}
 use Rattle.keeping.specs.Accepted.{Beginnable, Writable, Readable}
 use Rattle.keeping.specs.States.{masked-below}
@@ -381,8 +382,8 @@ module _ (floor : ℕ → ℕ) (t : Tables) (h : History) (s : Standing floor t 
       sent : List ℕ
       sent = sentAsks q mask (serversOf t) (t .links)
 
-  read-begun : Begun (begun-read q mask Ok) (begunRead q mask t)
-  unfolding begunRead
+  read-begun : Begun (begun-read q mask Ok) (formerlyBegunRead q mask t)
+  unfolding formerlyBegunRead
   read-begun =
       let extra : h .extra ≡ extraOf (methodOf t) = tied .method in
       by-test (eqb (methodOf t) 1)
@@ -400,5 +401,5 @@ module _ (floor : ℕ → ℕ) (t : Tables) (h : History) (s : Standing floor t 
       })
   write-fair badge setpoints a = write-begun floor t h s q mask (a .begin) badge setpoints (a .few)
 
-  pub read-fair : Readable q mask t → Fair floor h (stepOf t) (record { event = begun-read q mask Ok; tables = begunRead q mask t })
+  pub read-fair : Readable q mask t → Fair floor h (stepOf t) (record { event = begun-read q mask Ok; tables = formerlyBegunRead q mask t })
   read-fair a = read-begun floor t h s q mask (a .begin)

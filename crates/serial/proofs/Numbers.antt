@@ -11,8 +11,9 @@ use Rattle.keys.specs.Masks.{maskWithin}
 use Rattle.tables.specs.Layout.{recordPlaces}
 use Rattle.tables.specs.Tables.{Tables, methodOf, serversOf, clientsOf, writesOf, readsOf, stateOf}
 use Rattle.rules.specs.Common.{idle}
-use Rattle.soundness.specs.Sound.{longEnough, pressFits, sound}
-use Rattle.refusals.specs.Refusals.{openRefusal, beginFault, writeRefusal, readRefusal, atLastStep, isTarget, deliveryRefusal}
+use Rattle.soundness.specs.Sound.{longEnough, sound}
+use Rattle.refusals.specs.Refusals.{isRetired, pressOpens, openRefusal, beginFault, writeRefusal, readRefusal, atLastStep, isTarget}
+use Rattle.refusals.specs.Refusals.{deliveryRefusal}
 
 abbrev pub NotEight : ℕ → Type 0
 NotEight n = n ≡ 8 → ⊥
@@ -20,7 +21,8 @@ NotEight n = n ≡ 8 → ⊥
 pub open-number : (method k p : ℕ) (setpoints : List ℕ) (t : Tables) → NotEight (openRefusal method k p setpoints t)
 unfolding openRefusal
 open-number method k p setpoints t =
-    either NotEight (not (pressFits method k p && eqb (length setpoints) k)) (λ e. omega arith) (either NotEight (not (longEnough k p t)) (λ e. omega arith) (λ e. omega arith))
+    either NotEight (not (pressOpens method k p && eqb (length setpoints) k)) (λ e. omega arith)
+    (either NotEight (not (longEnough k p t)) (λ e. omega arith) (λ e. omega arith))
 
 begin-number : (absent barred free fits spent : Bool) → NotEight (beginFault absent barred free fits spent)
 begin-number absent barred free fits spent =
@@ -35,13 +37,15 @@ module _ (t : Tables) (q : ℕ) where
   unfolding writeRefusal
   write-number mask setpoints =
       either NotEight (not (sound t)) (λ e. omega arith)
-      (begin-number (leb (clientsOf t) q) (eqb (methodOf t) 1 && eqb q 0) (eqb (stateOf t q) idle) (maskWithin mask (serversOf t) && eqb (length setpoints) (serversOf t)) (leb recordPlaces (writesOf t) || atLastStep t))
+      (begin-number (leb (clientsOf t) q) (isRetired (methodOf t)) (eqb (stateOf t q) idle)
+      (maskWithin mask (serversOf t) && eqb (length setpoints) (serversOf t)) (leb recordPlaces (writesOf t) || atLastStep t))
 
   pub read-number : (mask : ℕ) → NotEight (readRefusal q mask t)
   unfolding readRefusal
   read-number mask =
       either NotEight (not (sound t)) (λ e. omega arith)
-      (begin-number (leb (clientsOf t) q) (eqb (methodOf t) 1 && not (eqb q 0)) (eqb (stateOf t q) idle) (maskWithin mask (serversOf t)) (leb recordPlaces (readsOf t) || atLastStep t))
+      (begin-number (leb (clientsOf t) q) (isRetired (methodOf t)) (eqb (stateOf t q) idle) (maskWithin mask (serversOf t))
+      (leb recordPlaces (readsOf t) || atLastStep t))
 
   pub delivery-number : (i : ℕ) → NotEight (deliveryRefusal q i t)
   unfolding deliveryRefusal

@@ -7,10 +7,12 @@ use Rattle.rules.specs.Answers.{left}
 use Rattle.rules.specs.Open as rules
 use Rattle.refusals.specs.Refusals.{openRefusal}
 use Rattle.refusals.specs.Steps.{open′}
-use Rattle.refusals.specs.Either.{by-refusal}
-use Rattle.keeping.specs.Accepted.{Openable, openable}
+use Rattle.refusals.specs.Former.{formerOpenRefusal, formerOpen}
+use Rattle.refusals.specs.Either.{by-refusal, by-former}
+use Rattle.keeping.specs.Accepted.{Openable, openable, former-openable}
 use Rattle.serial.specs.Steps.{Step, opening, beginning-write, beginning-read, request, reply, losing, resending, play}
 use Rattle.serial.specs.Steps.{Event, opened, begun-write, begun-read, requested, replied, lost, resent}
+use Rattle.serial.specs.Former.{MixedStep, today, former-opening, former-write, former-read, mixed}
 use Rattle.serial.specs.History.{History, openedWith}
 
 -- of the history that an opening begins and the tables that it leaves
@@ -45,3 +47,15 @@ module _ (P : History → Tables → Type 0) where
   play-starts facts (reply q i) t = tt
   play-starts facts (losing q i) t = tt
   play-starts facts (resending q i) t = tt
+
+  -- and of the machine that opens by the former rules too
+  pub mixed-starts : ByFacts → (step : MixedStep) (t : Tables) → Starts (mixed step t .event) (mixed step t .tables)
+  unfolding formerOpen
+  mixed-starts facts (today step) t = play-starts facts step t
+  mixed-starts facts (former-opening method k p setpoints) t =
+      by-former (λ x. Starts (opened method k p setpoints (x .answer)) (x .tables)) (formerOpenRefusal method k p setpoints t)
+      (left Ok (rules.opened method k p setpoints t)) (open′ method k p setpoints t)
+      (λ e. facts method k p setpoints t (former-openable method k p setpoints t e))
+      (play-starts facts (opening method k p setpoints) t)
+  mixed-starts facts (former-write q mask badge setpoints) t = tt
+  mixed-starts facts (former-read q mask) t = tt

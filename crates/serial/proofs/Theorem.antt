@@ -3,28 +3,30 @@
 use Prim.Native.Nat.{ℕ}
 use mathlib.Core.Path.{refl}
 use mathlib.Core.List.{List}
+use native.Mathlib.Nat.{mod-lt}
 use native.Mathlib.Omega.{arith}
 use Rattle.tables.specs.Tables.{Tables, stepOf}
-use Rattle.rules.specs.Answers.{Left, left, Arrived}
+use Rattle.rules.specs.Answers.{left}
 use Rattle.rules.specs.Open.{opened}
 use Rattle.rules.specs.Begin.{begunWrite, begunRead}
 use Rattle.rules.specs.Request.{requestDelivered}
 use Rattle.rules.specs.Reply.{replyDelivered}
 use Rattle.rules.specs.Loss.{linkLost, linkResent}
-use Rattle.rules.specs.declared.Answer.{Answer}
 use Rattle.rules.specs.declared.Answer.the-variants.{Ok}
-use Rattle.rules.specs.declared.Delivered.{Delivered}
 use Rattle.refusals.specs.Refusals.{openRefusal, writeRefusal, readRefusal, deliveryRefusal}
 use Rattle.soundness.specs.Facts.{Sound}
-use Rattle.keeping.specs.Accepted.{Openable, openable, writable, readable, deliverable}
+use Rattle.keeping.specs.Accepted.{Openable, openable, writable, readable, as-formerly, deliverable}
 use Rattle.keeping.specs.Opening.{opened-words, opened-sound}
+use Rattle.keeping.specs.BeginWrite.{begunWrite-kept}
+use Rattle.keeping.specs.BeginRead.{begunRead-kept}
 use Rattle.keeping.specs.Steps.{open-keeps, beginWrite-sound, beginRead-sound, deliverRequest-sound, deliverReply-sound, lose-sound}
 use Rattle.keeping.specs.Steps.{resend-sound}
 use Rattle.refusals.specs.Steps.{badgeOf, open′, beginWrite, beginRead, deliverRequest, deliverReply, lose, resend}
 use Rattle.refusals.specs.Either.{by-refusal, by-refusal-arrived}
-use Rattle.serial.specs.Steps.{Step, opening, beginning-write, beginning-read, request, reply, losing, resending, Event, begun-write}
-use Rattle.serial.specs.Steps.{begun-read, requested, replied, lost, resent, Played, play}
+use Rattle.serial.specs.Steps.{Step, opening, beginning-write, beginning-read, request, reply, losing, resending, begun-write}
+use Rattle.serial.specs.Steps.{begun-read, requested, replied, lost, resent, leaving, arriving, Played, play}
 use Rattle.serial.specs.Steps as event
+use Rattle.serial.specs.Former.{MixedStep, mixed}
 use Rattle.serial.specs.History.{History, passed, openedWith}
 use Rattle.serial.specs.Claim.{Demand3}
 use Rattle.serial.specs.Consequences.{Besides}
@@ -38,14 +40,9 @@ use Rattle.serial.proofs.BeginSteps.{write-fair, read-fair}
 use Rattle.serial.proofs.RequestSteps.{request-fair, refused-fair}
 use Rattle.serial.proofs.ReplySteps.{reply-fair, refused-reply}
 use Rattle.serial.proofs.LossSteps.{loss-fair, refused-loss, resend-fair, refused-resend}
-use Rattle.serial.proofs.Openings.{play-starts}
+use Rattle.serial.proofs.Openings.{play-starts, mixed-starts}
+use Rattle.serial.proofs.Mixed.{by-rules}
 use Rattle.serial.proofs.Machines.{Started, FairMachine, demand3, besides}
-
-abbrev leaving : (Answer → Event) → Left → Played
-leaving event x = record { event = event (x .answer); tables = x .tables }
-
-abbrev arriving : (Delivered → Event) → Arrived → Played
-arriving event x = record { event = event (x .delivered); tables = x .tables }
 
 -- An accepted opening.
 opened-starts : (method k p : ℕ) (setpoints : List ℕ) (t : Tables) → Openable method k p setpoints t →
@@ -67,6 +64,13 @@ module _ (floor : ℕ → ℕ) (t : Tables) (h : History) (s : Standing floor t 
   abbrev Steps : Played → Type 0
   Steps = Fair floor h (stepOf t)
 
+  opened-fair : (method k p : ℕ) (setpoints : List ℕ) → Openable method k p setpoints t →
+      Steps (leaving (event.opened method k p setpoints) (left Ok (opened method k p setpoints t)))
+  opened-fair method k p setpoints o =
+      let start = opened-starts method k p setpoints t o in
+      let l = start .standing floor in
+      record { kept = (tt, l .tied); budget = l .budget; answers = tt; room = λ z. omega arith; step = start .step }
+
   step-fair : (step : Step) → Steps (play step t)
   unfolding open′ beginWrite beginRead deliverRequest deliverReply lose resend
   step-fair (opening method k p setpoints) =
@@ -74,9 +78,7 @@ module _ (floor : ℕ → ℕ) (t : Tables) (h : History) (s : Standing floor t 
       (left Ok (opened method k p setpoints t)) t
       (λ m e. let room = open-number method k p setpoints t in
       record { kept = (tt, stays); budget = s .budget; answers = tt; room = rw (← e) room; step = refl })
-      (λ e. let o = opened-starts method k p setpoints t (openable method k p setpoints t e) in
-      let l = o .standing floor in
-      record { kept = (tt, l .tied); budget = l .budget; answers = tt; room = λ z. omega arith; step = o .step })
+      (λ e. opened-fair method k p setpoints (openable method k p setpoints t e))
   step-fair (beginning-write q mask badge setpoints) =
       by-refusal (λ x. Steps (leaving (begun-write q mask badge setpoints) x)) (writeRefusal q mask setpoints t)
       (left Ok (begunWrite q mask (badgeOf badge) setpoints t)) t
@@ -87,7 +89,7 @@ module _ (floor : ℕ → ℕ) (t : Tables) (h : History) (s : Standing floor t 
       by-refusal (λ x. Steps (leaving (begun-read q mask) x)) (readRefusal q mask t) (left Ok (begunRead q mask t)) t
       (λ m e. let room = read-number t q mask in
       record { kept = (tt, stays); budget = s .budget; answers = tt; room = rw (← e) room; step = refl })
-      (λ e. read-fair floor t h s q mask (readable q mask t e))
+      (λ e. rw (← as-formerly q mask t e) (read-fair floor t h s q mask (readable q mask t e)))
   step-fair (request q i) =
       by-refusal (λ x. Steps (leaving (requested q i) x)) (deliveryRefusal q i t) (requestDelivered q i t) t
       (λ m e. refused-fair floor t h s q i m (rw (← e) (delivery-number t q i)))
@@ -124,3 +126,36 @@ theorem = demand3 play play-fair
 -- What follows beside it.
 pub consequences : Besides play
 consequences = besides play play-fair
+
+-- The same with openings and begins by the former rules, which today's steps keep, and which keep what those need.
+mixed-sound : (step : MixedStep) (t : Tables) → Sound t → Sound (mixed step t .tables)
+mixed-sound step t s =
+    by-rules (λ x. Sound (x .tables)) t
+    (record {
+      now = λ step. step-sound step t s;
+      opens = λ method k p setpoints o. opened-sound method k p setpoints t o;
+      writes = λ q mask badge setpoints a. begunWrite-kept q mask (badgeOf badge) setpoints t s a (mod-lt badge (omega arith)) .sound;
+      reads = λ q mask a. begunRead-kept q mask t s a .sound;
+    })
+    step
+
+mixed-fair′ : (step : MixedStep) (floor : ℕ → ℕ) (t : Tables) (h : History) → Standing floor t h → Fair floor h (stepOf t) (mixed step t)
+mixed-fair′ step floor t h s =
+    by-rules (Fair floor h (stepOf t)) t
+    (record {
+      now = step-fair floor t h s;
+      opens = opened-fair floor t h s;
+      writes = λ q mask badge setpoints a. write-fair floor t h s q mask badge setpoints a;
+      reads = λ q mask a. read-fair floor t h s q mask a;
+    })
+    step
+
+pub mixed-fair : FairMachine mixed
+mixed-fair = record { starts = mixed-starts Started opened-starts; fair = mixed-fair′; sound = mixed-sound }
+
+-- "What the members were promised of a method A run", and of any other.
+pub former : Demand3 mixed
+former = demand3 mixed mixed-fair
+
+pub former-consequences : Besides mixed
+former-consequences = besides mixed mixed-fair

@@ -2,6 +2,7 @@
 -- list of steps, and Wrong, for each field of the claim (Fields) a store (WrongStores) that breaks it and no other (Broken), by tests that
 -- decide (Decided). The proof stands in proofs/, and `proofs/Theorem.antt` has the one theorem, `Demand3 play`.
 pub mod Steps
+pub mod Former
 pub mod History
 pub mod Row
 pub mod Claim

@@ -25,7 +25,10 @@ use Rattle.rules.specs.Loss.{linkLost, sentIn, linkResent}
 use Rattle.soundness.specs.Sound.{longEnough, pressFits, scalarsSound, keyInRange, serverSound, entrySound, logSound, stateAllowed, uses, requestSound, replySound, contentSound, linkSound, receivedSound, clientSound, writeSound, readSound, openSound, recordsSound, sound}
 use Rattle.refusals.specs.Refusals.{openRefusal, writeRefusal, readRefusal, deliveryRefusal}
 use Rattle.refusals.specs.Steps as store
+use Rattle.refusals.specs.Former.{formerlyBegunRead, formerOpenRefusal, formerWriteRefusal, formerReadRefusal, formerOpen}
+use Rattle.refusals.specs.Former.{formerBeginWrite, formerBeginRead}
 use Rattle.serial.specs.Steps.{Step, beginning-write, beginning-read, request, reply, losing, resending, play, run}
+use Rattle.serial.specs.Former.{playFormerly}
 use Rattle.serial.specs.History.{Transaction, valueWritten, valueShown, changed, writeOf, readOf, openedWith, history}
 use Rattle.serial.specs.Row.{readsOf, rowTo, row}
 
@@ -65,12 +68,13 @@ unfolding zeros start sample changed inserted readsOf rowTo store.open′ store.
 sample-row = refl
 
 -- "A READ now shows with each setpoint the tag of the WRITE that put it there, 0 for the opening": one WRITE of server 0 alone, from its
--- begin to its end, and then a READ of both servers. Client 0 reads, since under A no other does. The WRITE has badge 7.
+-- begin to its end, and then a READ of both servers. Client 0 reads, since under A no other did; A's runs open and begin by the former
+-- rules, which open and begin those of B and C as today's do. The WRITE has badge 7.
 unfoldable pub startBy : ℕ → Tables
-startBy method = store.open′ method 2 2 (1200 ∷ 30 ∷ []) zeros .tables
+startBy method = formerOpen method 2 2 (1200 ∷ 30 ∷ []) zeros .tables
 
 unfoldable pub rowBy : ℕ → List Step → List Transaction
-rowBy method steps = row (history (run play steps (startBy method)) (openedWith method (1200 ∷ 30 ∷ [])))
+rowBy method steps = row (history (run playFormerly steps (startBy method)) (openedWith method (1200 ∷ 30 ∷ [])))
 
 unfoldable pub one : List Step
 one = beginning-write 1 1 7 (1800 ∷ 45 ∷ []) ∷ request 1 0 ∷ reply 1 0 ∷ request 1 16 ∷ reply 1 16 ∷ []
@@ -147,7 +151,8 @@ pub record Rows : Type 0 where
   pub lossyC : rowBy 3 (one ++ (beginning-read 0 3 ∷ lossy (0 ∷ 1 ∷ 16 ∷ []))) ≡ wroteOne ∷ readLossy 26 9 3 ∷ []
 
 pub rows : Rows
-unfolding startBy rowBy one again readA readB readC behindC laterFirst zeros changed inserted readsOf rowTo store.open′ store.beginWrite
+unfolding formerlyBegunRead formerOpenRefusal formerWriteRefusal formerReadRefusal formerOpen formerBeginWrite formerBeginRead
+    startBy rowBy one again readA readB readC behindC laterFirst zeros changed inserted readsOf rowTo store.open′ store.beginWrite
     store.beginRead store.deliverRequest store.deliverReply openRefusal writeRefusal readRefusal deliveryRefusal longEnough pressFits
     turns sound scalarsSound keyInRange serverSound entrySound logSound stateAllowed uses requestSound replySound contentSound linkSound
     receivedSound clientSound writeSound readSound openSound recordsSound allBelow anyBelow sumBelow linkAt putLink firstFrom lastBelow

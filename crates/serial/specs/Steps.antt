@@ -33,10 +33,10 @@ pub record Played : Type 0 where
   pub event : Event
   pub tables : Tables
 
-abbrev leaving : (Answer → Event) → Left → Played
+abbrev pub leaving : (Answer → Event) → Left → Played
 leaving event x = record { event = event (x .answer); tables = x .tables }
 
-abbrev arriving : (Delivered → Event) → Arrived → Played
+abbrev pub arriving : (Delivered → Event) → Arrived → Played
 arriving event x = record { event = event (x .delivered); tables = x .tables }
 
 -- A machine plays one step, of a type of steps of its own.

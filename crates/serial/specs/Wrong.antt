@@ -23,7 +23,10 @@ use Rattle.soundness.specs.Sound.{requestSound, replySound, contentSound, linkS
 use Rattle.soundness.specs.Sound.{clientSound, writeSound, readSound, openSound, recordsSound, sound}
 use Rattle.refusals.specs.Refusals.{openRefusal, writeRefusal, readRefusal, deliveryRefusal}
 use Rattle.refusals.specs.Steps.{open′, beginWrite, beginRead, deliverRequest, deliverReply, lose, resend}
+use Rattle.refusals.specs.Former.{formerlyBegunRead, formerOpenRefusal, formerWriteRefusal, formerReadRefusal, formerOpen}
+use Rattle.refusals.specs.Former.{formerBeginWrite, formerBeginRead}
 use Rattle.serial.specs.Steps.{Step, beginning-write, beginning-read, request, reply, losing, resending, opened, play}
+use Rattle.serial.specs.Former.{playFormerly}
 use Rattle.serial.specs.History.{changed}
 use Rattle.serial.specs.Row.{readsOf, rowTo}
 use Rattle.serial.specs.Fields.{walk, whole, complete, readAfterRead, writeAfterRead, readAfterWrite}
@@ -156,50 +159,51 @@ enteredBetween = acknowledged 0 ++ (request 0 16 ∷ losing 0 16 ∷ resending 0
 -- ---- what the tests of every field say of each, computed
 
 record Tested : Type 0 where
-  byA : open′ 1 2 2 first zeros .answer ≡ Ok
+  byA : formerOpen 1 2 2 first zeros .answer ≡ Ok
   byB : open′ 2 2 2 first zeros .answer ≡ Ok
   byC : open′ 3 2 2 first zeros .answer ≡ Ok
-  right-by-A : Computed [] play 1 thenReadByA
+  right-by-A : Computed [] playFormerly 1 thenReadByA
   right-by-B : Computed [] play 2 thenReadByB
   right-by-C : Computed [] play 3 thenReadByC
   right-of-one : Computed [] play 2 (writeOne 0 ++ readByB 1)
   right-of-two : Computed [] play 3 twoReads
   right-then-write : Computed [] play 2 thenWrite
-  right-lossy-by-A : Computed [] play 1 lossyByA
+  right-lossy-by-A : Computed [] playFormerly 1 lossyByA
   right-lossy-by-B : Computed [] play 2 lossyByB
   right-lossy-by-C : Computed [] play 3 lossyByC
   right-between : Computed [] play 3 enteredBetween
-  not-opening-shown : Computed (walk ∷ []) store.openingShown 1 thenReadByA
-  not-opening-at-server-1 : Computed (walk ∷ []) store.openingAtServer1 2 thenReadByB
-  not-latest : Computed (walk ∷ []) store.showingLatest 2 crossing
-  not-own-tag : Computed (walk ∷ []) store.ownTag 3 thenReadOfBoth
-  not-mixed : Computed (walk ∷ []) store.mixingBadges 2 crossing
-  not-beyond : Computed (whole ∷ complete ∷ []) store.tagTooLarge 2 (readByB 1)
-  not-opening-again : Computed (readAfterRead ∷ []) store.openingAgain 3 twoReads
-  not-to-come : Computed (writeAfterRead ∷ []) store.tagTooLarge 2 thenWrite
-  not-opening-always : Computed (readAfterWrite ∷ []) store.openingAlways 2 thenReadByB
-  not-opening-always-by-A : Computed (readAfterWrite ∷ []) store.openingAlways 1 thenReadByA
-  not-opening-always-by-C : Computed (readAfterWrite ∷ []) store.openingAlways 3 thenReadByC
-  not-hurried : Computed (readAfterWrite ∷ []) store.hurrying 3 hasty
-  not-unanswered : Computed (answered ∷ []) store.unanswering 2 requestOnly
-  not-late : Computed (ends ∷ []) store.endingLate 1 replyMore
-  not-early : Computed (ends ∷ []) store.endingEarly 2 replyLess
-  not-waiting : Computed (unfinished ∷ []) store.waitingForEver 3 (readByC 1)
-  not-invented : Computed (tags ∷ []) store.inventing 3 (writeBoth 0)
-  not-unentered : Computed (whose ∷ []) store.writtenUnentered 3 (acknowledged 0)
-  not-overtaken : Computed (whose ∷ []) store.writtenUnentered 2 overtaken
-  not-written-for-read : Computed (whose ∷ []) store.writtenForRead 1 (readByA 0)
-  not-writing-twice : Computed (whose ∷ []) store.beginningAlways 1 writeTwice
-  not-reading-twice : Computed (whose ∷ []) store.beginningAlways 2 readTwice
-  not-waiting-at-nothing : Computed (whose ∷ []) store.waitingAtNothing 3 replyOnly
-  not-arrived : Computed (readAfterWrite ∷ []) store.lossArrives 3 lostRequest
-  not-early-by-a-reply : Computed (ends ∷ []) store.losingNothing 1 lostReply
-  not-late-by-a-request : Computed (ends ∷ []) store.endingLate 1 askedAgain
-  not-entered-twice : Computed (tags ∷ []) store.enteringTwice 3 enteredAgain
-  not-last-tag : Computed (tags ∷ []) store.answeringLastTag 3 enteredBetween
+  not-opening-shown : Computed (walk ∷ []) (store.openingShown playFormerly) 1 thenReadByA
+  not-opening-at-server-1 : Computed (walk ∷ []) (store.openingAtServer1 play) 2 thenReadByB
+  not-latest : Computed (walk ∷ []) (store.showingLatest play) 2 crossing
+  not-own-tag : Computed (walk ∷ []) (store.ownTag play) 3 thenReadOfBoth
+  not-mixed : Computed (walk ∷ []) (store.mixingBadges play) 2 crossing
+  not-beyond : Computed (whole ∷ complete ∷ []) (store.tagTooLarge play) 2 (readByB 1)
+  not-opening-again : Computed (readAfterRead ∷ []) (store.openingAgain play) 3 twoReads
+  not-to-come : Computed (writeAfterRead ∷ []) (store.tagTooLarge play) 2 thenWrite
+  not-opening-always : Computed (readAfterWrite ∷ []) (store.openingAlways play) 2 thenReadByB
+  not-opening-always-by-A : Computed (readAfterWrite ∷ []) (store.openingAlways playFormerly) 1 thenReadByA
+  not-opening-always-by-C : Computed (readAfterWrite ∷ []) (store.openingAlways play) 3 thenReadByC
+  not-hurried : Computed (readAfterWrite ∷ []) (store.hurrying play) 3 hasty
+  not-unanswered : Computed (answered ∷ []) (store.unanswering play) 2 requestOnly
+  not-late : Computed (ends ∷ []) (store.endingLate playFormerly) 1 replyMore
+  not-early : Computed (ends ∷ []) (store.endingEarly play) 2 replyLess
+  not-waiting : Computed (unfinished ∷ []) (store.waitingForEver play) 3 (readByC 1)
+  not-invented : Computed (tags ∷ []) (store.inventing play) 3 (writeBoth 0)
+  not-unentered : Computed (whose ∷ []) (store.writtenUnentered play) 3 (acknowledged 0)
+  not-overtaken : Computed (whose ∷ []) (store.writtenUnentered play) 2 overtaken
+  not-written-for-read : Computed (whose ∷ []) (store.writtenForRead playFormerly) 1 (readByA 0)
+  not-writing-twice : Computed (whose ∷ []) (store.beginningAlways playFormerly) 1 writeTwice
+  not-reading-twice : Computed (whose ∷ []) (store.beginningAlways play) 2 readTwice
+  not-waiting-at-nothing : Computed (whose ∷ []) (store.waitingAtNothing play) 3 replyOnly
+  not-arrived : Computed (readAfterWrite ∷ []) (store.lossArrives play) 3 lostRequest
+  not-early-by-a-reply : Computed (ends ∷ []) (store.losingNothing playFormerly) 1 lostReply
+  not-late-by-a-request : Computed (ends ∷ []) (store.endingLate playFormerly) 1 askedAgain
+  not-entered-twice : Computed (tags ∷ []) (store.enteringTwice play) 3 enteredAgain
+  not-last-tag : Computed (tags ∷ []) (store.answeringLastTag play) 3 enteredBetween
 
 tested : Tested
-unfolding zeros played changed inserted readsOf rowTo open′ beginWrite beginRead deliverRequest deliverReply openRefusal
+unfolding formerlyBegunRead formerOpenRefusal formerWriteRefusal formerReadRefusal formerOpen formerBeginWrite formerBeginRead
+    zeros played changed inserted readsOf rowTo open′ beginWrite beginRead deliverRequest deliverReply openRefusal
     writeRefusal readRefusal deliveryRefusal longEnough pressFits turns sound scalarsSound keyInRange serverSound entrySound logSound
     stateAllowed uses requestSound replySound contentSound linkSound receivedSound clientSound writeSound readSound openSound
     recordsSound allBelow anyBelow sumBelow linkAt putLink firstFrom lastBelow appended log.entered begunWrite begunRead onSet
@@ -249,8 +253,8 @@ tested = record {
   not-last-tag = refl;
 }
 
--- each opens as the store does
-opensA : opened 1 2 2 first (open′ 1 2 2 first zeros .answer) ≡ opened 1 2 2 first Ok
+-- each opens as the store does, or by A as it did
+opensA : opened 1 2 2 first (formerOpen 1 2 2 first zeros .answer) ≡ opened 1 2 2 first Ok
 opensA = ap (opened 1 2 2 first) (tested .byA)
 
 opensB : opened 2 2 2 first (open′ 2 2 2 first zeros .answer) ≡ opened 2 2 2 first Ok
@@ -261,7 +265,7 @@ opensC = ap (opened 3 2 2 first) (tested .byC)
 
 -- ---- the store itself passes every test on such lists
 
-pub passes : Computed [] play 1 thenReadByA ×
+pub passes : Computed [] playFormerly 1 thenReadByA ×
     Computed [] play 2 thenReadByB ×
     Computed [] play 3 thenReadByC ×
     Computed [] play 2 (writeOne 0 ++ readByB 1) ×
@@ -270,7 +274,7 @@ pub passes : Computed [] play 1 thenReadByA ×
 passes = (tested .right-by-A, tested .right-by-B, tested .right-by-C, tested .right-of-one, tested .right-of-two, tested .right-then-write)
 
 -- and with every request and every reply lost once
-pub passes-lossy : Computed [] play 1 lossyByA ×
+pub passes-lossy : Computed [] playFormerly 1 lossyByA ×
     Computed [] play 2 lossyByB ×
     Computed [] play 3 lossyByC ×
     Computed [] play 3 enteredBetween
@@ -279,110 +283,110 @@ passes-lossy = (tested .right-lossy-by-A, tested .right-lossy-by-B, tested .righ
 -- ---- the wrong stores, by field
 
 -- a READ under A shows the opening, at its tag
-pub not-opening-shown : Breaks (walk ∷ []) store.openingShown 1 thenReadByA
-not-opening-shown = breaks store.openingShown 1 thenReadByA walk [] opensA (tested .not-opening-shown)
+pub not-opening-shown : Breaks (walk ∷ []) (store.openingShown playFormerly) 1 thenReadByA
+not-opening-shown = breaks (store.openingShown playFormerly) 1 thenReadByA walk [] opensA (tested .not-opening-shown)
 
 -- a READ shows the opening, at server 1 only
-pub not-opening-at-server-1 : Breaks (walk ∷ []) store.openingAtServer1 2 thenReadByB
-not-opening-at-server-1 = breaks store.openingAtServer1 2 thenReadByB walk [] opensB (tested .not-opening-at-server-1)
+pub not-opening-at-server-1 : Breaks (walk ∷ []) (store.openingAtServer1 play) 2 thenReadByB
+not-opening-at-server-1 = breaks (store.openingAtServer1 play) 2 thenReadByB walk [] opensB (tested .not-opening-at-server-1)
 
 -- a station shows its latest arrival
-pub not-latest : Breaks (walk ∷ []) store.showingLatest 2 crossing
-not-latest = breaks store.showingLatest 2 crossing walk [] opensB (tested .not-latest)
+pub not-latest : Breaks (walk ∷ []) (store.showingLatest play) 2 crossing
+not-latest = breaks (store.showingLatest play) 2 crossing walk [] opensB (tested .not-latest)
 
 -- a READ shows right setpoints with a wrong tag: its own, with a setpoint that the opening put there
-pub not-own-tag : Breaks (walk ∷ []) store.ownTag 3 thenReadOfBoth
-not-own-tag = breaks store.ownTag 3 thenReadOfBoth walk [] opensC (tested .not-own-tag)
+pub not-own-tag : Breaks (walk ∷ []) (store.ownTag play) 3 thenReadOfBoth
+not-own-tag = breaks (store.ownTag play) 3 thenReadOfBoth walk [] opensC (tested .not-own-tag)
 
 -- a READ shows right setpoints and tags with the badge of another WRITE
-pub not-mixed : Breaks (walk ∷ []) store.mixingBadges 2 crossing
-not-mixed = breaks store.mixingBadges 2 crossing walk [] opensB (tested .not-mixed)
+pub not-mixed : Breaks (walk ∷ []) (store.mixingBadges play) 2 crossing
+not-mixed = breaks (store.mixingBadges play) 2 crossing walk [] opensB (tested .not-mixed)
 
 -- a READ answers a tag beyond the last
-pub not-beyond : Breaks (whole ∷ complete ∷ []) store.tagTooLarge 2 (readByB 1)
-not-beyond = breaks store.tagTooLarge 2 (readByB 1) whole (complete ∷ []) opensB (tested .not-beyond)
+pub not-beyond : Breaks (whole ∷ complete ∷ []) (store.tagTooLarge play) 2 (readByB 1)
+not-beyond = breaks (store.tagTooLarge play) 2 (readByB 1) whole (complete ∷ []) opensB (tested .not-beyond)
 
 -- the second of two READs shows the opening, the first did not
-pub not-opening-again : Breaks (readAfterRead ∷ []) store.openingAgain 3 twoReads
-not-opening-again = breaks store.openingAgain 3 twoReads readAfterRead [] opensC (tested .not-opening-again)
+pub not-opening-again : Breaks (readAfterRead ∷ []) (store.openingAgain play) 3 twoReads
+not-opening-again = breaks (store.openingAgain play) 3 twoReads readAfterRead [] opensC (tested .not-opening-again)
 
 -- a READ answers the tag of a WRITE that begins when it has ended
-pub not-to-come : Breaks (writeAfterRead ∷ []) store.tagTooLarge 2 thenWrite
-not-to-come = breaks store.tagTooLarge 2 thenWrite writeAfterRead [] opensB (tested .not-to-come)
+pub not-to-come : Breaks (writeAfterRead ∷ []) (store.tagTooLarge play) 2 thenWrite
+not-to-come = breaks (store.tagTooLarge play) 2 thenWrite writeAfterRead [] opensB (tested .not-to-come)
 
 -- a READ always shows the opening at tag 0: by A, B, C
-pub not-opening-always : Breaks (readAfterWrite ∷ []) store.openingAlways 2 thenReadByB
-not-opening-always = breaks store.openingAlways 2 thenReadByB readAfterWrite [] opensB (tested .not-opening-always)
+pub not-opening-always : Breaks (readAfterWrite ∷ []) (store.openingAlways play) 2 thenReadByB
+not-opening-always = breaks (store.openingAlways play) 2 thenReadByB readAfterWrite [] opensB (tested .not-opening-always)
 
-pub not-opening-always-by-A : Breaks (readAfterWrite ∷ []) store.openingAlways 1 thenReadByA
-not-opening-always-by-A = breaks store.openingAlways 1 thenReadByA readAfterWrite [] opensA (tested .not-opening-always-by-A)
+pub not-opening-always-by-A : Breaks (readAfterWrite ∷ []) (store.openingAlways playFormerly) 1 thenReadByA
+not-opening-always-by-A = breaks (store.openingAlways playFormerly) 1 thenReadByA readAfterWrite [] opensA (tested .not-opening-always-by-A)
 
-pub not-opening-always-by-C : Breaks (readAfterWrite ∷ []) store.openingAlways 3 thenReadByC
-not-opening-always-by-C = breaks store.openingAlways 3 thenReadByC readAfterWrite [] opensC (tested .not-opening-always-by-C)
+pub not-opening-always-by-C : Breaks (readAfterWrite ∷ []) (store.openingAlways play) 3 thenReadByC
+not-opening-always-by-C = breaks (store.openingAlways play) 3 thenReadByC readAfterWrite [] opensC (tested .not-opening-always-by-C)
 
 -- the head's entry before the last acknowledgement
-pub not-hurried : Breaks (readAfterWrite ∷ []) store.hurrying 3 hasty
-not-hurried = breaks store.hurrying 3 hasty readAfterWrite [] opensC (tested .not-hurried)
+pub not-hurried : Breaks (readAfterWrite ∷ []) (store.hurrying play) 3 hasty
+not-hurried = breaks (store.hurrying play) 3 hasty readAfterWrite [] opensC (tested .not-hurried)
 
 -- *ok* to a request, and no reply on its link
-pub not-unanswered : Breaks (answered ∷ []) store.unanswering 2 requestOnly
-not-unanswered = breaks store.unanswering 2 requestOnly answered [] opensB (tested .not-unanswered)
+pub not-unanswered : Breaks (answered ∷ []) (store.unanswering play) 2 requestOnly
+not-unanswered = breaks (store.unanswering play) 2 requestOnly answered [] opensB (tested .not-unanswered)
 
 -- a READ ends a delivery late
-pub not-late : Breaks (ends ∷ []) store.endingLate 1 replyMore
-not-late = breaks store.endingLate 1 replyMore ends [] opensA (tested .not-late)
+pub not-late : Breaks (ends ∷ []) (store.endingLate playFormerly) 1 replyMore
+not-late = breaks (store.endingLate playFormerly) 1 replyMore ends [] opensA (tested .not-late)
 
 -- a READ ends early
-pub not-early : Breaks (ends ∷ []) store.endingEarly 2 replyLess
-not-early = breaks store.endingEarly 2 replyLess ends [] opensB (tested .not-early)
+pub not-early : Breaks (ends ∷ []) (store.endingEarly play) 2 replyLess
+not-early = breaks (store.endingEarly play) 2 replyLess ends [] opensB (tested .not-early)
 
 -- *wait* for ever
-pub not-waiting : Breaks (unfinished ∷ []) store.waitingForEver 3 (readByC 1)
-not-waiting = breaks store.waitingForEver 3 (readByC 1) unfinished [] opensC (tested .not-waiting)
+pub not-waiting : Breaks (unfinished ∷ []) (store.waitingForEver play) 3 (readByC 1)
+not-waiting = breaks (store.waitingForEver play) 3 (readByC 1) unfinished [] opensC (tested .not-waiting)
 
 -- an invented tag
-pub not-invented : Breaks (tags ∷ []) store.inventing 3 (writeBoth 0)
-not-invented = breaks store.inventing 3 (writeBoth 0) tags [] opensC (tested .not-invented)
+pub not-invented : Breaks (tags ∷ []) (store.inventing play) 3 (writeBoth 0)
+not-invented = breaks (store.inventing play) 3 (writeBoth 0) tags [] opensC (tested .not-invented)
 
 -- *write* before the entry
-pub not-unentered : Breaks (whose ∷ []) store.writtenUnentered 3 (acknowledged 0)
-not-unentered = breaks store.writtenUnentered 3 (acknowledged 0) whose [] opensC (tested .not-unentered)
+pub not-unentered : Breaks (whose ∷ []) (store.writtenUnentered play) 3 (acknowledged 0)
+not-unentered = breaks (store.writtenUnentered play) 3 (acknowledged 0) whose [] opensC (tested .not-unentered)
 
 -- and so a WRITE that was told *write* has a tag above that of one which began then: a WRITE after a WRITE in the wrong order
-pub not-overtaken : Breaks (whose ∷ []) store.writtenUnentered 2 overtaken
-not-overtaken = breaks store.writtenUnentered 2 overtaken whose [] opensB (tested .not-overtaken)
+pub not-overtaken : Breaks (whose ∷ []) (store.writtenUnentered play) 2 overtaken
+not-overtaken = breaks (store.writtenUnentered play) 2 overtaken whose [] opensB (tested .not-overtaken)
 
 -- *write* at the end of a READ
-pub not-written-for-read : Breaks (whose ∷ []) store.writtenForRead 1 (readByA 0)
-not-written-for-read = breaks store.writtenForRead 1 (readByA 0) whose [] opensA (tested .not-written-for-read)
+pub not-written-for-read : Breaks (whose ∷ []) (store.writtenForRead playFormerly) 1 (readByA 0)
+not-written-for-read = breaks (store.writtenForRead playFormerly) 1 (readByA 0) whose [] opensA (tested .not-written-for-read)
 
 -- a begin is accepted while the client is busy
-pub not-writing-twice : Breaks (whose ∷ []) store.beginningAlways 1 writeTwice
-not-writing-twice = breaks store.beginningAlways 1 writeTwice whose [] opensA (tested .not-writing-twice)
+pub not-writing-twice : Breaks (whose ∷ []) (store.beginningAlways playFormerly) 1 writeTwice
+not-writing-twice = breaks (store.beginningAlways playFormerly) 1 writeTwice whose [] opensA (tested .not-writing-twice)
 
-pub not-reading-twice : Breaks (whose ∷ []) store.beginningAlways 2 readTwice
-not-reading-twice = breaks store.beginningAlways 2 readTwice whose [] opensB (tested .not-reading-twice)
+pub not-reading-twice : Breaks (whose ∷ []) (store.beginningAlways play) 2 readTwice
+not-reading-twice = breaks (store.beginningAlways play) 2 readTwice whose [] opensB (tested .not-reading-twice)
 
 -- a delivery is accepted while the client is idle
-pub not-waiting-at-nothing : Breaks (whose ∷ []) store.waitingAtNothing 3 replyOnly
-not-waiting-at-nothing = breaks store.waitingAtNothing 3 replyOnly whose [] opensC (tested .not-waiting-at-nothing)
+pub not-waiting-at-nothing : Breaks (whose ∷ []) (store.waitingAtNothing play) 3 replyOnly
+not-waiting-at-nothing = breaks (store.waitingAtNothing play) 3 replyOnly whose [] opensC (tested .not-waiting-at-nothing)
 
 -- a lost link is taken for an arrived acknowledgement: the WRITE ends, and server 1 does not have it
-pub not-arrived : Breaks (readAfterWrite ∷ []) store.lossArrives 3 lostRequest
-not-arrived = breaks store.lossArrives 3 lostRequest readAfterWrite [] opensC (tested .not-arrived)
+pub not-arrived : Breaks (readAfterWrite ∷ []) (store.lossArrives play) 3 lostRequest
+not-arrived = breaks (store.lossArrives play) 3 lostRequest readAfterWrite [] opensC (tested .not-arrived)
 
 -- a READ ends a delivery early: its lost reply came all the same
-pub not-early-by-a-reply : Breaks (ends ∷ []) store.losingNothing 1 lostReply
-not-early-by-a-reply = breaks store.losingNothing 1 lostReply ends [] opensA (tested .not-early-by-a-reply)
+pub not-early-by-a-reply : Breaks (ends ∷ []) (store.losingNothing playFormerly) 1 lostReply
+not-early-by-a-reply = breaks (store.losingNothing playFormerly) 1 lostReply ends [] opensA (tested .not-early-by-a-reply)
 
 -- a READ ends a delivery late: it lost a request, and no reply
-pub not-late-by-a-request : Breaks (ends ∷ []) store.endingLate 1 askedAgain
-not-late-by-a-request = breaks store.endingLate 1 askedAgain ends [] opensA (tested .not-late-by-a-request)
+pub not-late-by-a-request : Breaks (ends ∷ []) (store.endingLate playFormerly) 1 askedAgain
+not-late-by-a-request = breaks (store.endingLate playFormerly) 1 askedAgain ends [] opensA (tested .not-late-by-a-request)
 
 -- a resent enter is entered twice
-pub not-entered-twice : Breaks (tags ∷ []) store.enteringTwice 3 enteredAgain
-not-entered-twice = breaks store.enteringTwice 3 enteredAgain tags [] opensC (tested .not-entered-twice)
+pub not-entered-twice : Breaks (tags ∷ []) (store.enteringTwice play) 3 enteredAgain
+not-entered-twice = breaks (store.enteringTwice play) 3 enteredAgain tags [] opensC (tested .not-entered-twice)
 
 -- a resent enter is answered with the last tag
-pub not-last-tag : Breaks (tags ∷ []) store.answeringLastTag 3 enteredBetween
-not-last-tag = breaks store.answeringLastTag 3 enteredBetween tags [] opensC (tested .not-last-tag)
+pub not-last-tag : Breaks (tags ∷ []) (store.answeringLastTag play) 3 enteredBetween
+not-last-tag = breaks (store.answeringLastTag play) 3 enteredBetween tags [] opensC (tested .not-last-tag)

@@ -16,9 +16,10 @@ use Rattle.rules.specs.Begin.{begunWrite, begunRead}
 use Rattle.rules.specs.Request.{requestDelivered}
 use Rattle.rules.specs.Reply.{said, replyDelivered}
 use Rattle.rules.specs.Loss.{linkLost, linkResent}
-use Rattle.soundness.specs.Sound.{sound, longEnough, pressFits}
+use Rattle.soundness.specs.Sound.{sound, longEnough}
 use Rattle.soundness.specs.Facts.{Sound, facts-sound}
-use Rattle.refusals.specs.Refusals.{openRefusal, writeFault, writeRefusal, readFault, readRefusal, deliveryFault, deliveryRefusal}
+use Rattle.refusals.specs.Refusals.{pressOpens, openRefusal, writeFault, writeRefusal, readFault, readRefusal, deliveryFault}
+use Rattle.refusals.specs.Refusals.{deliveryRefusal}
 use Rattle.refusals.specs.Steps.{unless, unlessArrived, badgeOf, open′, beginWrite, beginRead, deliverRequest, deliverReply, lose, resend}
 use Rattle.keeping.specs.Accepted.{Openable, openable, Writable, writable, Readable, readable, Deliverable, deliverable}
 
@@ -137,7 +138,7 @@ module _ (t : Tables) (s : Sound t) {n : ℕ} where
     delivery-able z = deliverable q i t (delivery-number ∙ z)
 
 -- an opening; b is whether the press fits, l whether the tables are long enough
-module _ (m k p : ℕ) (setpoints : List ℕ) (t : Tables) {b : Bool} (d : b ≡ (pressFits m k p && eqb (length setpoints) k)) where
+module _ (m k p : ℕ) (setpoints : List ℕ) (t : Tables) {b : Bool} (d : b ≡ (pressOpens m k p && eqb (length setpoints) k)) where
   pub open-wrong : not b ≡ true → left (Refused 1) t ≡ open′ m k p setpoints t
   unfolding open′ openRefusal
   open-wrong e = rw (← d, e)

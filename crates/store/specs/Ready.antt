@@ -8,14 +8,15 @@ use Rattle.ranges.specs.Tests.{both-left, both-right}
 use Rattle.ranges.specs.SumLaws.{sum-part}
 use Rattle.tables.specs.Layout.{readsField}
 use Rattle.tables.specs.Links.{targets}
-use Rattle.tables.specs.Tables.{Tables, serversOf, clientsOf, entriesOf, stateOf, countOf, maskOf, contentAt}
+use Rattle.tables.specs.Tables.{Tables, serversOf, clientsOf, stateOf, countOf, maskOf, contentAt}
 use Rattle.tables.specs.declared.links.Contents.{Contents}
 use Rattle.tables.specs.declared.links.Content.the-variants.{Request, Reply, Lost}
 use Rattle.rules.specs.Common.{askingSetpoints}
 use Rattle.rules.specs.Filled.{Fillable}
 use Rattle.soundness.specs.Sound.{uses, replySound, badgeSound, contentSound}
 use Rattle.soundness.specs.Facts.{Sound}
-use Rattle.soundness.specs.Room.{few-servers, server-fits, keys-row, values-row, client-fits, client-row, client-links, link-row, write-row, log-entries, next-write, next-read}
+use Rattle.soundness.specs.Room.{few-servers, server-fits, keys-row, values-row, client-fits, client-row, client-links, link-row}
+use Rattle.soundness.specs.Room.{write-row, next-write, next-read}
 use Rattle.history.specs.Ready.{BeginReady}
 use Rattle.begins.specs.Ready.{AskReady, WriteReady}
 use Rattle.requests.specs.Ready.{AtServer, Asks, RequestReady}
@@ -42,7 +43,7 @@ module _ (t : Tables) (s : Sound t) where
         given = w .values;
       }
 
-  pub read-ready : (q mask : ℕ) → Readable q mask t → AskReady (t .counts) (t .clients) (t .links) (t .log) q
+  pub read-ready : (q mask : ℕ) → Readable q mask t → AskReady (t .counts) (t .clients) (t .links) q
   read-ready q mask r =
       let h = r .begin .client in
       record {
@@ -50,9 +51,6 @@ module _ (t : Tables) (s : Sound t) where
         servers = few-servers t s;
         row = client-row t s q h;
         linked = client-links t s q h;
-        entered = s .scalars .entries .least;
-        few = s .scalars .entries .most;
-        logged = log-entries t s (entriesOf t) (omega arith);
       }
 
   pub read-begins : (q mask : ℕ) → Readable q mask t → BeginReady (t .counts) (t .reads) readsField

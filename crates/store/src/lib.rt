@@ -6,8 +6,8 @@ ghost use mathlib.Core.Bool.{_&&_};
 ghost use lib.Dec.{eqb};
 ghost use Rattle.tables.specs.Tables.{tablesOf};
 ghost use Rattle.rules.specs.Answers.{left, arrived};
-ghost use Rattle.soundness.specs.Sound.{pressFits};
 ghost use Rattle.soundness.specs.Facts.{Sound};
+ghost use Rattle.refusals.specs.Refusals.{pressOpens};
 ghost use Rattle.refusals.specs.Steps.{open′, beginWrite, beginRead, deliverRequest, deliverReply, lose, resend};
 use rules::Answer;
 use rules::Arrival;
@@ -19,11 +19,21 @@ use soundness::scalars;
 use tables::clients;
 use tables::links;
 
-// Whether method, servers and clients fit a press, and there is a setpoint for each server.
-fn fits_press(method: u32, servers: u32, panels: u32, given: usize) -> bool
-    ensures { λ r. ⌜ r ≡ (pressFits method servers panels && eqb given servers) ⌝ }
+// Whether a press may be opened: its method is not retired, and method, servers and clients fit.
+fn opens_press(method: u32, servers: u32, panels: u32) -> bool
+    ensures { λ r. ⌜ r ≡ pressOpens method servers panels ⌝ }
 {
-    if scalars::press_fits(method, servers, panels) {
+    if refusals::is_retired(method) {
+        return false;
+    }
+    scalars::press_fits(method, servers, panels)
+}
+
+// Whether a press may be opened, and there is a setpoint for each server.
+fn fits_press(method: u32, servers: u32, panels: u32, given: usize) -> bool
+    ensures { λ r. ⌜ r ≡ (pressOpens method servers panels && eqb given servers) ⌝ }
+{
+    if opens_press(method, servers, panels) {
         return given == servers as usize;
     }
     false
@@ -182,7 +192,7 @@ pub fn begin_read_sound(
     if fault != 0 {
         return Answer::Refused(fault);
     }
-    begins::begin_read(counts, clients, links, log, reads, client as usize, mask);
+    begins::begin_read(counts, clients, links, reads, client as usize, mask);
     Answer::Ok
 }
 

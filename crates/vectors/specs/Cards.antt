@@ -43,9 +43,9 @@ pub record Cards : Type 0 where
   pub another-00 : frame.reads (0x12 ∷ 0x18 ∷ 0x09 ∷ 0x00 ∷ 0x00 ∷ 0x00 ∷ 0x00 ∷ 0x03 ∷ 0x84 ∷ 0x00 ∷ 0x00 ∷ []) ≡ Refused 11
   -- "No bytes: 10."
   pub no-bytes : frame.reads [] ≡ Refused 10
-  -- "Method 1, p 1: 1; p 2 opens."
+  -- "Method 1, p 1: 1", and "The bench card for method 1 now has 1 for p 2 as well"
   pub one-client : open′ 1 2 1 openingSetpoints (blank 2) .answer ≡ answer.Refused 1
-  pub two-clients : open′ 1 2 2 openingSetpoints (blank 2) .answer ≡ answer.Ok
+  pub two-clients : open′ 1 2 2 openingSetpoints (blank 2) .answer ≡ answer.Refused 1
   -- "k 2: mask 4 is 6, mask 3 accepted."
   pub write-mask-4 : beginWrite 0 4 badgeA setpointsA (opened 2 2) .answer ≡ answer.Refused 6
   pub write-mask-3 : beginWrite 0 3 badgeA setpointsA (opened 2 2) .answer ≡ answer.Ok

@@ -18,7 +18,7 @@ use Rattle.rules.specs.Open.{allServers}
 use Rattle.soundness.specs.Sound.{sound}
 use Rattle.soundness.specs.Facts.{Sound, facts-sound}
 use Rattle.soundness.specs.Room.{few-servers}
-use Rattle.refusals.specs.Refusals.{atLastStep, beginFault, deliveryFault}
+use Rattle.refusals.specs.Refusals.{isRetired, atLastStep, beginFault, deliveryFault}
 use Rattle.refusals.specs.Steps.{beginWrite, beginRead, deliverRequest, deliverReply}
 use Rattle.schedule.specs.declared.Step.the-variants.{BeginWrite, BeginRead, Request, Reply}
 use Rattle.playing.specs.Played.{played}
@@ -137,7 +137,7 @@ module _ (t : Tables) (s : Sound t) (none : (n : ℕ) → n < numberedCount (cli
       let e : acceptable t (writeOfAll t q) ≡ false = rw (number-write t q h) at (none q (omega arith)) in
       let f : acceptsWrite t q ≡ false = write-told t s q (countOf t q + 1) ∙ e in
       let g = rw (both (maskWithin (allServers k) k) (eqb k k) all-within (eq-eqb k k refl)) at f in
-      no-mask-helps (leb (clientsOf t) q) (eqb (methodOf t) 1 && eqb q 0) (eqb (stateOf t q) idle)
+      no-mask-helps (leb (clientsOf t) q) (isRetired (methodOf t)) (eqb (stateOf t q) idle)
       (maskWithin mask k && eqb (length setpoints) k) (leb recordPlaces (writesOf t) || atLastStep t) g)
       (λ e. rw e)
 
@@ -150,7 +150,7 @@ module _ (t : Tables) (s : Sound t) (none : (n : ℕ) → n < numberedCount (cli
       let e : acceptable t (readOfAll t q) ≡ false = rw (number-read t q h) at (none (clientsOf t + q) (omega arith)) in
       let f : acceptsRead t q ≡ false = read-told t s q 0 ∙ e in
       let g = rw all-within at f in
-      no-mask-helps (leb (clientsOf t) q) (eqb (methodOf t) 1 && not (eqb q 0)) (eqb (stateOf t q) idle)
+      no-mask-helps (leb (clientsOf t) q) (isRetired (methodOf t)) (eqb (stateOf t q) idle)
       (maskWithin mask k) (leb recordPlaces (readsOf t) || atLastStep t) g)
       (λ e. rw e)
 

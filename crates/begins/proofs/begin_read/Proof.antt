@@ -9,9 +9,11 @@ returns : tie.Need-returns
 returns c =
     let at-begin = c .before .before .before .before in
     let at-ask = at-begin .before .before .before .before .before .before .before in
-    let start = at-ask .before .before .before .before .before .before .before .before .before in
+    let start = at-ask .before .before .before .before .before .before .before .before in
     let a = start .args in
-    λ keys values writes. read-begun (a .client) (a .mask) (tablesOf (a .counts .now) (a .clients .now) (a .links .now) keys values (a .log .now) writes (a .reads .now)) (at-ask .ask .ensures keys values writes (a .reads .now)) (at-begin .begin .ensures .0) (at-begin .begin .ensures .1)
+    λ keys values log writes. read-begun (a .client) (a .mask)
+    (tablesOf (a .counts .now) (a .clients .now) (a .links .now) keys values log writes (a .reads .now))
+    (at-ask .ask .ensures keys values log writes (a .reads .now)) (at-begin .begin .ensures .0) (at-begin .begin .ensures .1)
 
 pub begin-read-spec : {M : Type 1} → statement M
 begin-read-spec =

@@ -5,10 +5,10 @@ use Rattle.store.proofs.fits_press.Statement.{statement}
 use Rattle.store.proofs.fits_press.Tie as tie
 
 returns : tie.Need-returns
-returns c = rw (sym (c .before .press-fits .ensures) ∙ c .if1 .taken)
+returns c = rw (sym (c .before .opens-press .ensures) ∙ c .if1 .taken)
 
 returns-2 : tie.Need-returns-2
-returns-2 c = rw (sym (c .before .press-fits .ensures) ∙ c .if1 .left)
+returns-2 c = rw (sym (c .before .opens-press .ensures) ∙ c .if1 .left)
 
 pub fits-press-spec : {M : Type 1} → statement M
 fits-press-spec = tie.close (tie.spec (λ c κs. search needs) returns returns-2)
