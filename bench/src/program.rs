@@ -19,7 +19,7 @@ pub fn report(proved: &str, model: &str) {
         ("random: begins, deliveries, refused and unreadable lines, many openings", random()),
         ("accepted steps alone, method B, 4 servers, 4 clients, opened anew every 60 WRITEs and READs", accepted(2, 4, 4, 60)),
         ("the same under method C", accepted(3, 4, 4, 60)),
-        ("the same under method A with 16 servers, 16 clients and 255 each", accepted(1, 16, 16, 255)),
+        ("the same under method B with 16 servers, 16 clients and 255 each", accepted(2, 16, 16, 255)),
         ("lines that are no step", b"? 1 2\n".repeat(LINES)),
     ];
     let mut rows = Vec::new();

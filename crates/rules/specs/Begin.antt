@@ -1,5 +1,5 @@
 -- "Begin a WRITE" and "Begin a READ": what an accepted begin changes.
-use Prim.Native.Nat.{ℕ, _+_, _-_}
+use Prim.Native.Nat.{ℕ, _+_}
 use mathlib.Core.Bool.{cond}
 use mathlib.Core.List.{List}
 use lib.ListN.{getD}
@@ -10,13 +10,12 @@ use Rattle.keys.specs.declared.Key.{Key}
 use Rattle.keys.specs.Keys.{keyOf, opening}
 use Rattle.keys.specs.Masks.{hasServer}
 use Rattle.coordinator.specs.Latest.{latestKey, latestWord, latestTagAt}
-use Rattle.tables.specs.Layout.{writesField, readsField, countField, tagField, setpointsField, tagsField, writeBadgeField, askedField}
-use Rattle.tables.specs.Layout.{putClientWord}
+use Rattle.tables.specs.Layout.{writesField, readsField, countField, setpointsField, tagsField, writeBadgeField, askedField, putClientWord}
 use Rattle.tables.specs.Links.{putLink}
-use Rattle.tables.specs.Tables.{Tables, tablesOf, methodOf, serversOf, entriesOf, writesOf, readsOf, countOf}
+use Rattle.tables.specs.Tables.{Tables, tablesOf, methodOf, serversOf, writesOf, readsOf, countOf}
 use Rattle.rules.specs.Words.{every, keptWords}
-use Rattle.rules.specs.Common.{writing, askingKeys, askingSetpoints, askingAll, coordinator, request, setRequest}
-use Rattle.rules.specs.Common.{begunCounts, begunRecords, startedClient}
+use Rattle.rules.specs.Common.{writing, askingKeys, askingAll, coordinator, request, setRequest, begunCounts, begunRecords}
+use Rattle.rules.specs.Common.{startedClient}
 
 -- "a WRITE also [stores] its k setpoints"
 abbrev pub storedSetpoints : ℕ → List ℕ → ℕ → List ℕ → List ℕ

@@ -35,6 +35,8 @@ mod wrong_neighbours;
 #[cfg(test)]
 mod wrong_registers;
 #[cfg(test)]
+mod wrong_retired;
+#[cfg(test)]
 mod wrong_stores;
 
 use arguments::Arguments;

@@ -243,8 +243,8 @@ fn with_a_reply_or_a_begin_the_order_shows() {
     // The tag's arrival ends the WRITE, and the record has its step number.
     let entered = [&TWO_ENTERS[..], &["> 0 16", "W 2 2 9 4 4"]].concat();
     order_shows(&entered, ["< 0 16", "> 2 1"]);
-    // So does that of the last setpoint, and of A's.
-    order_shows(&["O 1 2 2 0 0", "R 0 1", "> 0 0", "W 1 2 9 4 4"], ["< 0 0", "> 1 1"]);
+    // So does that of the last setpoint.
+    order_shows(&["O 2 2 2 0 0", "R 0 1", "> 0 16", "< 0 16", "> 0 0", "W 1 2 9 4 4"], ["< 0 0", "> 1 1"]);
     // A begin's step number stands in its record too.
     order_shows(&["O 3 2 2 0 0", "W 0 1 7 5 5"], ["> 0 0", "R 1 2"]);
     // The last acknowledgement sends what is delivered behind it: in the other order it is not there yet.
