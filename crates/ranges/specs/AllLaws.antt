@@ -1,7 +1,7 @@
 -- Laws of all and any.
 use Prim.Native.Nat.{ℕ, zero, suc, _+_, _≤_, _<_}
 use mathlib.Core.Path.{_≡_, refl, sym}
-use mathlib.Core.Bool.{Bool, true, false, not, true≢false, or-true, or-false}
+use mathlib.Core.Bool.{Bool, true, false, not, true≢false, and-true, or-true, or-false}
 use native.Mathlib.Omega.{arith}
 use native.Mathlib.Numerals.{add-one}
 use Rattle.ranges.specs.Tests.{by-equal, by-test, not-both, both, both-left, both-right, fails, holds}
@@ -15,6 +15,11 @@ module _ (p : ℕ → Bool) where
   pub all-more : (n : ℕ) → allBelow p n ≡ true → p n ≡ true → allBelow p (n + 1) ≡ true
   unfolding allBelow
   all-more n a e = rw (add-one n, a, e)
+
+  -- a number that passes changes nothing
+  pub all-past : (n : ℕ) → p n ≡ true → allBelow p (n + 1) ≡ allBelow p n
+  unfolding allBelow
+  all-past n e = rw (add-one n, e, and-true (allBelow p n))
 
   -- where all pass, each does
   pub all-at : (n : ℕ) → allBelow p n ≡ true → (i : ℕ) → i < n → p i ≡ true
