@@ -1,16 +1,18 @@
 -- The cases of an entry, and what it keeps.
 use Prim.Native.Nat.{ℕ, _+_, _≤_, _<_}
-use mathlib.Core.Path.{_≡_, refl}
-use mathlib.Core.Bool.{true, false}
+use mathlib.Core.Path.{_≡_, refl, ap, _∙_}
+use mathlib.Core.Bool.{Bool, true, false}
 use mathlib.Core.List.{List}
 use lib.ListN.{set}
-use lib.Dec.{ltb}
+use lib.Dec.{eqb, ltb}
 use borrow.Author.Tests.{lt-ltb, le-ltb}
 use lib.Seq.{getD-set-other}
 use Rattle.ranges.specs.Tests.{by-test, not-both}
+use Rattle.ranges.specs.First.{firstBelow}
 use Rattle.keys.specs.declared.Key.{Key}
-use Rattle.tables.specs.Layout.{countAt, entriesField, logPlaces, putEntry}
-use Rattle.coordinator.specs.Log.{enterLeft, entriesIn, entered}
+use Rattle.keys.specs.Keys.{keyWord}
+use Rattle.tables.specs.Layout.{countAt, entriesField, logPlaces, entryWord, putEntry}
+use Rattle.coordinator.specs.Log.{enterLeft, entriesIn, entered, firstEntry}
 
 -- the cases of an entry, as the code meets them; n is what was read of the counts
 module _ (counts log : List ℕ) (key : Key) (mask : ℕ) {n : ℕ} (d : n ≡ entriesIn counts) where
@@ -38,3 +40,14 @@ module _ (counts log : List ℕ) (key : Key) (mask : ℕ) where
       by-test (ltb (entriesIn counts) logPlaces)
       (λ b. rw b (getD-set-other counts entriesField field (entriesIn counts + 1) 0 d))
       (λ b. rw b)
+
+-- The search for a key, by its word: an entry bears it; and the entries from a tag on.
+abbrev pub bearer : List ℕ → ℕ → ℕ → Bool
+bearer log word tag = eqb (entryWord log tag) word
+
+abbrev pub bearerFrom : List ℕ → ℕ → ℕ → ℕ → Bool
+bearerFrom log tag word i = bearer log word (tag + i)
+
+pub bearer-of : (log : List ℕ) (n : ℕ) (key : Key) {word r : ℕ} → word ≡ keyWord key → r ≡ firstBelow (bearer log word) n →
+    r ≡ firstEntry log key n
+bearer-of log n key e f = f ∙ ap (λ (w : ℕ). firstBelow (bearer log w) n) e

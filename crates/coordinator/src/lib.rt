@@ -1,10 +1,14 @@
 // The head's part: the log, and the key of a station at a tag. The head is the coordinator here, a station a server.
 ghost use mathlib.Core.Path.{_≡_};
-ghost use Prim.Native.Nat.{_*_, _≤_, _<_};
+ghost use Prim.Native.Nat.{_+_, _*_, _≤_, _<_};
 ghost use lib.ListN.{length};
+ghost use Rattle.ranges.specs.All.{anyBelow};
+ghost use Rattle.ranges.specs.First.{firstBelow};
+ghost use Rattle.ranges.specs.FirstLaws.{Sought};
 ghost use Rattle.ranges.specs.Laid.{laid};
 ghost use Rattle.tables.specs.Layout.{entryWidth};
 ghost use Rattle.coordinator.specs.Log.{LogRoom, HasEntry, enterLeft, entered, firstEntry};
+ghost use Rattle.coordinator.specs.LogLaws.{bearer, bearerFrom};
 ghost use Rattle.coordinator.specs.Latest.{entryAt, latestOf, latestWord, latestTagAt};
 use keys::Key;
 use tables::counts;
@@ -24,13 +28,31 @@ pub fn enter(counts: &mut [u32], log: &mut [u32], key: Key, mask: u32) -> bool
     true
 }
 
-// The first of the log's n first entries that bears a key, and n where none does.
-pub fn find(log: &[u32], n: usize, key: Key) -> usize
-    requires { ⌜ entryWidth * n ≤ length (now log) ⌝ }
-    ensures { λ r. ⌜ r ≡ firstEntry (now (log .entry)) key n ⌝ }
+// How many entries a turn of the search for a key looks at.
+const BLOCK: usize = 16;
+
+// Whether one of the 16 entries from a tag on bears the key of a word. All are looked at, so that the compiler compares several at once.
+fn has_bearer(log: &[u32], tag: usize, word: u32) -> bool
+    requires { ⌜ entryWidth * (tag + 16) ≤ length (now log) ⌝ }
+    ensures { λ r. ⌜ r ≡ anyBelow (bearerFrom (now (log .entry)) tag word) 16 ⌝ }
 {
-    let word = key.word();
-    let mut tag = 0;
+    let mut found = false;
+    let mut at = 0;
+    while at < BLOCK {
+        if log::key_word(log, tag + at) == word {
+            found = true;
+        }
+        at += 1;
+    }
+    found
+}
+
+// Of n entries, the first that bears the key of a word, where none of those before from does; n where none does.
+fn find_behind(log: &[u32], from: usize, n: usize, word: u32) -> usize
+    requires { ⌜ (entryWidth * n ≤ length (now log)) × Sought (bearer (now log) word) n from ⌝ }
+    ensures { λ r. ⌜ r ≡ firstBelow (bearer (now (log .entry)) word) n ⌝ }
+{
+    let mut tag = from;
     while tag < n {
         if log::key_word(log, tag) == word {
             return tag;
@@ -38,6 +60,22 @@ pub fn find(log: &[u32], n: usize, key: Key) -> usize
         tag += 1;
     }
     tag
+}
+
+// The first of the log's n first entries that bears a key, and n where none does. Blocks without one are passed over.
+pub fn find(log: &[u32], n: usize, key: Key) -> usize
+    requires { ⌜ entryWidth * n ≤ length (now log) ⌝ }
+    ensures { λ r. ⌜ r ≡ firstEntry (now (log .entry)) key n ⌝ }
+{
+    let word = key.word();
+    let mut tag = 0;
+    while BLOCK <= n - tag {
+        if has_bearer(log, tag, word) {
+            return find_behind(log, tag, n, word);
+        }
+        tag += BLOCK;
+    }
+    find_behind(log, tag, n, word)
 }
 
 // What the search back finds for a server: the key of the latest entry that wrote it, and the tag of that entry.

@@ -1,7 +1,7 @@
 -- Laws of all and any.
 use Prim.Native.Nat.{ℕ, zero, suc, _+_, _≤_, _<_}
 use mathlib.Core.Path.{_≡_, refl, sym}
-use mathlib.Core.Bool.{Bool, true, false, not, true≢false, or-true}
+use mathlib.Core.Bool.{Bool, true, false, not, true≢false, and-true, or-true, or-false}
 use native.Mathlib.Omega.{arith}
 use native.Mathlib.Numerals.{add-one}
 use Rattle.ranges.specs.Tests.{by-equal, by-test, not-both, both, both-left, both-right, fails, holds}
@@ -15,6 +15,11 @@ module _ (p : ℕ → Bool) where
   pub all-more : (n : ℕ) → allBelow p n ≡ true → p n ≡ true → allBelow p (n + 1) ≡ true
   unfolding allBelow
   all-more n a e = rw (add-one n, a, e)
+
+  -- a number that passes changes nothing
+  pub all-past : (n : ℕ) → p n ≡ true → allBelow p (n + 1) ≡ allBelow p n
+  unfolding allBelow
+  all-past n e = rw (add-one n, e, and-true (allBelow p n))
 
   -- where all pass, each does
   pub all-at : (n : ℕ) → allBelow p n ≡ true → (i : ℕ) → i < n → p i ≡ true
@@ -51,6 +56,11 @@ module _ (p : ℕ → Bool) where
   pub any-more : (n : ℕ) → anyBelow p n ≡ false → p n ≡ false → anyBelow p (n + 1) ≡ false
   unfolding anyBelow
   any-more n a e = rw (add-one n, a, e)
+
+  -- a number that fails changes nothing
+  pub any-past : (n : ℕ) → p n ≡ false → anyBelow p (n + 1) ≡ anyBelow p n
+  unfolding anyBelow
+  any-past n e = rw (add-one n, e, or-false (anyBelow p n))
 
   pub any-at : (n i : ℕ) → i < n → p i ≡ true → anyBelow p n ≡ true
   unfolding anyBelow

@@ -1,6 +1,6 @@
 -- Laws of the first number that passes a test, and what a search for it has found so far.
-use Prim.Native.Nat.{ℕ, zero, suc, _+_, _≤_, _<_}
-use mathlib.Core.Path.{_≡_, sym, _∙_}
+use Prim.Native.Nat.{ℕ, zero, suc, _+_, _-_, _≤_, _<_}
+use mathlib.Core.Path.{_≡_, sym, ap, _∙_}
 use mathlib.Core.Bool.{Bool, true, false}
 use native.Mathlib.Omega.{arith}
 use lib.Dec.{ltb}
@@ -93,3 +93,19 @@ module _ (p : ℕ → Bool) (n : ℕ) where
 
   pub sought-end : {r : ℕ} → Sought p n r → n ≤ r → r ≡ firstBelow p n
   sought-end {r} s h = first-is p n (record { within = s .within; before = s .before; here = λ l. let z : ⊥ = omega arith in absurd z })
+
+-- A search goes on by m numbers at once, of which none passes: q is the test of those behind r.
+pub sought-all : (p q : ℕ → Bool) (n r m : ℕ) → ((i : ℕ) → q i ≡ p (r + i)) → Sought p n r → r + m ≤ n → anyBelow q m ≡ false →
+    Sought p n (r + m)
+sought-all p q n r m shifted s room none = record {
+  within = room;
+  before = λ i l.
+      by-test (ltb i r)
+      (λ b. s .before i (ltb-true i r b))
+      (λ b.
+      let d : r + (i - r) ≡ i = omega (arith, ltb-false i r b) in
+      let fails : q (i - r) ≡ false = by-test (q (i - r))
+      (λ e. absurd (not-both (any-at q m (i - r) (omega (arith, ltb-false i r b)) e) none))
+      (λ e. e) in
+      ap p (sym d) ∙ sym (shifted (i - r)) ∙ fails);
+}

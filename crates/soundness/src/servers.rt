@@ -26,19 +26,20 @@ fn keys_in_range(keys: &[u32], server: usize, held: usize, clients: u32) -> bool
     true
 }
 
-// Their badges.
+// Their badges. All are looked at, so that the compiler tests several at once.
 fn badges_fit(values: &[u32], server: usize, held: usize) -> bool
     requires { ⌜ (held ≤ serverPlaces) × HasValues (now values) server ⌝ }
     ensures { λ r. ⌜ r ≡ allBelow (λ place. badgeFits (versionBadge (now (values .entry)) server place)) held ⌝ }
 {
+    let mut fit = true;
     let mut place = 0;
     while place < held {
         if !scalars::badge_fits(versions::version_badge(values, server, place)) {
-            return false;
+            fit = false;
         }
         place += 1;
     }
-    true
+    fit
 }
 
 fn server_sound(counts: &[u32], keys: &[u32], values: &[u32], server: usize) -> bool

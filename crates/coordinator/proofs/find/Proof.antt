@@ -1,29 +1,16 @@
--- `coordinator::find` meets its contract: no entry before `tag` bears the key, so the first one that does, or the end, is the first.
-use Prim.Native.Nat.{ℕ, _-_}
-use mathlib.Core.Bool.{Bool}
-use mathlib.Core.List.{List}
-use lib.Dec.{eqb}
-use mathlib.Core.Path.{_≡_, ap, _∙_, sym}
-use borrow.Author.Tests.{eq-eqb, ne-eqb}
+-- `coordinator::find` meets its contract: no entry before `tag` bears the key, since blocks without one are passed over; from there on the
+-- search goes entry by entry.
+use Prim.Native.Nat.{_-_}
+use mathlib.Core.Path.{refl, sym, _∙_}
+use native.Mathlib.Omega.{arith}
 use borrow.Author.Needs.{needs}
-use Rattle.ranges.specs.FirstLaws.{Sought, sought-none, sought-more, sought-found, sought-end}
-use Rattle.keys.specs.declared.Key.{Key}
-use Rattle.keys.specs.Keys.{keyWord}
-use Rattle.ranges.specs.First.{firstBelow}
-use Rattle.tables.specs.Layout.{entryWord}
-use Rattle.coordinator.specs.Log.{firstEntry}
+use Rattle.ranges.specs.FirstLaws.{Sought, sought-none, sought-all}
+use Rattle.coordinator.specs.LogLaws.{bearer, bearerFrom, bearer-of}
 use Rattle.coordinator.proofs.find.Statement.{statement}
 use Rattle.coordinator.proofs.find.Tie as tie
 
--- an entry bears the key of a word
-abbrev bearing : List ℕ → ℕ → ℕ → Bool
-bearing log word tag = eqb (entryWord log tag) word
-
-word-is : (log : List ℕ) (n : ℕ) (key : Key) {word : ℕ} → word ≡ keyWord key → firstBelow (bearing log word) n ≡ firstEntry log key n
-word-is log n key e = ap (λ (w : ℕ). firstBelow (bearing log w) n) e
-
 abbrev Inv-loop : tie.InvT-loop
-Inv-loop log n word tag₀ tag = Sought (bearing log word) n tag
+Inv-loop log n word tag₀ tag = Sought (bearer log word) n tag
 
 abbrev μ-loop : tie.MeasureT-loop
 μ-loop log n word tag₀ tag = n - tag
@@ -33,23 +20,30 @@ loop-holds c = sought-none _ _
 
 returns : tie.Need-returns Inv-loop μ-loop
 returns c =
-    let a = c .before .before .before .before .before .before .args in
-    sought-found _ _ (c .before .before .before .loop .inv) (eq-eqb _ _ (sym (c .before .key-word .ensures) ∙ c .if1 .taken))
-    ∙ word-is (a .log .now) (a .n) (a .key) (c .before .before .before .before .word .ensures)
+    let at-word = c .before .before .before .before .before in
+    let a = at-word .before .before .args in
+    bearer-of (a .log .now) (a .n) (a .key) (at-word .word .ensures) (c .find-behind .ensures)
 
 loop-again : tie.Need-loop-again Inv-loop μ-loop
 loop-again c =
-    sought-more _ _ (c .before .before .before .loop .inv) (c .before .before .loop-test .taken)
-    (ne-eqb _ _ (λ e. c .if1 .left (c .before .key-word .ensures ∙ e)))
+    let at-has-bearer = c .before in
+    let at-test = at-has-bearer .before in
+    let at-loop = at-test .before in
+    let at-word = at-loop .before in
+    let a = at-word .before .before .args in
+    let tag = at-loop .loop .tag in
+    sought-all (bearer (a .log .now) (at-word .word .result)) (bearerFrom (a .log .now) tag (at-word .word .result)) (a .n) tag 16
+    (λ i. refl) (at-loop .loop .inv) (omega (arith, at-test .loop-test .taken))
+    (sym (at-has-bearer .has-bearer .ensures) ∙ c .if1 .left)
 
 returns-2 : tie.Need-returns-2 Inv-loop μ-loop
 returns-2 c =
-    let a = c .before .before .before .before .args in
-    sought-end _ _ (c .before .loop .inv) (c .loop-test .left)
-    ∙ word-is (a .log .now) (a .n) (a .key) (c .before .before .word .ensures)
+    let at-word = c .before .before .before in
+    let a = at-word .before .before .args in
+    bearer-of (a .log .now) (a .n) (a .key) (at-word .word .ensures) (c .find-behind2 .ensures)
 
 pub find-spec : {M : Type 1} → statement M
 find-spec =
     tie.close
-    (tie.spec Inv-loop μ-loop (λ c κs. search needs) loop-holds (λ c κs. search needs) returns (λ c. search needs)
-    (λ c. search needs) loop-again returns-2)
+    (tie.spec Inv-loop μ-loop (λ c κs. search needs) loop-holds (λ c. search needs) (λ c κs. search needs) (λ c κs. search needs)
+    returns (λ c. search needs) (λ c. search needs) loop-again (λ c κs. search needs) returns-2)
