@@ -2,7 +2,6 @@
 
 mod check;
 mod clock;
-mod fast;
 mod frame_speed;
 mod growth;
 mod instructions;
