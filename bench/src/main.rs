@@ -2,6 +2,7 @@
 
 mod check;
 mod clock;
+mod equal;
 mod frame_speed;
 mod growth;
 mod instructions;
@@ -20,6 +21,11 @@ use std::path::Path;
 
 fn main() {
     let given: Vec<String> = std::env::args().skip(1).collect();
+    if let [part, program @ ..] = &given[..] {
+        if part == "equal" {
+            return equal::report(program);
+        }
+    }
     let [proved, model, parts @ ..] = &given[..] else {
         panic!("bench PROVED-PROGRAM MODEL-PROGRAM [PART...]");
     };
