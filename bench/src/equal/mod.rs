@@ -1,5 +1,5 @@
-//! The fast Rust beside the proved exports and program: answers, and every word, byte and slice of both sides, must be equal. What times are
-//! compared with does the same work.
+//! The fast Rust beside the proved exports and program: answers, and every word, byte and slice of both sides, must be equal. What times
+//! are compared with does the same work.
 
 mod frames;
 mod loads;

@@ -77,7 +77,7 @@ unsafe fn opened<'a>(places: [*mut u32; 8], lengths: [usize; 8]) -> Opened<'a> {
     }
 }
 
-/// A call of one of these functions on tables. Behind a black box, so that the tables are lent within the arm of a `match` (as `ffi` has it).
+/// A call of one of these functions on tables. Behind a black box, so that the tables are lent within the arm of a `match`, as in `ffi`.
 macro_rules! call {
     ($name:ident, $tables:expr $(, $more:expr)*) => {{
         let Tables { counts, clients, links, keys, values, log, writes, reads } = black_box($tables);

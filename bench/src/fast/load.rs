@@ -118,7 +118,8 @@ impl Acceptable {
         [kind, client as u32, nth(links[client & 15], place), 0]
     }
 
-    /// Takes a step that is acceptable. Another client's steps change only where a set or an enter was stored: they may find it, or no place.
+    /// Takes a step that is acceptable. Another client's steps change only where a set or an enter was stored: they may find it, or no
+    /// place.
     #[inline(always)]
     unsafe fn take(&mut self, places: [*mut u32; 8], [kind, client, second, setpoint]: [u32; STEP_WORDS]) {
         let t = || Sound::at(places);

@@ -1,6 +1,6 @@
 //! The opening, on any tables.
 
-use words::layout::{needed, SERVERS, VALUE_WORDS, VERSIONS_OF_SERVER};
+use words::layout::{needed, COUNTS_WORDS, HELD, VALUE_WORDS, VERSIONS_OF_SERVER};
 
 /// The tables that an opening sets words of; it asks of the records alone how long they are.
 pub struct Opened<'a> {
@@ -28,12 +28,14 @@ pub fn open(t: Opened, method: u32, servers: u32, clients: u32, setpoints: &[u32
     t.links.fill(0);
     t.counts.fill(0);
     // Method, servers, clients, step 1, one entry, no WRITE, no READ.
-    t.counts[..7].copy_from_slice(&[method, servers, clients, 1, 1, 0, 0]);
-    for (server, &setpoint) in setpoints.iter().enumerate() {
-        t.counts[7 + server] = 1;
-        t.keys[VERSIONS_OF_SERVER * server] = 0;
-        t.values[VALUE_WORDS * VERSIONS_OF_SERVER * server..][..VALUE_WORDS].copy_from_slice(&[0, setpoint]);
+    t.counts[..HELD].copy_from_slice(&[method, servers, clients, 1, 1, 0, 0]);
+    t.counts[HELD..COUNTS_WORDS][..setpoints.len()].fill(1);
+    let (keys, values) =
+        (t.keys.chunks_exact_mut(VERSIONS_OF_SERVER), t.values.chunks_exact_mut(VALUE_WORDS * VERSIONS_OF_SERVER));
+    for ((keys, values), &setpoint) in keys.zip(values).zip(setpoints) {
+        keys[0] = 0;
+        values[..VALUE_WORDS].copy_from_slice(&[0, setpoint]);
     }
-    t.log[..2].copy_from_slice(&[0, (1 << t.counts[SERVERS]) - 1]);
+    t.log[..2].copy_from_slice(&[0, (1 << servers) - 1]);
     0
 }

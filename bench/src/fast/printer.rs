@@ -28,7 +28,8 @@ impl<W: Write> Printer<W> {
         Printer { out, bytes: Box::new([0; WINDOW + LINE_ROOM]), used: 0 }
     }
 
-    /// All N bytes are stored and the first `length` of them count. A line has at most LINE_ROOM bytes, and `line_done` is called behind each.
+    /// All N bytes are stored and the first `length` of them count. A line has at most LINE_ROOM bytes, and `line_done` is called behind
+    /// each.
     #[inline(always)]
     pub fn put<const N: usize>(&mut self, text: &[u8; N], length: usize) {
         debug_assert!(self.used + N <= self.bytes.len() && length <= N);

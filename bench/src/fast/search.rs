@@ -1,6 +1,6 @@
 //! Searches of versions and of the log, several rows at a time.
 
-use super::tables::{Entry, Log, Versions};
+use super::tables::{each_server, Entry, Log, Versions};
 use std::arch::x86_64::*;
 
 /// The place of the first of `held` versions that bears the key, 16 at a time; what stands behind the held ones is looked at and not
@@ -58,19 +58,16 @@ fn counted(first: usize, hits: u32, held: usize) -> Option<usize> {
     (place < held).then_some(place)
 }
 
-/// For each server of the mask the tag and the key of the latest entry that has it: one walk down the log for all of them.
+/// For each server of the mask the tag and the key of the latest entry that has it: one walk down the log for all of them, from one entry
+/// that has any of those left to the next.
 #[inline(always)]
 pub fn latest_of_all(log: &[Entry], mask: u32, mut found: impl FnMut(usize, u32, u32)) {
-    let mut left = mask;
-    for (tag, entry) in log.iter().enumerate().rev() {
-        let mut hit = entry.mask & left;
-        left &= !hit;
-        while hit != 0 {
-            found(hit.trailing_zeros() as usize & 15, tag as u32, entry.key);
-            hit &= hit - 1;
-        }
-        if left == 0 {
-            return;
-        }
+    let (mut left, mut below) = (mask, log.len());
+    while left != 0 {
+        let Some(tag) = log[..below].iter().rposition(|entry| entry.mask & left != 0) else { return };
+        let Entry { key, mask } = log[tag];
+        each_server(mask & left).for_each(|server| found(server, tag as u32, key));
+        left &= !mask;
+        below = tag;
     }
 }
