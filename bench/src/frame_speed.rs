@@ -2,6 +2,7 @@
 //! Rust, and beside a codec that was written for speed.
 
 use crate::clock::{beside, least_of_passes};
+use crate::goals;
 use crate::table::{print, ratio, thousands, time};
 use bench::fast::frame as fast;
 use ffi::frame::{answer, taken_apart, Parts};
@@ -121,13 +122,7 @@ impl Codec for FrameLibrary {
 pub fn report(library: FrameLibrary) {
     let a_second = |nanoseconds: f64| thousands(1e9 / nanoseconds);
     table("Frames", library, Rust, "written a second", "read a second", a_second, |_| 3.0);
-    // A frame with few entries has no goal beside the fast codec.
-    let goal = |entries: u32| match entries {
-        0 => 3.0,
-        1..16 => f64::INFINITY,
-        _ => 4.0,
-    };
-    table("Frames, beside a codec written for speed", library, Fast, "written, ns", "read, ns", time, goal);
+    table("Frames, beside a codec written for speed", library, Fast, "written, ns", "read, ns", time, goals::of_frame);
 }
 
 /// A row for each frame; `said` is how a time is printed.

@@ -1,6 +1,7 @@
 //! How the cost of a step grows with the log and the versions held, and the worst cases.
 
 use crate::clock::{least_of_passes, Clock};
+use crate::goals;
 use crate::plans::Plan;
 use crate::sides::last_steps;
 use crate::table::{print, ratio, time};
@@ -8,29 +9,47 @@ use ffi::StoreLibrary;
 use model::COORDINATOR;
 
 const ROUNDS: usize = 40;
-const GOAL: f64 = 1.5;
 
-/// Plans of which so many last steps are measured, made for any size.
-type Case = (&'static str, usize, fn(usize) -> Plan);
+/// Plans of which so many last steps are measured, made for any size, and the goal.
+pub struct Case {
+    pub name: &'static str,
+    pub goal: f64,
+    pub steps: usize,
+    pub plan: fn(usize) -> Plan,
+}
+
+const fn case(name: &'static str, goal: f64, steps: usize, plan: fn(usize) -> Plan) -> Case {
+    Case { name, goal, steps, plan }
+}
 
 const LOGS: [usize; 5] = [1, 32, 64, 128, 256];
-const BY_LOG: [Case; 14] = [
-    ("begin a READ, A, one server that no WRITE wrote: one search of the whole log", 1, untouched_server),
-    ("begin a READ, A, 16 servers of which 15 were never written: 15 such searches", 1, untouched_servers),
-    ("which keys, B, request and reply together, the same servers: 15 such searches", 2, keys_of_untouched),
-    ("request get of the newest of as many versions", 1, newest_version),
-    ("request set of a new key, behind as many versions, 255 of 256", 1, |entries| new_key(entries, 0)),
-    ("request set of a key held, behind as many versions, 255 of 256", 1, |entries| key_again(entries, 0)),
-    ("request enter of a new key, behind as many entries, 255 of 256", 1, |entries| new_key(entries, COORDINATOR)),
-    ("request enter of a key entered, behind as many entries, 255 of 256", 1, |entries| key_again(entries, COORDINATOR)),
-    ("C's last reply, 1 server, the newest tag qualifies", 1, newest_tag_of_one),
-    ("C's last reply, 16 servers, the newest tag qualifies", 1, newest_tag),
-    ("C's last reply, 16 servers, no tag but 0 qualifies, each WRITE of the last server", 1, |entries| gap(entries, 1, LAST)),
-    ("C's last reply, 16 servers, no tag but 0 qualifies, each WRITE of all", 1, |entries| gap(entries, 1, ALL)),
-    ("C's last reply, 16 servers, the tag below the newest qualifies, each WRITE of the last server", 1, |entries| {
-        gap(entries, entries - 1, LAST)
+pub const BY_LOG: [Case; 13] = [
+    case("reply keys, one server that no WRITE wrote: one search of the whole log", goals::KEYS, 1, untouched_server),
+    case("reply keys, 16 servers of which 15 were never written: 15 such searches", goals::KEYS, 1, untouched_servers),
+    case("request get of the newest of as many versions", goals::SEARCH, 1, newest_version),
+    case("request set of a new key, behind as many versions, 255 of 256", goals::SEARCH, 1, |entries| new_key(entries, 0)),
+    case("request set of a key held, behind as many versions, 255 of 256", goals::SEARCH, 1, |entries| key_again(entries, 0)),
+    case("request enter of a new key, behind as many entries, 255 of 256", goals::SEARCH, 1, |entries| {
+        new_key(entries, COORDINATOR)
     }),
-    ("C's last reply, 16 servers, the tag below the newest qualifies, each WRITE of all", 1, |entries| {
+    case("request enter of a key entered, behind as many entries, 255 of 256", goals::SEARCH, 1, |entries| {
+        key_again(entries, COORDINATOR)
+    }),
+    case("C's last reply, 1 server, the newest tag qualifies", goals::CHOICE, 1, newest_tag_of_one),
+    case("C's last reply, 16 servers, the newest tag qualifies", goals::CHOICE, 1, newest_tag),
+    case("C's last reply, 16 servers, no tag but 0 qualifies, each WRITE of the last server", goals::CHOICE, 1, |entries| {
+        gap(entries, 1, LAST)
+    }),
+    case("C's last reply, 16 servers, no tag but 0 qualifies, each WRITE of all", goals::CHOICE, 1, |entries| {
+        gap(entries, 1, ALL)
+    }),
+    case(
+        "C's last reply, 16 servers, the tag below the newest qualifies, each WRITE of the last server",
+        goals::CHOICE,
+        1,
+        |entries| gap(entries, entries - 1, LAST),
+    ),
+    case("C's last reply, 16 servers, the tag below the newest qualifies, each WRITE of all", goals::CHOICE, 1, |entries| {
         gap(entries, entries - 1, ALL)
     }),
 ];
@@ -40,15 +59,15 @@ const ALL: u32 = 0xFFFF;
 const LAST: u32 = 1 << 15;
 
 const SERVERS: [usize; 5] = [1, 2, 4, 8, 16];
-const BY_SERVERS: [Case; 6] = [
-    ("begin a WRITE", 1, |servers| after_64(2, servers, |plan| plan.begin_write(1, plan.all()))),
-    ("a WRITE's last reply set done, and its entry: 3 steps", 3, |servers| {
+pub const BY_SERVERS: [Case; 6] = [
+    case("begin a WRITE", goals::SHORT, 1, |servers| after_64(2, servers, |plan| plan.begin_write(1, plan.all()))),
+    case("a WRITE's last reply set done, and its entry: 3 steps", goals::SHORT, 3, |servers| {
         after_64(2, servers, |plan| plan.write(1, plan.all()))
     }),
-    ("begin a READ, A", 1, |servers| after_64(1, servers, |plan| plan.begin_read(0, plan.all()))),
-    ("begin a READ, C", 1, |servers| after_64(3, servers, |plan| plan.begin_read(0, plan.all()))),
-    ("A's last reply", 1, |servers| after_64(1, servers, read_to_end)),
-    ("C's last reply", 1, |servers| after_64(3, servers, read_to_end)),
+    case("begin a READ, C", goals::SHORT, 1, |servers| after_64(3, servers, |plan| plan.begin_read(0, plan.all()))),
+    case("reply keys", goals::SHORT, 1, |servers| after_64(2, servers, |plan| read_keys(plan, plan.all()))),
+    case("B's last reply", goals::LAST_GOT, 1, |servers| after_64(2, servers, read_to_end)),
+    case("C's last reply", goals::CHOICE, 1, |servers| after_64(3, servers, read_to_end)),
 ];
 
 pub fn report(clock: &Clock, library: StoreLibrary) {
@@ -62,19 +81,19 @@ fn heads(sizes: &[String]) -> Vec<&str> {
     ["step", "side"].into_iter().chain(sizes.iter().map(String::as_str)).collect()
 }
 
-/// Three rows a case: proved, Rust and their ratio.
+/// Three rows a case: proved, fast and their ratio.
 fn rows(clock: &Clock, library: StoreLibrary, cases: &[Case], sizes: &[usize]) -> Vec<Vec<String>> {
-    let plan_of = |&(_, steps, plan_of): &Case, &size: &usize| (plan_of(size), steps);
+    let plan_of = |case: &Case, &size: &usize| ((case.plan)(size), case.steps);
     let plans: Vec<(Plan, usize)> = cases.iter().flat_map(|case| sizes.iter().map(move |size| plan_of(case, size))).collect();
     let times = least_of_passes(&plans, |(plan, steps)| last_steps(clock, library, plan, *steps, ROUNDS));
     let mut rows = Vec::new();
-    for ((name, ..), times) in cases.iter().zip(times.chunks(sizes.len())) {
-        let row = |name: &str, side: &str, cell: fn(&[f64; 2]) -> String| {
+    for (case, times) in cases.iter().zip(times.chunks(sizes.len())) {
+        let row = |name: &str, side: &str, cell: &dyn Fn(&[f64; 2]) -> String| {
             [name.to_string(), side.to_string()].into_iter().chain(times.iter().map(cell)).collect()
         };
-        rows.push(row(name, "inner", |&[proved, _]| time(proved)));
-        rows.push(row("", "Rust", |&[_, rust]| time(rust)));
-        rows.push(row("", "ratio", |&[proved, rust]| ratio(proved, rust, GOAL)));
+        rows.push(row(case.name, "inner", &|&[proved, _]| time(proved)));
+        rows.push(row("", "fast", &|&[_, fast]| time(fast)));
+        rows.push(row("", "ratio", &|&[proved, fast]| ratio(proved, fast, case.goal)));
     }
     rows
 }
@@ -100,36 +119,36 @@ fn written(method: u32, servers: u32, mask: u32, entries: usize) -> Plan {
     plan
 }
 
+/// A READ under B up to the keys' arrival.
+fn read_keys(plan: &mut Plan, mask: u32) {
+    plan.begin_read(0, mask);
+    plan.request(0, COORDINATOR);
+    plan.reply(0, COORDINATOR);
+}
+
 fn untouched_server(entries: usize) -> Plan {
-    let mut plan = written(1, 2, 1, entries);
-    plan.begin_read(0, 2);
+    let mut plan = written(2, 2, 1, entries);
+    read_keys(&mut plan, 2);
     plan
 }
 
 fn untouched_servers(entries: usize) -> Plan {
-    let mut plan = written(1, 16, 1, entries);
-    plan.begin_read(0, plan.all());
-    plan
-}
-
-fn keys_of_untouched(entries: usize) -> Plan {
     let mut plan = written(2, 16, 1, entries);
-    plan.begin_read(0, plan.all());
-    plan.request(0, COORDINATOR);
-    plan.reply(0, COORDINATOR);
+    let all = plan.all();
+    read_keys(&mut plan, all);
     plan
 }
 
 fn newest_version(entries: usize) -> Plan {
-    let mut plan = written(1, 1, 1, entries);
-    plan.begin_read(0, 1);
+    let mut plan = written(2, 1, 1, entries);
+    read_keys(&mut plan, 1);
     plan.request(0, 0);
     plan
 }
 
 /// A WRITE up to the delivery of its set or its enter, which finds so many versions and entries; 255 where no place would be left.
 fn new_key(entries: usize, target: usize) -> Plan {
-    let mut plan = written(1, 1, 1, entries.min(255));
+    let mut plan = written(2, 1, 1, entries.min(255));
     plan.begin_write(1, 1);
     plan.request(1, 0);
     if target == COORDINATOR {
