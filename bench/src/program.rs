@@ -10,7 +10,7 @@ use std::process::{Command, Stdio};
 use std::time::Instant;
 
 pub const LINES: usize = 100_000;
-const RUNS: usize = 15;
+const RUNS: usize = 60;
 const HEADS: [&str; 5] =
     ["schedule of 100,000 lines", "bytes", "proved, lines a second", "fast, lines a second", "times as long"];
 

@@ -1,12 +1,14 @@
 //! Each kind of step: on tables known to be sound, and through the public step that checks them.
 
-use crate::clock::{beside, Clock, PASSES};
+use crate::clock::{beside, least_of_passes, Clock, PASSES};
 use crate::goals;
 use crate::plans::{in_turn, Plan};
 use crate::sides::{measured, opened_tables, Measured};
 use crate::table::{print, ratio, time};
 use bench::fast::calls;
 use ffi::StoreLibrary;
+use model::Step;
+use std::hint::black_box;
 
 const HEADS: [&str; 7] = ["step", "inner ns", "fast ns", "ratio", "checked ns", "fast ns", "ratio"];
 /// The methods that presses are opened by.
@@ -33,6 +35,39 @@ pub fn report(clock: &Clock, library: StoreLibrary) {
             format!("Steps, {servers} servers and {clients} clients, {times} WRITEs and {times} READs of all servers in turn");
         print(&title, &HEADS, &rows(library, plans, results));
     }
+    let plans: Vec<&Plan> = presses.iter().flat_map(|(plans, _)| plans).collect();
+    let times = least_of_passes(&plans, |plan| whole_plan(library, plan));
+    let rows: Vec<Vec<String>> = plans.iter().zip(times).map(whole_row).collect();
+    print("Whole plans from their openings, without fences, ns a step", &["plan", "inner ns", "fast ns", "ratio"], &rows);
+}
+
+/// The mean of a plan's steps, one behind the other: where the counter is coarse it tells more than single steps do.
+fn whole_plan(library: StoreLibrary, plan: &Plan) -> [f64; 2] {
+    let mut tables = opened_tables(library, &plan.opening);
+    let mut fast_tables = tables.clone();
+    // The steps start at an opening, and steps keep tables sound.
+    let proved = || {
+        library.number(&mut tables, &plan.opening);
+        for step in &plan.steps {
+            black_box(unsafe { library.number_sound(&mut tables, step) });
+        }
+    };
+    let fast = || {
+        calls::number_checked(&mut fast_tables, &plan.opening);
+        for step in &plan.steps {
+            black_box(unsafe { calls::number(&mut fast_tables, step) });
+        }
+    };
+    let (proved, fast) = beside(proved, fast);
+    [proved, fast].map(|time| time / (1 + plan.steps.len()) as f64)
+}
+
+fn whole_row((plan, [proved, fast]): (&&Plan, [f64; 2])) -> Vec<String> {
+    let Step::Open { method, servers, clients, .. } = plan.opening else {
+        unreachable!("openings open");
+    };
+    let name = format!("method {method}, {servers} servers, {clients} clients");
+    vec![name, time(proved), time(fast), ratio(proved, fast, goals::NONE)]
 }
 
 fn one_press(clock: &Clock, library: StoreLibrary, plans: &[Plan], rounds: usize) -> Vec<Measured> {
