@@ -139,7 +139,7 @@ fn table<C: Codec>(
     let heads: Vec<String> = ["kind", "entries", "bytes"]
         .map(String::from)
         .into_iter()
-        .chain([written, read].iter().flat_map(|what| [of(FrameLibrary::NAME, what), of(C::NAME, what), "times as long".into()]))
+        .chain([written, read].iter().flat_map(|what| [of(FrameLibrary::NAME, what), of(C::NAME, what), "ratio".into()]))
         .collect();
     let heads: Vec<&str> = heads.iter().map(String::as_str).collect();
     let times = least_of_passes(&FRAMES, |&(kind, entries)| one_kind(library, other, kind, entries));

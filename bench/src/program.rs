@@ -11,15 +11,14 @@ use std::time::Instant;
 
 pub const LINES: usize = 100_000;
 const RUNS: usize = 60;
-const HEADS: [&str; 5] =
-    ["schedule of 100,000 lines", "bytes", "proved, lines a second", "fast, lines a second", "times as long"];
+const HEADS: [&str; 5] = ["schedule of 100,000 lines", "bytes", "proved, lines a second", "fast, lines a second", "ratio"];
 
 /// The schedules by their names; the first has no line.
 pub fn schedules() -> [(&'static str, Vec<u8>); 6] {
     [
         ("no line at all", Vec::new()),
         ("random: begins, deliveries, refused and unreadable lines, many openings", random()),
-        ("accepted steps alone, method B, 4 servers, 4 clients, opened anew every 60 WRITEs and READs", accepted(2, 4, 4, 60)),
+        ("accepted steps, method B, 4 servers, 4 clients, opened anew every 60 WRITEs and READs", accepted(2, 4, 4, 60)),
         ("the same under method C", accepted(3, 4, 4, 60)),
         ("the same under method C with 16 servers, 16 clients and 255 each", accepted(3, 16, 16, 255)),
         ("lines that are no step", b"? 1 2\n".repeat(LINES)),
