@@ -45,7 +45,7 @@ pub unsafe fn play(places: [*mut u32; 8], lengths: [usize; 8], seed: u32, length
             break;
         }
         end.seed = end.seed.wrapping_mul(1_664_525).wrapping_add(1_013_904_223);
-        *row = acceptable.picked((end.seed >> 16) * count >> 16, begins, &tables);
+        *row = acceptable.picked(((end.seed >> 16) * count) >> 16, begins, &tables);
         end.steps += 1;
         acceptable.take(places, *row);
     }
@@ -118,8 +118,7 @@ impl Acceptable {
         [kind, client as u32, nth(links[client & 15], place), 0]
     }
 
-    /// Takes a step that is acceptable. Another client's steps change only where a set or an enter was stored: they may find it, or no
-    /// place.
+    /// Takes a step that is acceptable.
     #[inline(always)]
     unsafe fn take(&mut self, places: [*mut u32; 8], [kind, client, second, setpoint]: [u32; STEP_WORDS]) {
         let t = || Sound::at(places);
@@ -132,24 +131,25 @@ impl Acceptable {
             BEGIN_READ => {
                 steps::begin_read(t(), client, second);
             }
-            DELIVER_REQUEST => {
-                let stores = matches!(t().clients[client as usize].state, WRITING | ENTERING);
-                steps::deliver_request(t(), client, second);
-                if stores {
-                    let t = t();
-                    (0..t.clients.len()).for_each(|other| self.look_again(&t, other, second as usize));
-                }
-            }
+            DELIVER_REQUEST => return self.deliver_request(places, client, second),
             _ => {
                 steps::deliver_reply(t(), client, second);
-                return self.look_at(&t(), client as usize);
             }
         }
-        if kind == DELIVER_REQUEST {
-            self.put(0, client as usize, self.requests[client as usize] & !(1 << second));
-            self.put(1, client as usize, self.replies[client as usize] | 1 << second);
-        } else {
-            self.look_at(&t(), client as usize);
+        self.look_at(&t(), client as usize);
+    }
+
+    /// A request becomes a reply. Other clients' steps change only where a set or an enter was stored: they may find it, or no place.
+    #[inline(always)]
+    unsafe fn deliver_request(&mut self, places: [*mut u32; 8], client: u32, target: u32) {
+        let stores = matches!(Sound::at(places).clients[client as usize].state, WRITING | ENTERING);
+        steps::deliver_request(Sound::at(places), client, target);
+        let (client, target) = (client as usize, target as usize);
+        self.put(0, client, self.requests[client] & !(1 << target));
+        self.put(1, client, self.replies[client] | 1 << target);
+        if stores {
+            let t = Sound::at(places);
+            (0..t.clients.len()).for_each(|other| self.look_again(&t, other, target));
         }
     }
 
