@@ -134,7 +134,7 @@ extern "C" {
 #define SETPOINT_REFUSAL_BAD_OPENING 1u /* method, k or p wrong; not k setpoints */
 #define SETPOINT_REFUSAL_UNSOUND 2u /* tables not sound; opening: too short */
 #define SETPOINT_REFUSAL_NO_SUCH_PLACE 3u /* no such panel or target */
-#define SETPOINT_REFUSAL_WRONG_PART 4u /* method 1: panel 0 writes, another reads */
+#define SETPOINT_REFUSAL_RETIRED 4u /* Saved tables of method 1 …; nothing new begins on them */
 #define SETPOINT_REFUSAL_BUSY 5u /* panel not idle */
 #define SETPOINT_REFUSAL_BAD_MASK 6u /* mask zero or beyond k; not k setpoints in a WRITE */
 #define SETPOINT_REFUSAL_EXHAUSTED 7u /* 255 WRITEs (or, for a READ, READs) begun; any step but an opening at step number 2^32 - 1 */

@@ -1,4 +1,4 @@
-/* How much stack the exported functions use: a load is played to its end on the largest press under each method, on a stack filled with a
+/* How much stack the exported functions use: a load is played to its end on the largest press under B and under C, on a stack filled with a
    pattern. Before each delivery its frame is written and read, behind each 64th step the tables are checked and the register is listed.
    It is a measurement: it tells what these calls used, and proves nothing of others. bindings/run runs it. */
 #define _DEFAULT_SOURCE
@@ -53,7 +53,7 @@ static void take(setpoint_tables *tables, const setpoint_load_pick *pick) {
 
 static void play(void) {
     setpoint_tables tables = setpoint_tables_in(words, STATIONS, PANELS);
-    for (uint32_t method = 1; method <= 3; method++) {
+    for (uint32_t method = 2; method <= 3; method++) {
         uint32_t seed = SEED;
         need(setpoint_store_open(&tables, method, STATIONS, PANELS, setpoints, STATIONS) == SETPOINT_OK);
         for (;;) {

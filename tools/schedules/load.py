@@ -29,11 +29,10 @@ class Press:
         return all(link == NOTHING for link in self.links[panel])
 
     def may_write(self, panel):
-        """ "Under 1 panel 0 is the head [...]; it only reads; the others only write" """
-        return self.idle(panel) and sum(self.counts) < MOST_BEGUN and (self.method != 1 or panel != 0)
+        return self.idle(panel) and sum(self.counts) < MOST_BEGUN
 
     def may_read(self, panel):
-        return self.idle(panel) and self.reads < MOST_BEGUN and (self.method != 1 or panel == 0)
+        return self.idle(panel) and self.reads < MOST_BEGUN
 
     def acceptable(self):
         """ "WRITEs to all stations by panel, READs of all by panel, then requests, then replies, by panel and target" """
@@ -59,8 +58,8 @@ class Press:
             return " ".join(map(str, ["W", panel, everywhere, 0, *[self.counts[panel]] * self.k]))
         if letter == "R":
             self.reads += 1
-            # A asks the stations; B the head and then the stations; C all together
-            self.rounds[panel] = {1: [stations], 2: [[HEAD], stations], 3: [[*stations, HEAD]]}[self.method]
+            # B asks the head and then the stations; C all together
+            self.rounds[panel] = {2: [[HEAD], stations], 3: [[*stations, HEAD]]}[self.method]
             self.send(panel)
             return f"R {panel} {everywhere}"
         # "Each delivery moves one link: request to reply, or reply to nothing."
@@ -94,10 +93,11 @@ ASKED = {
     "nothing": ("5 0 3 2 2", None),
     "cut": ("7 500 2 4 4", None),
     "most": ("4294967295 400 3 16 16", None),
-    "a-to-its-end": ("1 4294967295 1 1 2", None),
-    "b-to-its-end": ("2 100000 2 1 2", None),
+    "b-to-its-end": ("2 4294967295 2 1 2", None),
     "c-to-its-end": ("3 100000 3 1 2", None),
-    "refused": ("0 10 1 1 1", "no 1"),  # method 1 wants two panels
+    "refused": ("0 10 3 17 1", "no 1"),  # k to 16
+    "method-1": ("1 4294967295 1 1 2", "no 1"),  # "An opening with method 1 returns 1"
+    "method-1-alone": ("0 0 1 1 1", "no 1"),
     "leading-zero": ("07 10 2 1 2", "no 13"),
     "four-numbers": ("7 10 2 1", "no 13"),
     "beyond-32-bits": ("4294967296 10 2 1 2", "no 13"),
@@ -111,6 +111,6 @@ def files():
     for name, (line, refused) in ASKED.items():
         lines = [refused] if refused else made(*map(int, line.split()))
         if name.endswith("to-its-end"):
-            # 255 WRITEs and 255 READs of one station: 5 steps each, but a READ under A 3
-            assert len(lines) == 1 + (255 * 5 + 255 * 3 if name.startswith("a") else 255 * 5 + 255 * 5)
+            # 255 WRITEs and 255 READs of one station: 5 steps each
+            assert len(lines) == 1 + 255 * 5 + 255 * 5
         yield name, f"{line}\n".encode(), "".join(f"{line}\n" for line in lines).encode()

@@ -15,7 +15,7 @@ use Rattle.tables.specs.Links.{targets}
 use Rattle.tables.specs.Tables.{Tables, methodOf, serversOf, clientsOf, stepOf, writesOf, readsOf, stateOf}
 use Rattle.rules.specs.Common.{idle, coordinator}
 use Rattle.soundness.specs.Sound.{longEnough, pressFits, holding, sound}
-use Rattle.soundness.specs.Facts.{Long, long-facts, Press, press-facts, Sound}
+use Rattle.soundness.specs.Facts.{Long, long-facts, Press, press-facts, Sound, sound-facts}
 use Rattle.soundness.specs.Room.{few-servers, server-fits}
 use Rattle.rules.specs.Begin.{begunRead}
 use Rattle.refusals.specs.Refusals.{isRetired, openFault, pressOpens, openRefusal, beginFault, writeFaultIf, readFaultIf, writeRefusal}
@@ -109,6 +109,12 @@ passed absent barred free fits spent e =
 unbarred : (m : ℕ) (b : Bool) → isRetired m ≡ false → (isRetired m && b) ≡ false
 unbarred m b e = rw e
 
+-- a begin that is accepted is not barred
+module _ (t : Tables) (absent barred free fits spent : Bool)
+    (e : cond (not (sound t)) 2 (beginFault absent barred free fits spent) ≡ 0) where
+  allowed : barred ≡ false
+  allowed = passed absent barred free fits spent (has (sound t) 1 (beginFault absent barred free fits spent) e .1) .allowed
+
 module _ (q mask : ℕ) (setpoints : List ℕ) (t : Tables) where
   writes : (barred : Bool) → cond (not (sound t)) 2 (writeFaultIf barred q mask (length setpoints) t) ≡ 0 →
       (barred ≡ false → (eqb (methodOf t) 1 && eqb q 0) ≡ false) → Writable q mask setpoints t
@@ -134,6 +140,13 @@ module _ (q mask : ℕ) (setpoints : List ℕ) (t : Tables) where
   pub writable : writeRefusal q mask setpoints t ≡ 0 → Writable q mask setpoints t
   unfolding writeRefusal
   writable e = writes (isRetired (methodOf t)) e (unbarred (methodOf t) (eqb q 0))
+
+  pub write-current : writeRefusal q mask setpoints t ≡ 0 → isRetired (methodOf t) ≡ false
+  unfolding writeRefusal
+  write-current e =
+      let fits = maskWithin mask (serversOf t) && eqb (length setpoints) (serversOf t) in
+      let spent = leb recordPlaces (writesOf t) || atLastStep t in
+      allowed t (leb (clientsOf t) q) (isRetired (methodOf t)) (eqb (stateOf t q) idle) fits spent e
 
   pub former-writable : formerWriteRefusal q mask setpoints t ≡ 0 → Writable q mask setpoints t
   unfolding formerWriteRefusal
@@ -168,18 +181,26 @@ module _ (q mask : ℕ) (t : Tables) where
   unfolding formerReadRefusal
   former-readable e = reads (eqb (methodOf t) 1 && not (eqb q 0)) e (λ b. b)
 
-  -- a READ that today's rules accept began the same by the former: its method is not 1
-  pub as-formerly : readRefusal q mask t ≡ 0 → formerlyBegunRead q mask t ≡ begunRead q mask t
-  unfolding readRefusal formerlyBegunRead begunRead
-  as-formerly e =
-      let barred = isRetired (methodOf t) in
+  -- "nothing new begins on them": the method of a READ that today's rules accept is not 1
+  pub read-current : readRefusal q mask t ≡ 0 → isRetired (methodOf t) ≡ false
+  unfolding readRefusal
+  read-current e =
       let free = eqb (stateOf t q) idle in
-      let fits = maskWithin mask (serversOf t) in
       let spent = leb recordPlaces (readsOf t) || atLastStep t in
-      let fault = beginFault (leb (clientsOf t) q) barred free fits spent in
-      rw (passed (leb (clientsOf t) q) barred free fits spent (has (sound t) 1 fault e .1) .allowed)
+      allowed t (leb (clientsOf t) q) (isRetired (methodOf t)) free (maskWithin mask (serversOf t)) spent e
+
+  -- so it began the same by the former
+  pub as-formerly : readRefusal q mask t ≡ 0 → formerlyBegunRead q mask t ≡ begunRead q mask t
+  unfolding formerlyBegunRead begunRead
+  as-formerly e = rw (read-current e)
 
 module _ (q i : ℕ) (t : Tables) where
+  -- the tables of a delivery that is accepted are sound
+  pub delivery-sound : deliveryRefusal q i t ≡ 0 → Sound t
+  unfolding deliveryRefusal
+  delivery-sound e =
+      sound-facts t (has (sound t) 1 (cond (leb (clientsOf t) q || not (isTarget t i)) 3 (cond (atLastStep t) 7 0)) e .0)
+
   pub deliverable : deliveryRefusal q i t ≡ 0 → Deliverable q i t
   unfolding deliveryRefusal
   deliverable e =

@@ -1,4 +1,5 @@
--- An accepted begin of a READ keeps sound tables sound, by each method, A's too, which the former rules accept: the client sends a round, and its record stands in the next place.
+-- An accepted begin of a READ keeps sound tables sound, by each method, A's too, which the former rules accept: the client sends a round,
+-- and its record stands in the next place.
 use Prim.Native.Nat.{ℕ, _+_, _≤_, _<_}
 use mathlib.Core.Path.{_≡_, refl, sym, _∙_}
 use mathlib.Core.Bool.{true, false, not, _&&_, _||_, or-true, or-false}

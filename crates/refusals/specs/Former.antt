@@ -1,6 +1,6 @@
--- Method A's opening and begins, "the rules as they stood before this request, kept as definitions for it". No function goes by them. They say
--- which runs of method A the members' promise is of: those "whose opening and accepted begins go by the rules as they stood before this
--- request … and whose other steps, refused begins too, go by these" (`serial/Former`).
+-- Method A's opening and begins, "the rules as they stood before this request, kept as definitions for it". No function goes by them.
+-- They say which runs of method A the members' promise is of: those "whose opening and accepted begins go by the rules as they stood
+-- before this request … and whose other steps, refused begins too, go by these" (`serial/Former`).
 use Prim.Native.Nat.{ℕ, zero, suc, _-_}
 use mathlib.Core.Bool.{cond, not, _&&_}
 use mathlib.Core.List.{List}

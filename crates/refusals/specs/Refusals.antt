@@ -15,7 +15,7 @@ use Rattle.soundness.specs.Sound.{longEnough, pressFits, sound}
 abbrev pub openFault : Bool → ℕ → ℕ → List ℕ → Tables → ℕ
 openFault fits k p setpoints t = cond (not (fits && eqb (length setpoints) k)) 1 (cond (not (longEnough k p t)) 2 0)
 
--- "Method A retired": tables of method 1 may be there, and nothing new begins on them
+-- "Method A retired": tables of method 1 may be there still
 abbrev pub isRetired : ℕ → Bool
 isRetired method = eqb method 1
 
@@ -30,7 +30,7 @@ openRefusal method k p setpoints t = openFault (pressOpens method k p) k p setpo
 abbrev pub atLastStep : Tables → Bool
 atLastStep t = leb lastStep (stepOf t)
 
--- 3 "no such panel or target", 4 barred by the method, 5 "panel not idle",
+-- 3 "no such panel or target", 4 barred by the method of the tables, 5 "panel not idle",
 -- 6 "mask zero or beyond k; not k setpoints in a WRITE", 7 "255 WRITEs (or, for a READ, READs) begun; any step … at step number 2^32 − 1"
 abbrev pub beginFault : Bool → Bool → Bool → Bool → Bool → ℕ
 beginFault absent barred free fits spent = cond absent 3 (cond barred 4 (cond (not free) 5 (cond (not fits) 6 (cond spent 7 0))))
@@ -42,9 +42,10 @@ writeFaultIf barred q mask given t =
 
 abbrev pub readFaultIf : Bool → ℕ → ℕ → Tables → ℕ
 readFaultIf barred q mask t =
-    beginFault (leb (clientsOf t) q) barred (eqb (stateOf t q) idle) (maskWithin mask (serversOf t)) (leb recordPlaces (readsOf t) || atLastStep t)
+    beginFault (leb (clientsOf t) q) barred (eqb (stateOf t q) idle) (maskWithin mask (serversOf t))
+    (leb recordPlaces (readsOf t) || atLastStep t)
 
--- "any begin on such tables returns 4"
+-- "Saved tables of method 1 …; nothing new begins on them": "any begin on such tables returns 4"
 abbrev pub writeFault : ℕ → ℕ → ℕ → Tables → ℕ
 writeFault q mask given t = writeFaultIf (isRetired (methodOf t)) q mask given t
 

@@ -59,8 +59,8 @@ pub not-anew : SendsAgain anew → ⊥
 unfolding zeros store.open′ store.beginWrite store.beginRead store.deliverRequest store.deliverReply store.lose openRefusal writeRefusal
     readRefusal deliveryRefusal longEnough pressFits turns sound scalarsSound keyInRange serverSound entrySound logSound stateAllowed
     uses requestSound replySound contentSound linkSound receivedSound clientSound writeSound readSound openSound recordsSound allBelow
-    anyBelow sumBelow linkAt putLink firstFrom lastBelow appended log.entered begunWrite begunRead onSet onNewSet onEnter onNewEnter onWhichKeys
-    onRequestIn requestDelivered onSetDone onKeys onReplyIn replyDelivered linkLost
+    anyBelow sumBelow linkAt putLink firstFrom lastBelow appended log.entered begunWrite begunRead onSet onNewSet onEnter onNewEnter
+    onWhichKeys onRequestIn requestDelivered onSetDone onKeys onReplyIn replyDelivered linkLost
 not-anew claim =
     let run = claim (opening 2 2 2 (1200 ∷ 30 ∷ [])) zeros 2 2 2 (1200 ∷ 30 ∷ []) refl steps 0 0 in
     let one : _≡_ {A = ℕ} 1 0 = ap count (run .1 .1 .1 .1 .1 .1 .1 .1 .0 refl refl) in

@@ -1,12 +1,12 @@
 -- Laws of `Words`, over every field: which words a client's row has after words were kept, and which a row of 16 shows.
 use Prim.Native.Nat.{ℕ, zero, suc, _+_, _*_, _≤_, _<_}
-use mathlib.Core.Path.{_≡_, refl, _∙_, ap}
+use mathlib.Core.Path.{_≡_, refl, _∙_}
 use mathlib.Core.Bool.{Bool, true, false, cond}
-use mathlib.Core.List.{List, [], _∷_}
+use mathlib.Core.List.{List}
 use native.Mathlib.Omega.{arith}
 use native.Mathlib.Numerals.{add-one}
-use lib.ListN.{getD, set, length, replicate, length-set}
-use lib.Seq.{getD-set-same, getD-set-other}
+use lib.ListN.{getD, length, replicate, length-set}
+use lib.Seq.{getD-set-same, getD-set-other, set-comm}
 use Rattle.ranges.specs.Tests.{either}
 use Rattle.ranges.specs.All.{allBelow}
 use Rattle.ranges.specs.AllLaws.{all-at}
@@ -73,18 +73,11 @@ module _ (field q : ℕ) (wanted wanted′ : ℕ → Bool) (word word′ : ℕ �
       (same-turn (wanted′ k) k (f k (omega arith)) (kept-same k (λ i l. e i (omega arith)) (λ i l. f i (omega arith))))
 
 -- Words kept from two fields on, one behind the other: a loop may keep both of a server in one turn.
-set-swap : (l : List ℕ) (i j a b : ℕ) → (i ≡ j → ⊥) → set (set l i a) j b ≡ set (set l j b) i a
-set-swap [] i j a b d = refl
-set-swap (x ∷ xs) zero zero a b d = absurd (d refl)
-set-swap (x ∷ xs) zero (suc j) a b d = refl
-set-swap (x ∷ xs) (suc i) zero a b d = refl
-set-swap (x ∷ xs) (suc i) (suc j) a b d = rw (set-swap xs i j a b (λ e. d (ap suc e)))
-
 module _ (field field′ : ℕ) (wanted : ℕ → Bool) (word word′ : ℕ → ℕ) (q : ℕ) where
   swap-turn : (b : Bool) (i f v : ℕ) (xs : List ℕ) {ys : List ℕ} → f < field′ + i → ys ≡ putClientWord xs q f v →
       cond b (keepWord field′ word′ q i ys) ys ≡ putClientWord (cond b (keepWord field′ word′ q i xs) xs) q f v
   swap-turn true i f v xs l e =
-      rw e (set-swap xs (clientWidth * q + f) (clientWidth * q + (field′ + i)) v (word′ i) (λ z. omega arith))
+      rw e (set-comm xs (clientWidth * q + f) (clientWidth * q + (field′ + i)) v (word′ i) (λ z. omega arith))
   swap-turn false i f v xs l e = e
 
   -- a word ahead of the field may be put before the words are kept, or behind

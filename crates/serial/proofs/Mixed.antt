@@ -1,4 +1,4 @@
--- What today's steps keep, and the accepted openings and begins of the former rules, the mixed machine keeps: one law for every claim of it.
+-- What today's steps keep, and the accepted openings and begins of the former rules, the mixed machine keeps: one law for every claim.
 use Prim.Native.Nat.{ℕ}
 use mathlib.Core.List.{List}
 use Rattle.tables.specs.Tables.{Tables}

@@ -21,7 +21,8 @@ NotEight n = n ≡ 8 → ⊥
 pub open-number : (method k p : ℕ) (setpoints : List ℕ) (t : Tables) → NotEight (openRefusal method k p setpoints t)
 unfolding openRefusal
 open-number method k p setpoints t =
-    either NotEight (not (pressOpens method k p && eqb (length setpoints) k)) (λ e. omega arith) (either NotEight (not (longEnough k p t)) (λ e. omega arith) (λ e. omega arith))
+    either NotEight (not (pressOpens method k p && eqb (length setpoints) k)) (λ e. omega arith)
+    (either NotEight (not (longEnough k p t)) (λ e. omega arith) (λ e. omega arith))
 
 begin-number : (absent barred free fits spent : Bool) → NotEight (beginFault absent barred free fits spent)
 begin-number absent barred free fits spent =
@@ -36,13 +37,15 @@ module _ (t : Tables) (q : ℕ) where
   unfolding writeRefusal
   write-number mask setpoints =
       either NotEight (not (sound t)) (λ e. omega arith)
-      (begin-number (leb (clientsOf t) q) (isRetired (methodOf t)) (eqb (stateOf t q) idle) (maskWithin mask (serversOf t) && eqb (length setpoints) (serversOf t)) (leb recordPlaces (writesOf t) || atLastStep t))
+      (begin-number (leb (clientsOf t) q) (isRetired (methodOf t)) (eqb (stateOf t q) idle)
+      (maskWithin mask (serversOf t) && eqb (length setpoints) (serversOf t)) (leb recordPlaces (writesOf t) || atLastStep t))
 
   pub read-number : (mask : ℕ) → NotEight (readRefusal q mask t)
   unfolding readRefusal
   read-number mask =
       either NotEight (not (sound t)) (λ e. omega arith)
-      (begin-number (leb (clientsOf t) q) (isRetired (methodOf t)) (eqb (stateOf t q) idle) (maskWithin mask (serversOf t)) (leb recordPlaces (readsOf t) || atLastStep t))
+      (begin-number (leb (clientsOf t) q) (isRetired (methodOf t)) (eqb (stateOf t q) idle) (maskWithin mask (serversOf t))
+      (leb recordPlaces (readsOf t) || atLastStep t))
 
   pub delivery-number : (i : ℕ) → NotEight (deliveryRefusal q i t)
   unfolding deliveryRefusal

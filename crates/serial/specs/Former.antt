@@ -1,6 +1,6 @@
--- "What the members were promised of a method A run holds for runs whose opening and accepted begins go by the rules as they stood before
--- this request, kept as definitions for it, and whose other steps, refused begins too, go by these": the machine of such runs. Its steps are
--- today's, and openings and begins by the former rules (`refusals/Former`); it plays every method, and A's runs among them.
+-- "What the members were promised of a method A run holds for runs whose opening and accepted begins go by the rules as they stood
+-- before this request, kept as definitions for it, and whose other steps, refused begins too, go by these": the machine of such runs. Its
+-- steps are today's, and openings and begins by the former rules (`refusals/Former`); it plays every method, and A's runs among them.
 use Prim.Native.Nat.{ℕ}
 use mathlib.Core.List.{List}
 use Rattle.refusals.specs.Former.{formerOpen, formerBeginWrite, formerBeginRead}

@@ -68,8 +68,8 @@ unfolding zeros start sample changed inserted readsOf rowTo store.open′ store.
 sample-row = refl
 
 -- "A READ now shows with each setpoint the tag of the WRITE that put it there, 0 for the opening": one WRITE of server 0 alone, from its
--- begin to its end, and then a READ of both servers. Client 0 reads, since under A no other did; A's runs open and begin by the former rules,
--- which open and begin those of B and C as today's do. The WRITE has badge 7.
+-- begin to its end, and then a READ of both servers. Client 0 reads, since under A no other did; A's runs open and begin by the former
+-- rules, which open and begin those of B and C as today's do. The WRITE has badge 7.
 unfoldable pub startBy : ℕ → Tables
 startBy method = formerOpen method 2 2 (1200 ∷ 30 ∷ []) zeros .tables
 

@@ -123,7 +123,12 @@ module _ (base : Machine Step) where
   -- a READ shows the right setpoints, and with every one of them its own tag
   abbrev pub ownTag : Machine Step
   ownTag =
-      answering (inPlaceOfRead (λ t tag shown. record { arrival = Read tag; setpoints = shown .setpoints; tags = replicate 16 tag; badges = shown .badges }))
+      answering (inPlaceOfRead (λ t tag shown. record {
+        arrival = Read tag;
+        setpoints = shown .setpoints;
+        tags = replicate 16 tag;
+        badges = shown .badges;
+      }))
 
   -- a READ answers a tag too large
   abbrev pub tagTooLarge : Machine Step
@@ -191,7 +196,8 @@ module _ (base : Machine Step) where
 
   abbrev hurried : Arrival → ℕ → ℕ → Played → Played
   hurried Wait q i x =
-      cond (eqb (stateOf (x .tables) q) rules.writing) (record { event = replied q i (nothingShown Next); tables = entering q (x .tables) }) x
+      cond (eqb (stateOf (x .tables) q) rules.writing)
+      (record { event = replied q i (nothingShown Next); tables = entering q (x .tables) }) x
   hurried Next q i x = x
   hurried (Write tag) q i x = x
   hurried (Read tag) q i x = x

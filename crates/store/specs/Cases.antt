@@ -18,7 +18,8 @@ use Rattle.rules.specs.Reply.{said, replyDelivered}
 use Rattle.rules.specs.Loss.{linkLost, linkResent}
 use Rattle.soundness.specs.Sound.{sound, longEnough}
 use Rattle.soundness.specs.Facts.{Sound, facts-sound}
-use Rattle.refusals.specs.Refusals.{pressOpens, openRefusal, writeFault, writeRefusal, readFault, readRefusal, deliveryFault, deliveryRefusal}
+use Rattle.refusals.specs.Refusals.{pressOpens, openRefusal, writeFault, writeRefusal, readFault, readRefusal, deliveryFault}
+use Rattle.refusals.specs.Refusals.{deliveryRefusal}
 use Rattle.refusals.specs.Steps.{unless, unlessArrived, badgeOf, open′, beginWrite, beginRead, deliverRequest, deliverReply, lose, resend}
 use Rattle.keeping.specs.Accepted.{Openable, openable, Writable, writable, Readable, readable, Deliverable, deliverable}
 

@@ -15,7 +15,8 @@ use Rattle.rules.specs.Common.{askingSetpoints}
 use Rattle.rules.specs.Filled.{Fillable}
 use Rattle.soundness.specs.Sound.{uses, replySound, badgeSound, contentSound}
 use Rattle.soundness.specs.Facts.{Sound}
-use Rattle.soundness.specs.Room.{few-servers, server-fits, keys-row, values-row, client-fits, client-row, client-links, link-row, write-row, next-write, next-read}
+use Rattle.soundness.specs.Room.{few-servers, server-fits, keys-row, values-row, client-fits, client-row, client-links, link-row}
+use Rattle.soundness.specs.Room.{write-row, next-write, next-read}
 use Rattle.history.specs.Ready.{BeginReady}
 use Rattle.begins.specs.Ready.{AskReady, WriteReady}
 use Rattle.requests.specs.Ready.{AtServer, Asks, RequestReady}

@@ -11,7 +11,7 @@ use borrow.Author.Tests.{eq-eqb, ne-eqb}
 use Rattle.keys.specs.declared.Key.{Key}
 use Rattle.keys.specs.Keys.{keyWord, keyAtWord}
 use Rattle.keys.specs.KeyLaws.{word-back}
-use Rattle.tables.specs.Rows.{HasRow, place-one, row-same, row-other, row-length}
+use Rattle.tables.specs.Rows.{HasRow, place-one, row-same, row-other, row-length, row-swap}
 use Rattle.tables.specs.declared.links.Contents.{Contents}
 use Rattle.tables.specs.declared.links.Content.{Content}
 use Rattle.tables.specs.declared.links.Content.the-variants.{Nothing, Request, Reply, Lost}
@@ -77,6 +77,14 @@ module _ (links : List ℕ) (q i : ℕ) (content : Content) where
   pub link-length : length (putLink links q i content) ≡ length links
   unfolding putLink
   link-length = row-length linkWidth links (linkRow q i) (contentWords content)
+
+-- Two links at different targets may be put in either order.
+pub link-swap : (links : List ℕ) (q i r j : ℕ) (c d : Content) → i < targets → j < targets → (i ≡ j → ⊥) →
+    putLink (putLink links q i c) r j d ≡ putLink (putLink links r j d) q i c
+unfolding putLink
+link-swap links q i r j c d h g apart =
+    row-swap linkWidth links (linkRow q i) (linkRow r j) (contentWords c) (contentWords d)
+    (rw (words-four c) (omega arith)) (rw (words-four d) (omega arith)) (λ e. apart (place-one targets q i r j h g e .1))
 
 -- The cases of putting and of reading, as the code meets them.
 module _ (links : List ℕ) (q i : ℕ) where

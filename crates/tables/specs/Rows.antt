@@ -1,11 +1,11 @@
 -- A list of words in rows of w words: row r begins at word w * r.
 use Prim.Native.Nat.{ℕ, zero, suc, _+_, _*_, _≤_, _<_}
-use mathlib.Core.Path.{_≡_, refl, _∙_}
+use mathlib.Core.Path.{_≡_, refl, _∙_, ap}
 use mathlib.Core.List.{List, [], _∷_}
 use native.Mathlib.Nat.{mul-suc, mul-le-mul-left}
 use native.Mathlib.Omega.{arith}
 use lib.ListN.{getD, set, length, length-set}
-use lib.Seq.{getD-set-same, getD-set-other, sets, length-sets}
+use lib.Seq.{getD-set-same, getD-set-other, set-comm, sets, length-sets}
 use lib.Dec.{ltb}
 use borrow.Author.Tests.{ltb-true, ltb-false}
 use Rattle.ranges.specs.Tests.{by-equal, by-test}
@@ -84,3 +84,25 @@ module _ (w : ℕ) (xs : List ℕ) (r : ℕ) (row : List ℕ) where
 
   pub row-length : length (putRow w xs r row) ≡ length xs
   row-length = length-sets xs (w * r) row
+
+-- Two runs of words that have no place in common may be put in either order.
+set-swap : (row xs : List ℕ) (at j v : ℕ) → ((g : ℕ) → g < length row → j ≡ at + g → ⊥) →
+    sets (set xs j v) at row ≡ set (sets xs at row) j v
+set-swap [] xs at j v d = refl
+set-swap (u ∷ row) xs at j v d =
+    ap (λ (l : List ℕ). sets l (suc at) row) (set-comm xs j at v u (λ e. d 0 (omega arith) (omega arith)))
+    ∙ set-swap row (set xs at u) (suc at) j v (λ g l e. d (suc g) (omega arith) (omega arith))
+
+sets-swap : (row row′ xs : List ℕ) (at at′ : ℕ) →
+    ((f g : ℕ) → f < length row → g < length row′ → at + f ≡ at′ + g → ⊥) →
+    sets (sets xs at row) at′ row′ ≡ sets (sets xs at′ row′) at row
+sets-swap [] row′ xs at at′ d = refl
+sets-swap (v ∷ row) row′ xs at at′ d =
+    sets-swap row row′ (set xs at v) (suc at) at′ (λ f g l h e. d (suc f) g (omega arith) h (omega arith))
+    ∙ ap (λ (l : List ℕ). sets l (suc at) row) (set-swap row′ xs at′ at v (λ g h e. d 0 g (omega arith) h (omega arith)))
+
+-- So may two rows.
+pub row-swap : (w : ℕ) (xs : List ℕ) (r s : ℕ) (row row′ : List ℕ) → length row ≤ w → length row′ ≤ w → (r ≡ s → ⊥) →
+    putRow w (putRow w xs r row) s row′ ≡ putRow w (putRow w xs s row′) r row
+row-swap w xs r s row row′ l l′ d =
+    sets-swap row row′ xs (w * r) (w * s) (λ f g h h′ e. d (place-one w r f s g (omega arith) (omega arith) e .0))

@@ -4,7 +4,7 @@ use mathlib.Core.Path.{_≡_}
 use mathlib.Core.List.{List, [], _∷_}
 use native.Mathlib.Omega.{arith}
 use lib.ListN.{length}
-use Rattle.tables.specs.Rows.{wordAt, HasRow, place-one, row-same, row-other, row-length}
+use Rattle.tables.specs.Rows.{wordAt, HasRow, place-one, row-same, row-other, row-length, row-swap}
 use Rattle.tables.specs.Layout.{serverPlaces, valueWidth, valueRow, versionBadge, versionSetpoint, putValue}
 
 module _ (values : List ℕ) (i place badge setpoint : ℕ) where
@@ -26,3 +26,11 @@ module _ (values : List ℕ) (i place badge setpoint : ℕ) where
 
   pub value-length : length (putValue values i place badge setpoint) ≡ length values
   value-length = row-length valueWidth values (valueRow i place) row
+
+  -- one of another server may be put before it, or behind
+  pub value-swap : (j p badge′ setpoint′ : ℕ) → place < serverPlaces → p < serverPlaces → (i ≡ j → ⊥) →
+      putValue (putValue values i place badge setpoint) j p badge′ setpoint′ ≡
+      putValue (putValue values j p badge′ setpoint′) i place badge setpoint
+  value-swap j p badge′ setpoint′ h g d =
+      row-swap valueWidth values (valueRow i place) (valueRow j p) row (badge′ ∷ setpoint′ ∷ []) (omega arith) (omega arith)
+      (λ e. d (place-one serverPlaces i place j p h g e .0))

@@ -1,5 +1,4 @@
 -- `refusals::read_fault` meets its contract: each way out is one value of the tests in their order.
-use Prim.Native.Nat.{ℕ}
 use mathlib.Core.Path.{sym, ap, _∙_}
 use borrow.Author.Tests.{not-true}
 use Rattle.ranges.specs.Tests.{holds, most, above, is, is-not}
@@ -15,10 +14,31 @@ returns : tie.Need-returns
 returns c = λ links keys values log writes reads. rw (most (c .before .count-at .ensures) (c .if1 .taken))
 
 returns-2 : tie.Need-returns-2
-returns-2 c = λ links keys values log writes reads. rw (above (c .before .before .before .before .count-at .ensures) (c .before .before .before .if1 .left), ← c .before .before .count-at2 .ensures, sym (c .before .is-retired .ensures) ∙ c .if2 .taken)
+returns-2 c =
+    let at-is-retired = c .before in
+    let at-count-at2 = at-is-retired .before in
+    let at-if1 = at-count-at2 .before in
+    λ links keys values log writes reads.
+    rw (
+      above (at-if1 .before .count-at .ensures) (at-if1 .if1 .left),
+      ← at-count-at2 .count-at2 .ensures,
+      sym (at-is-retired .is-retired .ensures) ∙ c .if2 .taken,
+    )
 
 returns-3 : tie.Need-returns-3
-returns-3 c = λ links keys values log writes reads. rw (above (c .before .before .before .before .before .before .count-at .ensures) (c .before .before .before .before .before .if1 .left), ← c .before .before .before .before .count-at2 .ensures, sym (c .before .before .before .is-retired .ensures) ∙ c .before .before .if2 .left, is-not (c .before .client-word .ensures) (c .if3 .taken))
+returns-3 c =
+    let at-client-word = c .before in
+    let at-if2 = at-client-word .before in
+    let at-is-retired = at-if2 .before in
+    let at-count-at2 = at-is-retired .before in
+    let at-if1 = at-count-at2 .before in
+    λ links keys values log writes reads.
+    rw (
+      above (at-if1 .before .count-at .ensures) (at-if1 .if1 .left),
+      ← at-count-at2 .count-at2 .ensures,
+      sym (at-is-retired .is-retired .ensures) ∙ at-if2 .if2 .left,
+      is-not (at-client-word .client-word .ensures) (c .if3 .taken),
+    )
 
 returns-4 : tie.Need-returns-4
 returns-4 c =
@@ -30,8 +50,15 @@ returns-4 c =
     let at-is-retired = at-if2 .before in
     let at-count-at2 = at-is-retired .before in
     let at-if1 = at-count-at2 .before in
-    let at-count-at = at-if1 .before in
-    λ links keys values log writes reads. rw (above (at-count-at .count-at .ensures) (at-if1 .if1 .left), ← at-count-at2 .count-at2 .ensures, sym (at-is-retired .is-retired .ensures) ∙ at-if2 .if2 .left, is (at-client-word .client-word .ensures) (at-if3 .if3 .left), ← at-count-at3 .count-at3 .ensures, sym (at-mask-within .mask-within .ensures) ∙ not-true _ (c .if4 .taken))
+    λ links keys values log writes reads.
+    rw (
+      above (at-if1 .before .count-at .ensures) (at-if1 .if1 .left),
+      ← at-count-at2 .count-at2 .ensures,
+      sym (at-is-retired .is-retired .ensures) ∙ at-if2 .if2 .left,
+      is (at-client-word .client-word .ensures) (at-if3 .if3 .left),
+      ← at-count-at3 .count-at3 .ensures,
+      sym (at-mask-within .mask-within .ensures) ∙ not-true _ (c .if4 .taken),
+    )
 
 returns-5 : tie.Need-returns-5
 returns-5 c =
@@ -46,8 +73,14 @@ returns-5 c =
     let at-count-at2 = at-is-retired .before in
     let at-if1 = at-count-at2 .before in
     let at-count-at = at-if1 .before in
-    let start = at-count-at .before .before .before in
-    λ links keys values log writes reads. let a = start .args in refused-7 (above (at-count-at .count-at .ensures) (at-if1 .if1 .left)) (sym (at-is-retired .is-retired .ensures ∙ ap isRetired (at-count-at2 .count-at2 .ensures)) ∙ at-if2 .if2 .left) (is (at-client-word .client-word .ensures) (at-if3 .if3 .left)) (holds (at-mask-within .mask-within .ensures ∙ ap (λ (k : ℕ). maskWithin (a .mask) k) (at-count-at3 .count-at3 .ensures)) (at-if4 .if4 .left)) (sym (at-is-spent .is-spent .ensures) ∙ c .if5 .taken)
+    let a = at-count-at .before .before .before .args in
+    λ links keys values log writes reads.
+    refused-7
+    (above (at-count-at .count-at .ensures) (at-if1 .if1 .left))
+    (sym (at-is-retired .is-retired .ensures ∙ ap isRetired (at-count-at2 .count-at2 .ensures)) ∙ at-if2 .if2 .left)
+    (is (at-client-word .client-word .ensures) (at-if3 .if3 .left))
+    (holds (at-mask-within .mask-within .ensures ∙ ap (maskWithin (a .mask)) (at-count-at3 .count-at3 .ensures)) (at-if4 .if4 .left))
+    (sym (at-is-spent .is-spent .ensures) ∙ c .if5 .taken)
 
 returns-6 : tie.Need-returns-6
 returns-6 c =
@@ -62,10 +95,17 @@ returns-6 c =
     let at-count-at2 = at-is-retired .before in
     let at-if1 = at-count-at2 .before in
     let at-count-at = at-if1 .before in
-    let start = at-count-at .before .before .before in
-    λ links keys values log writes reads. let a = start .args in begins (above (at-count-at .count-at .ensures) (at-if1 .if1 .left)) (sym (at-is-retired .is-retired .ensures ∙ ap isRetired (at-count-at2 .count-at2 .ensures)) ∙ at-if2 .if2 .left) (is (at-client-word .client-word .ensures) (at-if3 .if3 .left)) (holds (at-mask-within .mask-within .ensures ∙ ap (λ (k : ℕ). maskWithin (a .mask) k) (at-count-at3 .count-at3 .ensures)) (at-if4 .if4 .left)) (sym (at-is-spent .is-spent .ensures) ∙ c .if5 .left)
+    let a = at-count-at .before .before .before .args in
+    λ links keys values log writes reads.
+    begins
+    (above (at-count-at .count-at .ensures) (at-if1 .if1 .left))
+    (sym (at-is-retired .is-retired .ensures ∙ ap isRetired (at-count-at2 .count-at2 .ensures)) ∙ at-if2 .if2 .left)
+    (is (at-client-word .client-word .ensures) (at-if3 .if3 .left))
+    (holds (at-mask-within .mask-within .ensures ∙ ap (maskWithin (a .mask)) (at-count-at3 .count-at3 .ensures)) (at-if4 .if4 .left))
+    (sym (at-is-spent .is-spent .ensures) ∙ c .if5 .left)
 
 pub read-fault-spec : {M : Type 1} → statement M
 read-fault-spec =
     tie.close
-    (tie.spec (λ c κs. search needs) returns (λ c κs. search needs) (λ c κs. search needs) returns-2 (λ c κs. search needs) returns-3 (λ c κs. search needs) (λ c κs. search needs) returns-4 (λ c κs. search needs) returns-5 returns-6)
+    (tie.spec (λ c κs. search needs) returns (λ c κs. search needs) (λ c κs. search needs) returns-2 (λ c κs. search needs) returns-3
+    (λ c κs. search needs) (λ c κs. search needs) returns-4 (λ c κs. search needs) returns-5 returns-6)

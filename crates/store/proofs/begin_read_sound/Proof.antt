@@ -28,7 +28,11 @@ returns-2 c =
     let at-read-fault = at-if1 .before in
     let start = at-read-fault .before .before .before .before .before .before .before .before .before .before .before in
     let a = start .args in
-    read-accepted (tablesOf (a .counts .now) (a .clients .now) (a .links .now) (a .keys .now) (a .values .now) (a .log .now) (a .writes .now) (a .reads .now)) (start .pre) (a .client) (a .mask) (at-read-fault .read-fault .ensures (a .links .now) (a .keys .now) (a .values .now) (a .log .now) (a .writes .now) (a .reads .now)) (at-if1 .if1 .left) (at-begin-read .begin-read .ensures (a .keys .now) (a .values .now) (a .log .now) (a .writes .now))
+    let t =
+    tablesOf (a .counts .now) (a .clients .now) (a .links .now) (a .keys .now) (a .values .now) (a .log .now) (a .writes .now) (a .reads .now) in
+    read-accepted t (start .pre) (a .client) (a .mask)
+    (at-read-fault .read-fault .ensures (a .links .now) (a .keys .now) (a .values .now) (a .log .now) (a .writes .now) (a .reads .now))
+    (at-if1 .if1 .left) (at-begin-read .begin-read .ensures (a .keys .now) (a .values .now) (a .log .now) (a .writes .now))
 
 pub begin-read-sound-spec : {M : Type 1} → statement M
 begin-read-sound-spec =

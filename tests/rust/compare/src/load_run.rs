@@ -1,14 +1,15 @@
-//! Loads through the proved crate: from openings to their ends, in parts and step by step; with tables at their limits and damaged ones.
+//! Loads through the proved crate: from openings to their ends, in parts and step by step; on tables of method 1, where nothing begins; with
+//! tables at their limits and damaged ones.
 //! The next step, the answer, every word of the lent list and of the tables are as the model has them.
 
 use crate::arguments::Arguments;
 use crate::damage::fill_to_limits;
-use crate::stores::{differing, fresh_tables, shown, visit_store};
+use crate::stores::{differing, fresh_tables, shown, visit_saved, visit_store};
 use crate::tally::Tally;
 use crate::Report;
 use ffi::LoadLibrary;
 use model::load::advance;
-use model::Step;
+use model::{Client, Link, State, Step, Store};
 use schedules::{Generator, Random};
 use words::layout::{LINKS_OF_CLIENT, LINK_WORDS, LOST, METHOD, NOTHING, REQUEST, SERVERS, STEP};
 use words::load::{next_step, play_load, LoadEnd, LoadPick, NO_STEP, STEP_WORDS};
@@ -17,6 +18,7 @@ use words::Tables;
 /// Of so many loads one goes to its end, which takes thousands of steps; for every so many loads a store's tables are looked at.
 const LOADS_FOR_A_WHOLE: usize = 30;
 const LOADS_FOR_A_STORE: usize = 60;
+const LOADS_FOR_METHOD_1: usize = 6;
 
 /// More than any load from an opening has.
 const ENOUGH: u32 = 18_000;
@@ -24,8 +26,9 @@ const ENOUGH: u32 = 18_000;
 /// In a run of so many loads each of these is to occur.
 const MANY: usize = 1000;
 const DUE_PICKS: [&str; 6] = ["a WRITE", "a READ", "a request", "a reply", "none", "no 2"];
-const DUE_ENDS: [&str; 10] = [
+const DUE_ENDS: [&str; 11] = [
     "method 1 to the end",
+    "method 1 to what is lost",
     "method 2 to the end",
     "method 3 to the end",
     "at the wanted length",
@@ -80,10 +83,15 @@ pub fn compare_by(arguments: &Arguments, library: &dyn Loads) -> Report {
     for case in 0..arguments.cases {
         let seed = arguments.seed_of(case);
         one_load(library, seed, case, &mut counts).map_err(|difference| format!("load {seed}: {difference}"))?;
+        if case.is_multiple_of(LOADS_FOR_METHOD_1) {
+            load_of_method_1(library, seed, &mut counts).map_err(|difference| format!("method 1, {seed}: {difference}"))?;
+        }
         if case.is_multiple_of(LOADS_FOR_A_STORE) {
             one_store(library, seed, &mut counts).map_err(|difference| format!("store {seed}: {difference}"))?;
         }
     }
+    let mut random = Random::new(arguments.seed);
+    let saved = visit_saved(&mut |tables, step| short_load(library, tables, step, &mut random, &mut counts))?;
     let Counts { loads, steps, tables, picks, ends } = counts;
     if loads == 0 || steps == 0 || tables == 0 {
         return Err(format!("nothing was compared: {loads} loads, {steps} steps, {tables} tables"));
@@ -92,7 +100,7 @@ pub fn compare_by(arguments: &Arguments, library: &dyn Loads) -> Report {
         picks.require(&DUE_PICKS)?;
         ends.require(&DUE_ENDS)?;
     }
-    Ok(format!("{loads} loads from openings, {steps} steps; {tables} other tables; next steps: {picks}; ends: {ends}"))
+    Ok(format!("{loads} loads from openings, {steps} steps; {tables} other tables, of {saved} saved ones too; next steps: {picks}; ends: {ends}"))
 }
 
 /// A load from an opening: now and then to its end, else in one of three ways for some steps.
@@ -109,19 +117,60 @@ fn one_load(library: &dyn Loads, seed: u64, case: usize, counts: &mut Counts) ->
     }
 }
 
+/// A load on tables of method 1 in the middle of a run, as a version that opened it saved them, to its end.
+fn load_of_method_1(library: &dyn Loads, seed: u64, counts: &mut Counts) -> Result<(), String> {
+    let mut random = Random::new(seed.rotate_left(16));
+    let mut generator = Generator::of_method_1(seed);
+    let opening = generator.opening();
+    let mut tables = fresh_tables(&opening, &mut random);
+    let mut step = opening;
+    for _ in 0..random.within(1, 120) {
+        let outcome = generator.take(&step);
+        assert_eq!(words::take_mixed(&mut tables, &step), outcome, "the former rules on a store and on words");
+        step = generator.likely_step();
+    }
+    let (store, seed) = (generator.player.store.expect("opened"), random.word());
+    counts.tables += 1;
+    Load { library, random, tables, seed, counts }.deliveries(&store)
+}
+
+/// How many deliveries are left where nothing begins: two for a request, one for a reply, and two more for the entry of a WRITE that hears of
+/// all its stations.
+fn deliveries_left(store: &Store) -> u32 {
+    let of_link = |link: &Link| match link {
+        Link::Request(_) => 2,
+        Link::Reply(_) => 1,
+        Link::Nothing | Link::Lost => 0,
+    };
+    let of_client = |client: &Client| {
+        let enters = client.state == State::WritingSetpoints && !client.links.contains(&Link::Lost);
+        client.links.iter().map(of_link).sum::<u32>() + if enters { 2 } else { 0 }
+    };
+    store.clients.iter().map(of_client).sum()
+}
+
 /// A short load on each of the tables of a random run, and on damaged copies of them.
 fn one_store(library: &dyn Loads, seed: u64, counts: &mut Counts) -> Result<(), String> {
     let mut random = Random::new(seed.rotate_left(32));
-    visit_store(seed, &mut |tables, step| {
-        let seed = random.word();
-        let mut load = Load { library, random: random.clone(), tables: tables.clone(), seed, counts };
-        load.counts.tables += 1;
-        load.pick()?;
-        load.part()?;
-        random = load.random;
-        let _ = words::take(tables, step);
-        Ok(())
-    })
+    visit_store(seed, &mut |tables, step| short_load(library, tables, step, &mut random, counts))
+}
+
+/// A load on tables, which then go on by the model.
+fn short_load(
+    library: &dyn Loads,
+    tables: &mut Tables,
+    step: &Step,
+    random: &mut Random,
+    counts: &mut Counts,
+) -> Result<(), String> {
+    let seed = random.word();
+    let mut load = Load { library, random: random.clone(), tables: tables.clone(), seed, counts };
+    load.counts.tables += 1;
+    load.pick()?;
+    load.part()?;
+    *random = load.random;
+    let _ = words::take(tables, step);
+    Ok(())
 }
 
 /// A load under way: the tables as the model's load left them, and the seed that is next.
@@ -144,8 +193,7 @@ impl Load<'_> {
         Load { library, random, tables, seed, counts }
     }
 
-    /// To the end, in one call or in long parts: 255 WRITEs and 255 READs of all k servers, of 2k + 3 steps each, but READs under A of
-    /// 2k + 1.
+    /// To the end, in one call or in long parts: 255 WRITEs and 255 READs of all k servers, of 2k + 3 steps each.
     fn whole(&mut self) -> Result<(), String> {
         let (method, servers) = (self.tables.counts[METHOD], self.tables.counts[SERVERS]);
         let part = self.random.pick(&[ENOUGH, ENOUGH, 3000, 850]);
@@ -157,12 +205,32 @@ impl Load<'_> {
                 break;
             }
         }
-        let due = if method == 1 { 1020 * (servers + 1) } else { 510 * (2 * servers + 3) };
+        let due = 510 * (2 * servers + 3);
         if steps != due {
             return Err(format!("{steps} steps to the end, and {due} are due"));
         }
         self.counts.ends.count(&format!("method {method} to the end"));
         self.pick()
+    }
+
+    /// Under method 1 nothing begins: what is on the links is delivered, in one call or in parts, and then no step is acceptable.
+    fn deliveries(&mut self, store: &Store) -> Result<(), String> {
+        let (due, mut steps) = (deliveries_left(store), 0);
+        let part = self.random.pick(&[600, 600, 7, 1]);
+        loop {
+            self.pick()?;
+            let end = self.play(part, STEP_WORDS * part as usize)?;
+            steps += end.steps;
+            if end.steps < part {
+                break;
+            }
+        }
+        if steps != due {
+            return Err(format!("{steps} steps to the end, and {due} are due; {}", shown(&self.tables)));
+        }
+        let lost = store.clients.iter().any(|client| client.links.contains(&Link::Lost));
+        self.counts.ends.count(if lost { "method 1 to what is lost" } else { "method 1 to the end" });
+        Ok(())
     }
 
     fn in_parts(&mut self) -> Result<(), String> {

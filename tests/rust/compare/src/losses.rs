@@ -50,7 +50,7 @@ fn on_lost(store: &Store, client: u32, target: u32) -> bool {
 }
 
 /// The kind of what a link holds, by the table of frames.
-fn held(link: &Link) -> &'static str {
+pub fn held(link: &Link) -> &'static str {
     match link {
         Link::Request(Request::Set { .. }) => "set",
         Link::Request(Request::Enter { .. }) => "enter",
@@ -69,7 +69,7 @@ fn held(link: &Link) -> &'static str {
 }
 
 /// A set or an enter that finds its key.
-fn repeated(store: &Store, link: &Link, target: usize) -> Vec<String> {
+pub fn repeated(store: &Store, link: &Link, target: usize) -> Vec<String> {
     let (name, held, times, full) = match link {
         Link::Request(Request::Set { key, .. }) => {
             let held = &store.servers[target];

@@ -6,6 +6,7 @@
 //!     compare frames [--cases N] [--seed S]
 //!     compare wire [--cases N] [--seed S]
 //!     compare load [--cases N] [--seed S]
+//!     compare neighbours [--cases N] [--seed S]
 //!     compare recordings [--cases N] [--seed S]
 //!     compare load-text PROGRAM [ARGUMENT...] [--cases N] [--seed S]
 
@@ -16,6 +17,7 @@ mod load_run;
 mod load_text_run;
 mod losses;
 mod messages;
+mod neighbours_run;
 mod pairs;
 mod programs;
 mod reached;
@@ -29,7 +31,11 @@ mod wire_run;
 #[cfg(test)]
 mod wrong_comparisons;
 #[cfg(test)]
+mod wrong_neighbours;
+#[cfg(test)]
 mod wrong_registers;
+#[cfg(test)]
+mod wrong_retired;
 #[cfg(test)]
 mod wrong_stores;
 
@@ -45,7 +51,7 @@ fn main() -> ExitCode {
         eprintln!(
             "usage: compare schedules PROGRAM [ARGUMENT...] | load-text PROGRAM [ARGUMENT...] | tables | frames | wire | load |"
         );
-        eprintln!("       recordings, each with [--cases N] [--seed S]");
+        eprintln!("       neighbours | recordings, each with [--cases N] [--seed S]");
         return ExitCode::from(2);
     };
     let started = std::time::Instant::now();
@@ -55,6 +61,7 @@ fn main() -> ExitCode {
         "frames" => frames_run::compare(&arguments),
         "wire" => wire_run::compare(&arguments),
         "load" => load_run::compare(&arguments),
+        "neighbours" => neighbours_run::compare(&arguments),
         "recordings" => recordings_run::compare(&arguments),
         "load-text" => load_text_run::compare(&arguments),
         other => Err(format!("no such comparison: {other}")),

@@ -25,7 +25,7 @@ pub fn two_orders(seed: u64, swapped: Swapped, random: &mut Random) -> TwoOrders
     let mut step = generator.opening();
     let (mut one, mut accepted) = (Vec::new(), Vec::new());
     for _ in 0..random.within(20, 200) {
-        accepted.push(generator.player.take(&step).is_ok());
+        accepted.push(generator.take(&step).is_ok());
         one.push(step);
         step = generator.likely_step();
     }

@@ -2,12 +2,12 @@
 
 use crate::arguments::Arguments;
 use crate::losses;
-use crate::stores::{differing, shown, visit_store};
+use crate::stores::{differing, shown, visit_saved, visit_store};
 use crate::tally::Tally;
 use crate::Report;
 use ffi::StoreLibrary;
 use model::answer::word;
-use model::{Outcome, Step};
+use model::{Answer, Outcome, Refusal, Step, Store};
 use words::layout::{ASKED, BADGES_BELOW, CLIENTS, CLIENT_WORDS, LINK_WORDS, LOST, NOTHING, STATE, WRITE_BADGE};
 use words::Tables;
 
@@ -18,8 +18,29 @@ const DUE: [&str; 16] = [
     "ok", "wait", "next", "write", "read",
     "no 1", "no 2", "no 3", "no 4", "no 5", "no 6", "no 7", "no 8", "no 9", "no 14", "no 15",
 ];
+/// What E10 refuses, by what the former rules answered to it: openings by 1, begins by 4, and one ahead of that by 3.
+const RETIRED: [&str; 9] = [
+    "no 1 for an opening that was ok",
+    "no 1 for an opening that was no 1",
+    "no 4 for a begin that was ok",
+    "no 4 for a begin that was no 4",
+    "no 4 for a begin that was no 5",
+    "no 4 for a begin that was no 6",
+    "no 4 for a begin that was no 7",
+    "no 3 for a begin that was no 3",
+    "no 2 for a begin that was no 2",
+];
 /// What alone makes tables not sound: each is to occur.
 const UNSOUND: [&str; 4] = ["a lost link", "a kind beyond 3", "a kept badge", "a kept key"];
+
+/// What deliveries, losses and what is sent again answer on such tables, and an opening by another method.
+#[rustfmt::skip]
+const GOING_ON: [&str; 14] = [
+    "O ok",
+    "> ok", "> no 3", "> no 8", "> no 9",
+    "< wait", "< next", "< write", "< read", "< no 9",
+    "! ok", "! no 14", "+ ok", "+ no 15",
+];
 
 /// What was compared so far.
 #[derive(Default)]
@@ -29,6 +50,9 @@ struct Counts {
     answers: Tally,
     losses: Tally,
     unsound: Tally,
+    retired: Tally,
+    /// Steps on sound tables of method 1 that are no begin and no opening by method 1, by their answers.
+    going_on: Tally,
 }
 
 /// What is compared with the model: the proved crates, or in tests what stands in for them.
@@ -69,13 +93,19 @@ pub fn compare_by(arguments: &Arguments, library: &dyn Subject) -> Report {
         visited.map_err(|difference| format!("store {seed}: {difference}"))?;
         stores += 1;
     }
+    let saved = visit_saved(&mut |tables, step| compare_step(library, tables, step, &mut counts))?;
     if arguments.cases >= MANY {
         counts.answers.require(&DUE)?;
         [&losses::DUE[..], &losses::REFUSED, &losses::TWICE].iter().try_for_each(|due| counts.losses.require(due))?;
         counts.unsound.require(&UNSOUND)?;
+        counts.retired.require(&RETIRED)?;
+        counts.going_on.require(&GOING_ON)?;
     }
-    let Counts { tables, sound, answers, losses, unsound } = counts;
-    Ok(format!("{tables} tables, {sound} of them sound, {stores} stores; answers: {answers}; {losses}; not sound: {unsound}"))
+    let Counts { tables, sound, answers, losses, unsound, retired, going_on } = counts;
+    let of_method_1 = format!("of method 1: {retired}, and {going_on}");
+    Ok(format!(
+        "{tables} tables, {sound} of them sound, {stores} stores and {saved} saved; answers: {answers}; {losses}; not sound: {unsound}; {of_method_1}"
+    ))
 }
 
 /// Soundness before, one step on both, and all words after. The tables go on as the model left them.
@@ -95,12 +125,37 @@ fn compare_step(library: &dyn Subject, tables: &mut Tables, step: &Step, counts:
     counts.tables += 1;
     counts.sound += usize::from(sound);
     counts.answers.count(&word(&expected));
+    count_method_1(&before, sound, step, &expected, counts);
     if sound {
         losses::names(&words::store_of(&before), step, &expected).iter().for_each(|name| counts.losses.count(name));
     } else if let Some(name) = of_losses(&mut before) {
         counts.unsound.count(name);
     }
     Ok(())
+}
+
+/// A step on tables of method 1, or an opening by it.
+fn count_method_1(before: &Tables, sound: bool, step: &Step, answer: &Outcome, counts: &mut Counts) {
+    if let Step::Open { method: 1, servers, clients, setpoints } = step {
+        let former = Store::open_mixed(1, *servers, *clients, setpoints).map(|_| Answer::Ok);
+        counts.retired.count(&format!("{} for an opening that was {}", word(answer), word(&former)));
+        return;
+    }
+    if before.counts.first() != Some(&1) {
+        return;
+    }
+    match step {
+        Step::BeginWrite { .. } | Step::BeginRead { .. } => {
+            let former =
+                if sound { words::store_of(before).former_answer(step).expect("a begin") } else { Err(Refusal::Unsound) };
+            counts.retired.count(&format!("{} for a begin that was {}", word(answer), word(&former)));
+        }
+        _ if sound => {
+            let line = schedules::line_of(step);
+            counts.going_on.count(&format!("{} {}", line[0] as char, word(answer)));
+        }
+        _ => {}
+    }
 }
 
 /// Which of what losses need makes tables not sound, where nothing else does: with one word mended they are.

@@ -2,12 +2,12 @@
 
 use crate::arguments::Arguments;
 use crate::damage::change_record_step;
-use crate::stores::{shown, visit_store};
+use crate::stores::{shown, visit_saved, visit_store};
 use crate::tally::Tally;
 use crate::Report;
 use ffi::WireLibrary;
 use frames::link::message_on;
-use model::{Refusal, WriteRecord, COORDINATOR};
+use model::{Refusal, Step, WriteRecord, COORDINATOR};
 use schedules::Random;
 use std::cmp::Ordering;
 use std::collections::BTreeSet;
@@ -88,20 +88,12 @@ pub fn compare_by(arguments: &Arguments, library: &dyn Wire) -> Report {
     while counts.tables < arguments.cases {
         let seed = arguments.seed_of(stores);
         let mut random = Random::new(seed.rotate_left(32));
-        let visited = visit_store(seed, &mut |tables, step| {
-            compare_link(library, tables, &mut random, &mut counts)?;
-            compare_list(library, tables, &mut random, &mut counts)?;
-            counts.tables += 1;
-            if words::sound(tables) {
-                counts.sound += 1;
-                compare_changed_list(library, tables, &mut random, &mut counts)?;
-            }
-            let _ = words::take(tables, step);
-            Ok(())
-        });
+        let visited = visit_store(seed, &mut |tables, step| compare_tables(library, tables, step, &mut random, &mut counts));
         visited.map_err(|difference| format!("store {seed}: {difference}"))?;
         stores += 1;
     }
+    let mut random = Random::new(arguments.seed);
+    let saved = visit_saved(&mut |tables, step| compare_tables(library, tables, step, &mut random, &mut counts))?;
     if arguments.cases >= MANY {
         counts.frames.require(&DUE_FRAMES)?;
         counts.lists.require(&DUE_LISTS)?;
@@ -110,7 +102,26 @@ pub fn compare_by(arguments: &Arguments, library: &dyn Wire) -> Report {
     }
     let Counts { tables, sound, frames, lists, pairs } = counts;
     let places = format!("where a WRITE is beside a READ: {pairs}");
-    Ok(format!("{tables} tables, {sound} of them sound, {stores} stores; links: {frames}; registers: {lists}; {places}"))
+    Ok(format!("{tables} tables, {sound} of them sound, {stores} stores and {saved} saved; links: {frames}; registers: {lists}; {places}"))
+}
+
+/// The frame of a link and the register of tables; then they go on by the model.
+fn compare_tables(
+    library: &dyn Wire,
+    tables: &mut Tables,
+    step: &Step,
+    random: &mut Random,
+    counts: &mut Counts,
+) -> Result<(), String> {
+    compare_link(library, tables, random, counts)?;
+    compare_list(library, tables, random, counts)?;
+    counts.tables += 1;
+    if words::sound(tables) {
+        counts.sound += 1;
+        compare_changed_list(library, tables, random, counts)?;
+    }
+    let _ = words::take(tables, step);
+    Ok(())
 }
 
 /// A link, most often one that holds something, and sometimes one that is not there.

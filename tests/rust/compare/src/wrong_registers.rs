@@ -5,6 +5,7 @@ use crate::arguments::Arguments;
 use crate::wire_run::{self, frame_of, Wire};
 use crate::{schedules_run, Report};
 use model::history::{listing, Listed};
+use model::line::{lines, step_of};
 use model::{Player, ReadRecord, Refusal, Store, WriteRecord};
 use std::path::Path;
 use words::register::LINE_WORDS;
@@ -107,13 +108,13 @@ impl Wire for Flaw {
 /// What a yard program with this flaw prints.
 fn replayed(flaw: Flaw, schedule: &[u8]) -> Vec<u8> {
     let mut player = Player::default();
-    model::line::lines(schedule).for_each(|line| drop(player.take_line(line)));
+    lines(schedule).for_each(|line| drop(player.take_line(line)));
     let printed = String::from_utf8(model::replay(schedule)).expect("a text");
     let Some(Store { writes, reads, .. }) = player.store else { return printed.into_bytes() };
-    let lines = listing(&writes, &reads);
+    let listed = listing(&writes, &reads);
     let mut texts: Vec<String> = printed.lines().map(String::from).collect();
-    let answers = texts.len() - lines.len();
-    for (text, line) in texts[answers..].iter_mut().zip(lines) {
+    let answers = texts.len() - listed.len();
+    for (text, line) in texts[answers..].iter_mut().zip(listed) {
         if let Listed::Read { record, end, .. } = line {
             let (front, _) = text.rsplit_once(' ').expect("an overlap");
             *text = format!("{front} {}", flaw.overlap(&writes, record, end));
@@ -152,16 +153,45 @@ fn schedules_show_what_is_wrong() {
     }
 }
 
+fn file(name: &str) -> Vec<u8> {
+    std::fs::read(Path::new(env!("CARGO_MANIFEST_DIR")).join("../../../tests").join(name)).expect("a schedule")
+}
+
 /// The schedules of E7 that were written by hand, with what must be printed for them: each of the three shows them all.
 #[test]
 fn cards_show_what_is_wrong() {
-    let root = Path::new(env!("CARGO_MANIFEST_DIR")).join("../../../tests/schedules");
-    for method in ["a", "b", "c"] {
-        let file = |end: &str| std::fs::read(root.join(format!("unfinished_{method}.{end}"))).expect("a schedule");
+    for method in ["b", "c"] {
+        let (schedule, wanted) = ["txt", "out"].map(|end| file(&format!("schedules/unfinished_{method}.{end}"))).into();
         for flaw in [Flaw::Nothing].into_iter().chain(FLAWS) {
             let hidden = flaw == Flaw::Nothing || IN_TABLES_ALONE.contains(&flaw);
-            assert_eq!(replayed(flaw, &file("txt")) == file("out"), hidden, "{flaw:?}, {method}");
+            assert_eq!(replayed(flaw, &schedule) == wanted, hidden, "{flaw:?}, {method}");
         }
+    }
+}
+
+/// That of method A, which is played on saved tables: the overlaps of its register.
+#[test]
+fn the_card_on_saved_tables_shows_what_is_wrong() {
+    let mut player = Player::default();
+    for part in ["saved/unfinished-a.former.txt", "saved/unfinished-a.txt"] {
+        let text = file(part);
+        let steps = lines(&text).map(|line| step_of(line).expect("a step"));
+        steps.for_each(|step| drop(player.take_mixed(&step)));
+    }
+    let Store { writes, reads, .. } = player.store.expect("opened");
+    let wanted: Vec<usize> = String::from_utf8(file("saved/unfinished-a.out"))
+        .expect("a text")
+        .lines()
+        .filter_map(|line| line.strip_prefix("R ")?.rsplit_once(' ')?.1.parse().ok())
+        .collect();
+    for flaw in [Flaw::Nothing].into_iter().chain(FLAWS) {
+        let overlap = |line: Listed| match line {
+            Listed::Read { record, end, .. } => Some(flaw.overlap(&writes, record, end)),
+            Listed::Write(_) => None,
+        };
+        let found: Vec<usize> = listing(&writes, &reads).into_iter().filter_map(overlap).collect();
+        let hidden = flaw == Flaw::Nothing || IN_TABLES_ALONE.contains(&flaw);
+        assert_eq!(found == wanted, hidden, "{flaw:?}");
     }
 }
 

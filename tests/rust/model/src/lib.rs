@@ -1,4 +1,5 @@
-//! Documents 01 and 02 (E1 to E4, E6) in plain Rust: the store, its seven steps, the history, the program that plays a schedule, and loads.
+//! Documents 01 and 02 (E1 to E4, E6, E7, E10) in plain Rust: the store, its seven steps, the history, the program that plays a schedule, and
+//! loads.
 //! It is written from the papers and the readings in docs/DECISIONS.md, and shares no code with the proved crates.
 //!
 //! A press is a `Store` here, a station a server, a panel a client, the head the coordinator, the register the history.
@@ -7,6 +8,7 @@ pub mod answer;
 mod begin;
 mod choice;
 pub mod client;
+mod former;
 pub mod history;
 pub mod key;
 pub mod line;

@@ -40,10 +40,17 @@ pub struct Store {
 }
 
 impl Store {
-    /// "Open sets method, k, p, k setpoints; all else empty or 0." Refused by 1.
+    /// "Open sets method, k, p, k setpoints; all else empty or 0." Refused by 1, and so is method 1, for every k and p: document 02, E10,
+    /// "An opening with method 1 returns 1".
     pub fn open(method: u32, servers: u32, clients: u32, setpoints: &[u32]) -> Result<Store, Refusal> {
-        let method = Method::from_number(method).ok_or(Refusal::BadOpening)?;
-        let fewest = if method == Method::A { 2 } else { 1 };
+        match Method::from_number(method) {
+            None | Some(Method::A) => Err(Refusal::BadOpening),
+            Some(method) => Store::opened(method, 1, servers, clients, setpoints),
+        }
+    }
+
+    /// A press of at least so many panels, just opened.
+    pub(crate) fn opened(method: Method, fewest: u32, servers: u32, clients: u32, setpoints: &[u32]) -> Result<Store, Refusal> {
         let fits = (1..=16).contains(&servers) && (fewest..=16).contains(&clients) && setpoints.len() == servers as usize;
         if !fits {
             return Err(Refusal::BadOpening);

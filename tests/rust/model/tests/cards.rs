@@ -2,11 +2,11 @@
 
 use model::history::{listing, Listed};
 use model::key::{latest, servers_of, Entry, Key, Latest};
-use model::{replay, Answer, Link, ReadRecord, Refusal, Request, Shown, Store, Version, WriteRecord};
+use model::{replay, Answer, Link, ReadRecord, Refusal, Request, Shown, Step, Store, Version, WriteRecord};
 
 fn opened(method: u32, servers: u32, clients: u32) -> Store {
     let setpoints: Vec<u32> = (0..servers).map(|server| 100 + server).collect();
-    Store::open(method, servers, clients, &setpoints).expect("a good opening")
+    Store::open_mixed(method, servers, clients, &setpoints).expect("a good opening")
 }
 
 /// Delivers a request and its reply, and gives the reply's answer.
@@ -23,7 +23,7 @@ fn write_to(store: &mut Store, client: u32, mask: u32, setpoint: u32) -> Answer 
 /// The same with any badge.
 fn write_by(store: &mut Store, client: u32, mask: u32, badge: u16, setpoint: u32) -> Answer {
     let setpoints = vec![setpoint; store.servers.len()];
-    store.begin_write(client, mask, badge, &setpoints).expect("accepted");
+    store.begin_write_mixed(client, mask, badge, &setpoints).expect("accepted");
     for server in servers_of(mask) {
         cross(store, client, server as u32);
     }
@@ -42,26 +42,30 @@ fn read_by(tag: usize, shown: &[(usize, u32, usize, u32)]) -> Answer {
     Answer::Read { tag, shown: shown.collect() }
 }
 
+/// "The bench card for method 1 now has 1 for p 2 as well."
 #[test]
-fn method_1_wants_two_panels() {
-    assert_eq!(Store::open(1, 1, 1, &[5]).unwrap_err(), Refusal::BadOpening);
-    assert!(Store::open(1, 1, 2, &[5]).is_ok());
+fn method_1_opens_nothing() {
+    for clients in [1, 2, 16] {
+        assert_eq!(Store::open(1, 1, clients, &[5]).unwrap_err(), Refusal::BadOpening);
+    }
+    assert_eq!(Store::open_mixed(1, 1, 1, &[5]).unwrap_err(), Refusal::BadOpening);
+    assert!(Store::open_mixed(1, 1, 2, &[5]).is_ok());
 }
 
 #[test]
 fn masks_of_two_stations() {
-    assert_eq!(opened(2, 2, 1).begin_read(0, 4), Err(Refusal::BadMask));
-    assert_eq!(opened(2, 2, 1).begin_write(0, 4, 0, &[1, 2]), Err(Refusal::BadMask));
-    assert_eq!(opened(2, 2, 1).begin_read(0, 3), Ok(Answer::Ok));
-    assert_eq!(opened(2, 2, 1).begin_write(0, 3, 0, &[1, 2]), Ok(Answer::Ok));
+    assert_eq!(opened(2, 2, 1).begin_read_mixed(0, 4), Err(Refusal::BadMask));
+    assert_eq!(opened(2, 2, 1).begin_write_mixed(0, 4, 0, &[1, 2]), Err(Refusal::BadMask));
+    assert_eq!(opened(2, 2, 1).begin_read_mixed(0, 3), Ok(Answer::Ok));
+    assert_eq!(opened(2, 2, 1).begin_write_mixed(0, 3, 0, &[1, 2]), Ok(Answer::Ok));
 }
 
 #[test]
 fn a_busy_panel_with_mask_0() {
     let mut store = opened(2, 2, 1);
-    store.begin_read(0, 3).unwrap();
-    assert_eq!(store.begin_read(0, 0), Err(Refusal::Busy));
-    assert_eq!(store.begin_write(0, 0, 0, &[]), Err(Refusal::Busy));
+    store.begin_read_mixed(0, 3).unwrap();
+    assert_eq!(store.begin_read_mixed(0, 0), Err(Refusal::Busy));
+    assert_eq!(store.begin_write_mixed(0, 0, 0, &[]), Err(Refusal::Busy));
 }
 
 #[test]
@@ -75,7 +79,7 @@ fn keys_at_tag_1() {
 #[test]
 fn c_one_write_seen_by_one_station_only() {
     let mut store = opened(3, 2, 2);
-    store.begin_read(1, 3).unwrap();
+    store.begin_read_mixed(1, 3).unwrap();
     store.deliver_request(1, 0).unwrap();
     assert_eq!(write_to(&mut store, 0, 3, 9), Answer::Write { tag: 1 });
     assert_eq!(store.deliver_reply(1, 0), Ok(Answer::Wait));
@@ -87,10 +91,10 @@ fn c_one_write_seen_by_one_station_only() {
 fn c_does_not_stop_at_the_first_missing_key() {
     // Panel 0's entry is a, panel 1's is b; station 0 gets b first and is asked before a arrives.
     let mut store = opened(3, 2, 3);
-    store.begin_write(0, 1, 0, &[7, 0]).unwrap();
-    store.begin_write(1, 1, 0, &[8, 0]).unwrap();
+    store.begin_write_mixed(0, 1, 0, &[7, 0]).unwrap();
+    store.begin_write_mixed(1, 1, 0, &[8, 0]).unwrap();
     cross(&mut store, 1, 0);
-    store.begin_read(2, 1).unwrap();
+    store.begin_read_mixed(2, 1).unwrap();
     store.deliver_request(2, 0).unwrap();
     cross(&mut store, 0, 0);
     assert_eq!(cross(&mut store, 0, 16), Answer::Write { tag: 1 });
@@ -106,7 +110,8 @@ fn write_256_is_refused() {
         for number in 1..=255 {
             assert_eq!(write_to(&mut store, 1, 1, 5), Answer::Write { tag: number });
         }
-        assert_eq!(store.begin_write(1, 1, 0, &[5]), Err(Refusal::Exhausted));
+        let refused = if method == 1 { Refusal::Retired } else { Refusal::Exhausted };
+        assert_eq!(store.begin_write_mixed(1, 1, 0, &[5]), Err(refused));
         assert_eq!(store.log.len(), 256);
         assert_eq!(store.servers[0].len(), 256);
     }
@@ -114,12 +119,15 @@ fn write_256_is_refused() {
 
 #[test]
 fn read_256_is_refused() {
-    let mut store = opened(1, 1, 2);
-    for _ in 1..=255 {
-        store.begin_read(0, 1).expect("accepted");
-        assert!(matches!(cross(&mut store, 0, 0), Answer::Read { tag: 0, .. }));
+    for (method, targets, refused) in [(1, &[0][..], Refusal::Retired), (2, &[16, 0], Refusal::Exhausted)] {
+        let mut store = opened(method, 1, 2);
+        for _ in 1..=255 {
+            store.begin_read_mixed(0, 1).expect("accepted");
+            let last = targets.iter().map(|&target| cross(&mut store, 0, target)).last();
+            assert!(matches!(last, Some(Answer::Read { tag: 0, .. })));
+        }
+        assert_eq!(store.begin_read_mixed(0, 1), Err(refused));
     }
-    assert_eq!(store.begin_read(0, 1), Err(Refusal::Exhausted));
 }
 
 #[test]
@@ -127,8 +135,8 @@ fn the_last_step_number() {
     let mut store = opened(2, 1, 1);
     store.step = u32::MAX;
     assert_eq!(store.deliver_request(0, 0), Err(Refusal::Exhausted));
-    assert_eq!(store.begin_read(0, 2), Err(Refusal::BadMask));
-    assert_eq!(store.begin_read(0, 1), Err(Refusal::Exhausted));
+    assert_eq!(store.begin_read_mixed(0, 2), Err(Refusal::BadMask));
+    assert_eq!(store.begin_read_mixed(0, 1), Err(Refusal::Exhausted));
     assert_eq!(store.deliver_reply(0, 1), Err(Refusal::NoSuchPlace));
 }
 
@@ -138,12 +146,58 @@ fn numbers_are_not_cut() {
     assert_eq!(replay(input), b"1 no 1\n2 ok\n3 no 3\n4 no 6\n5 no 3\n");
 }
 
+/// "any begin on such tables returns 4", behind 3 and ahead of 5, 6 and 7, whoever begins.
 #[test]
-fn a_reads_at_the_head_and_writes_elsewhere() {
+fn nothing_begins_under_method_1() {
+    let mut store = opened(1, 1, 3);
+    store.begin_write_mixed(1, 1, 0, &[5]).unwrap();
+    for step_number in [store.step, u32::MAX] {
+        store.step = step_number;
+        for client in 0..3 {
+            for mask in [0, 1, 2] {
+                assert_eq!(store.begin_write(client, mask, 0, &[5]), Err(Refusal::Retired));
+                assert_eq!(store.begin_write(client, mask, 0, &[]), Err(Refusal::Retired));
+                assert_eq!(store.begin_read(client, mask), Err(Refusal::Retired));
+            }
+        }
+        assert_eq!(store.begin_write(3, 1, 0, &[5]), Err(Refusal::NoSuchPlace));
+        assert_eq!(store.begin_read(3, 0), Err(Refusal::NoSuchPlace));
+    }
+}
+
+/// "their transactions run to the end": a WRITE and a READ that the former rules began, by today's deliveries.
+#[test]
+fn what_was_begun_under_method_1_ends() {
     let mut store = opened(1, 1, 2);
-    assert_eq!(store.begin_write(0, 1, 0, &[5]), Err(Refusal::WrongPart));
-    assert_eq!(store.begin_read(1, 1), Err(Refusal::WrongPart));
+    store.begin_write_mixed(1, 1, 0, &[5]).unwrap();
+    store.begin_read_mixed(0, 1).unwrap();
+    assert_eq!(cross(&mut store, 1, 0), Answer::Next);
+    assert_eq!(cross(&mut store, 1, 16), Answer::Write { tag: 1 });
+    assert_eq!(cross(&mut store, 0, 0), read(0, &[(0, 100, 0)]));
+    assert_eq!(store.begin_read(0, 1), Err(Refusal::Retired));
+}
+
+/// The former rules: panel 0 reads and the others write; what they refuse is answered by today's rules.
+#[test]
+fn a_read_at_the_head_and_wrote_elsewhere() {
+    let mut store = opened(1, 1, 2);
+    assert_eq!(store.begin_write_mixed(0, 1, 0, &[5]), Err(Refusal::Retired));
+    assert_eq!(store.begin_read_mixed(1, 1), Err(Refusal::Retired));
     assert_eq!(store.deliver_request(0, 16), Err(Refusal::NothingThere));
+    let write = |client, mask| Step::BeginWrite { client, mask, badge: 0, setpoints: vec![5] };
+    assert_eq!(store.take_mixed(&write(1, 1)), Ok(Answer::Ok));
+    for (step, former) in [
+        (write(1, 1), Refusal::Busy),
+        (write(0, 1), Refusal::Retired),
+        (Step::BeginRead { client: 0, mask: 2 }, Refusal::BadMask),
+        (Step::BeginRead { client: 1, mask: 1 }, Refusal::Retired),
+    ] {
+        assert_eq!(store.former_answer(&step), Some(Err(former)));
+        assert_eq!(store.take_mixed(&step), Err(Refusal::Retired));
+    }
+    assert_eq!(store.former_answer(&write(2, 1)), Some(Err(Refusal::NoSuchPlace)));
+    assert_eq!(store.former_answer(&Step::BeginRead { client: 0, mask: 1 }), Some(Ok(Answer::Ok)));
+    assert_eq!(store.former_answer(&Step::DeliverRequest { client: 1, target: 0 }), None);
 }
 
 /// Targets in the order in which a READ of both servers can go through.
@@ -156,7 +210,7 @@ fn one_write_to_one_station_then_a_read_of_both() {
     for method in 1..=3 {
         let mut store = opened(method, 2, 2);
         write_to(&mut store, 1, 1, 1800);
-        store.begin_read(0, 3).unwrap();
+        store.begin_read_mixed(0, 3).unwrap();
         let answers: Vec<Answer> = both(method).iter().map(|&target| cross(&mut store, 0, target)).collect();
         let last = answers.last().expect("an answer");
         assert_eq!(*last, read(1, &[(0, 1800, 1), (1, 101, 0)]));
@@ -169,7 +223,7 @@ fn c_falls_back_to_an_older_tag_and_shows_its_tags() {
     let mut store = opened(3, 2, 2);
     write_to(&mut store, 0, 1, 7);
     write_to(&mut store, 0, 2, 8);
-    store.begin_read(1, 3).unwrap();
+    store.begin_read_mixed(1, 3).unwrap();
     store.deliver_request(1, 0).unwrap();
     assert_eq!(write_to(&mut store, 0, 3, 9), Answer::Write { tag: 3 });
     cross(&mut store, 1, 1);
@@ -187,12 +241,12 @@ fn kept(store: &Store) -> [usize; 2] {
 fn a_keeps_the_wanted_tags_from_the_begin() {
     let mut store = opened(1, 2, 2);
     write_to(&mut store, 1, 3, 7);
-    store.begin_read(0, 1).unwrap();
+    store.begin_read_mixed(0, 1).unwrap();
     assert_eq!(kept(&store), [1, 0]);
     write_to(&mut store, 1, 3, 8);
     assert_eq!(cross(&mut store, 0, 0), read(1, &[(0, 7, 1)]));
     // Station 0's stays where it is not wanted, and where the READ has ended.
-    store.begin_read(0, 2).unwrap();
+    store.begin_read_mixed(0, 2).unwrap();
     assert_eq!(kept(&store), [1, 2]);
     cross(&mut store, 0, 1);
     assert_eq!(kept(&store), [1, 2]);
@@ -202,7 +256,7 @@ fn a_keeps_the_wanted_tags_from_the_begin() {
 fn b_keeps_the_wanted_tags_from_the_keys_reply() {
     let mut store = opened(2, 2, 2);
     write_to(&mut store, 1, 3, 7);
-    store.begin_read(0, 2).unwrap();
+    store.begin_read_mixed(0, 2).unwrap();
     store.deliver_request(0, 16).unwrap();
     write_to(&mut store, 1, 3, 8);
     assert_eq!(kept(&store), [0, 0]);
@@ -216,7 +270,7 @@ fn c_keeps_no_tags() {
     let mut store = opened(3, 2, 2);
     write_to(&mut store, 1, 3, 7);
     store.clients[0].tags[1] = 1;
-    store.begin_read(0, 1).unwrap();
+    store.begin_read_mixed(0, 1).unwrap();
     cross(&mut store, 0, 0);
     assert_eq!(cross(&mut store, 0, 16), read(1, &[(0, 7, 1)]));
     assert_eq!(kept(&store), [0, 1]);
@@ -225,7 +279,7 @@ fn c_keeps_no_tags() {
 /// Client 0 reads both servers; the last reply's answer.
 fn read_both(store: &mut Store) -> Answer {
     let method = store.method as u32;
-    store.begin_read(0, 3).unwrap();
+    store.begin_read_mixed(0, 3).unwrap();
     both(method).iter().map(|&target| cross(store, 0, target)).last().expect("an answer")
 }
 
@@ -260,13 +314,13 @@ fn the_badge_of_the_asked_key() {
     for method in 1..=3 {
         let mut store = opened(method, 1, 2);
         write_by(&mut store, 1, 1, 7, 5);
-        store.begin_read(0, 1).unwrap();
+        store.begin_read_mixed(0, 1).unwrap();
         if method == 2 {
             cross(&mut store, 0, 16);
         } else if method == 3 {
             store.deliver_request(0, 16).unwrap();
         }
-        store.begin_write(1, 1, 8, &[5]).unwrap();
+        store.begin_write_mixed(1, 1, 8, &[5]).unwrap();
         cross(&mut store, 1, 0);
         store.deliver_request(0, 0).unwrap();
         if method == 3 {
@@ -283,7 +337,7 @@ fn badges_are_stored_with_the_setpoints() {
         let mut store = opened(method, 2, 2);
         write_by(&mut store, 1, 3, 7, 5);
         store.clients[0].badges = [11; 16];
-        store.begin_read(0, 1).unwrap();
+        store.begin_read_mixed(0, 1).unwrap();
         for &target in both(method).iter().filter(|&&target| target != 1) {
             assert_eq!(store.clients[0].badges, [11; 16]);
             cross(&mut store, 0, target);
@@ -300,7 +354,7 @@ fn badges_are_stored_with_the_setpoints() {
 #[test]
 fn where_a_writes_badge_stands() {
     let mut store = opened(2, 2, 2);
-    store.begin_write(0, 2, 65535, &[1, 2]).unwrap();
+    store.begin_write_mixed(0, 2, 65535, &[1, 2]).unwrap();
     let key = Key { count: 1, client: 0 };
     assert_eq!(store.clients[0].links[1], Link::Request(Request::Set { key, badge: 65535, setpoint: 2 }));
     store.deliver_request(0, 1).unwrap();

@@ -4,7 +4,7 @@ use model::load::{advance, numbered, place, Numbered, Pick, Played};
 use model::{State, Step, Store};
 
 fn opened(method: u32, servers: u32, clients: u32) -> Store {
-    Store::open(method, servers, clients, &vec![0; servers as usize]).expect("a good opening")
+    Store::open_mixed(method, servers, clients, &vec![0; servers as usize]).expect("a good opening")
 }
 
 /// Plays a load and gives its steps too.
@@ -97,7 +97,7 @@ fn a_request_comes_ahead_of_a_reply() {
     // Client 1 has a request on its link, client 0 a reply: the request is numbered first all the same.
     let mut store = opened(2, 1, 2);
     for client in [0, 1] {
-        store.begin_read(client, 1).unwrap();
+        store.begin_read_mixed(client, 1).unwrap();
     }
     store.deliver_request(0, 16).unwrap();
     assert_eq!(store.acceptable(), [Numbered::Request { client: 1, target: 16 }, Numbered::Reply { client: 0, target: 16 }]);
@@ -118,13 +118,17 @@ fn a_writes_setpoints_are_its_count_and_its_badge_is_0() {
 fn what_is_acceptable_is_what_a_step_does_not_refuse() {
     for (method, servers, clients, seed) in [(1, 2, 3, 5), (2, 1, 2, 6), (2, 3, 2, 7), (3, 2, 2, 8), (3, 1, 1, 9)] {
         let mut store = opened(method, servers, clients);
+        if method == 1 {
+            store.begin_write_mixed(1, 3, 0, &[7, 8]).unwrap();
+            store.begin_read_mixed(0, 3).unwrap();
+        }
         let mut end = Played { steps: 1, seed };
         while end.steps > 0 {
             let taken = |&step: &Numbered| store.clone().take(&store.given(step)).is_ok();
             let expected: Vec<Numbered> = numbered(clients).filter(taken).collect();
             assert_eq!(store.acceptable(), expected);
-            // At every tenth step, so that it takes no longer than a second.
-            end = store.play_load(end.seed, 10, |_, _| ());
+            // At every tenth step, so that it takes no longer than a second; at each of the few that method 1 has.
+            end = store.play_load(end.seed, if method == 1 { 1 } else { 10 }, |_, _| ());
         }
     }
 }
@@ -137,8 +141,8 @@ fn what_a_limit_refuses_is_not_acceptable() {
     assert_eq!(store.next_step(5), None);
 
     let mut store = opened(2, 1, 2);
-    store.begin_write(0, 1, 0, &[1]).unwrap();
-    store.begin_read(1, 1).unwrap();
+    store.begin_write_mixed(0, 1, 0, &[1]).unwrap();
+    store.begin_read_mixed(1, 1).unwrap();
     store.deliver_request(1, 16).unwrap();
     store.deliver_reply(1, 16).unwrap();
     assert_eq!(store.acceptable().len(), 2);
@@ -149,7 +153,7 @@ fn what_a_limit_refuses_is_not_acceptable() {
     assert_eq!(store.acceptable(), [Numbered::Request { client: 0, target: 0 }]);
 
     let mut store = opened(2, 1, 1);
-    store.begin_write(0, 1, 0, &[1]).unwrap();
+    store.begin_write_mixed(0, 1, 0, &[1]).unwrap();
     store.deliver_request(0, 0).unwrap();
     store.deliver_reply(0, 0).unwrap();
     assert_eq!(store.acceptable(), [Numbered::Request { client: 0, target: 16 }]);
@@ -193,28 +197,40 @@ fn a_load_in_parts_is_the_whole() {
     assert_eq!(parts, whole);
 }
 
-/// 255 WRITEs and 255 READs of all k stations: 2k + 3 steps each, but a READ under A 2k + 1.
-fn steps_to_the_end(method: u32, servers: u32) -> u32 {
-    match method {
-        1 => 1020 * (servers + 1),
-        _ => 510 * (2 * servers + 3),
-    }
+/// 255 WRITEs and 255 READs of all k stations: 2k + 3 steps each.
+fn steps_to_the_end(servers: u32) -> u32 {
+    510 * (2 * servers + 3)
 }
 
 #[test]
 fn a_load_from_an_opening_ends_by_itself() {
     let presses = [(1, 1), (1, 2), (2, 2), (3, 5), (4, 4), (2, 16), (16, 2), (9, 7)];
-    for method in 1..=3 {
+    for method in 2..=3 {
         for (place, (servers, clients)) in presses.into_iter().enumerate() {
-            let clients = if method == 1 { clients.max(2) } else { clients };
             let mut store = opened(method, servers, clients);
             let seed = 1_000_003 * (place as u32 + 1) * method;
             let end = store.play_load(seed, u32::MAX, |_, _| ());
-            assert_eq!(end.steps, steps_to_the_end(method, servers), "{method} {servers} {clients}");
+            assert_eq!(end.steps, steps_to_the_end(servers), "{method} {servers} {clients}");
             assert!(store.clients.iter().all(|client| client.state == State::Idle));
             assert_eq!((store.writes.len(), store.reads.len(), store.log.len()), (255, 255, 256));
         }
     }
+}
+
+/// "nothing new begins": under method 1 a load delivers what is under way, and ends.
+#[test]
+fn a_load_under_method_1_delivers_to_the_end() {
+    let mut store = opened(1, 2, 3);
+    assert_eq!(store.acceptable(), []);
+    store.begin_write_mixed(1, 3, 0, &[7, 8]).unwrap();
+    store.begin_write_mixed(2, 1, 0, &[9, 9]).unwrap();
+    store.begin_read_mixed(0, 3).unwrap();
+    store.deliver_request(1, 0).unwrap();
+    // Of the WRITEs 2 steps for each station and for the head, of the READ 2 for each station; one of them is done.
+    let end = store.play_load(4, u32::MAX, |_, step| assert!(!matches!(step, Step::BeginWrite { .. } | Step::BeginRead { .. })));
+    assert_eq!(end.steps, 6 + 4 + 4 - 1);
+    assert!(store.clients.iter().all(|client| client.state == State::Idle));
+    assert_eq!((store.writes.len(), store.reads.len(), store.log.len()), (2, 1, 3));
 }
 
 #[test]

@@ -4,7 +4,7 @@ use model::{replay, Answer, Entry, Key, Link, Refusal, Reply, Shown, State, Stor
 
 fn opened(method: u32, servers: u32, clients: u32) -> Store {
     let setpoints: Vec<u32> = (0..servers).map(|server| 100 + server).collect();
-    Store::open(method, servers, clients, &setpoints).expect("a good opening")
+    Store::open_mixed(method, servers, clients, &setpoints).expect("a good opening")
 }
 
 fn link(store: &Store, client: usize, target: usize) -> &Link {
@@ -19,7 +19,7 @@ fn cross(store: &mut Store, client: u32, target: u32) -> Answer {
 
 /// A WRITE of one setpoint to server 0, to its end.
 fn write_to_0(store: &mut Store, client: u32, badge: u16, setpoint: u32) -> Answer {
-    store.begin_write(client, 1, badge, &vec![setpoint; store.servers.len()]).expect("accepted");
+    store.begin_write_mixed(client, 1, badge, &vec![setpoint; store.servers.len()]).expect("accepted");
     cross(store, client, 0);
     cross(store, client, 16)
 }
@@ -53,8 +53,8 @@ fn what_was_first_sent_is_sent_again() {
         write_to_0(&mut store, 2, 9, 50);
         let client = u32::from(begin == "W");
         match begin {
-            "W" => store.begin_write(client, 3, 65535, &[7, 8]),
-            _ => store.begin_read(client, 3),
+            "W" => store.begin_write_mixed(client, 3, 65535, &[7, 8]),
+            _ => store.begin_read_mixed(client, 3),
         }
         .expect("accepted");
         while store.clients[client as usize].state != State::Idle {
@@ -92,7 +92,7 @@ fn refusals_in_their_order() {
         assert_eq!(store.lose(0, target), Err(Refusal::NothingToLose));
         assert_eq!(store.resend(0, target), Err(Refusal::NotLost));
     }
-    store.begin_read(0, 1).expect("accepted");
+    store.begin_read_mixed(0, 1).expect("accepted");
     for step in [u32::MAX, u32::MAX - 1] {
         store.step = step;
         let before = store.clone();
@@ -121,14 +121,14 @@ fn confirmed_when_full() {
     let other = Key { count: 2, client: 1 };
     for (key, full) in [(own, Ok(Answer::Ok)), (other, Err(Refusal::FullOrNotHeld))] {
         let mut store = opened(2, 1, 2);
-        store.begin_write(0, 1, 7, &[5]).expect("accepted");
+        store.begin_write_mixed(0, 1, 7, &[5]).expect("accepted");
         store.servers[0].resize(256, Version { key, badge: 1, setpoint: 2 });
         let held = store.servers.clone();
         assert_eq!(store.deliver_request(0, 0), full);
         assert_eq!(store.servers, held);
 
         let mut store = opened(2, 1, 2);
-        store.begin_write(0, 1, 7, &[5]).expect("accepted");
+        store.begin_write_mixed(0, 1, 7, &[5]).expect("accepted");
         cross(&mut store, 0, 0);
         store.log.resize(256, Entry { key, mask: 1 });
         let (log, writes) = (store.log.clone(), store.writes.clone());
@@ -146,7 +146,7 @@ fn confirmed_when_full() {
 #[test]
 fn confirmed_with_nothing_stored() {
     let mut store = opened(3, 1, 1);
-    store.begin_write(0, 1, 7, &[5]).expect("accepted");
+    store.begin_write_mixed(0, 1, 7, &[5]).expect("accepted");
     let key = Key { count: 1, client: 0 };
     store.servers[0].push(Version { key, badge: 8, setpoint: 6 });
     let held = store.servers.clone();
@@ -169,7 +169,7 @@ fn what_a_panel_keeps() {
         write_to_0(&mut store, 1, 65535, 5);
         assert_eq!((store.clients[1].badge, store.clients[0].badge), (65535, 0));
         store.clients[0].asked = [u32::MAX; 16];
-        store.begin_read(0, 1).expect("accepted");
+        store.begin_read_mixed(0, 1).expect("accepted");
         if method == 2 {
             assert_eq!(store.clients[0].asked, [u32::MAX; 16]);
             cross(&mut store, 0, 16);
@@ -184,7 +184,7 @@ fn what_a_panel_keeps() {
     }
     let mut store = opened(3, 2, 2);
     store.clients[0].asked = [7; 16];
-    store.begin_read(0, 3).expect("accepted");
+    store.begin_read_mixed(0, 3).expect("accepted");
     for target in [0, 1, 16] {
         cross(&mut store, 0, target);
     }
@@ -195,18 +195,18 @@ fn what_a_panel_keeps() {
 #[test]
 fn a_lost_link_is_not_empty() {
     let mut store = opened(2, 2, 1);
-    store.begin_write(0, 3, 0, &[1, 2]).expect("accepted");
+    store.begin_write_mixed(0, 3, 0, &[1, 2]).expect("accepted");
     store.deliver_request(0, 0).expect("a request");
     store.lose(0, 0).expect("a reply");
     assert_eq!(cross(&mut store, 0, 1), Answer::Wait);
     assert_eq!(*link(&store, 0, 16), Link::Nothing);
-    assert_eq!(store.begin_read(0, 1), Err(Refusal::Busy));
+    assert_eq!(store.begin_read_mixed(0, 1), Err(Refusal::Busy));
     store.resend(0, 0).expect("lost");
     assert_eq!(cross(&mut store, 0, 0), Answer::Next);
     assert_eq!(store.servers[0].len(), 2);
 
     let mut store = opened(3, 1, 1);
-    store.begin_read(0, 1).expect("accepted");
+    store.begin_read_mixed(0, 1).expect("accepted");
     store.lose(0, 16).expect("a request");
     assert_eq!(cross(&mut store, 0, 0), Answer::Wait);
     assert!(store.clients[0].log.is_empty());
@@ -216,7 +216,7 @@ fn a_lost_link_is_not_empty() {
 #[test]
 fn answered_as_new() {
     let mut store = opened(3, 1, 2);
-    store.begin_read(0, 1).expect("accepted");
+    store.begin_read_mixed(0, 1).expect("accepted");
     store.deliver_request(0, 0).expect("a request");
     store.deliver_request(0, 16).expect("a request");
     write_to_0(&mut store, 1, 3, 5);

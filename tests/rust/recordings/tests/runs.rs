@@ -50,7 +50,7 @@ fn lost_frames() {
 /// What stands on a link when a new press is opened is never delivered.
 #[test]
 fn reopened() {
-    let schedule = format!("O 1 1 2 5\nW 1 1 0 9\n{WRITE}");
+    let schedule = format!("O 3 1 2 5\nW 1 1 0 9\n{WRITE}");
     assert_eq!(recording(&schedule), recording(WRITE));
 }
 

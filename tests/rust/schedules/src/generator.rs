@@ -3,7 +3,7 @@
 use crate::lines::line_of;
 use crate::random::Random;
 use crate::wrong::{self, badge, Size};
-use model::{Link, Method, Player, State, Step, Store, MOST_BEGUN};
+use model::{Link, Method, Outcome, Player, State, Step, Store, MOST_BEGUN};
 
 /// What a section is after.
 #[derive(Clone, Copy, PartialEq)]
@@ -14,6 +14,16 @@ enum Aim {
     AllWrites,
     /// As many READs as can begin, and one more.
     AllReads,
+}
+
+/// By which rules the store goes on, and with that which methods are opened.
+#[derive(Clone, Copy, PartialEq)]
+enum Rules {
+    Today,
+    /// Document 02's E10: openings and begins of method 1 by the rules as they stood before it.
+    Mixed,
+    /// The same, and method 1 alone.
+    OfMethod1,
 }
 
 /// The setpoint of every WRITE whose setpoints are not its own: tags and badges alone tell these WRITEs apart.
@@ -28,6 +38,7 @@ const SENT_AGAIN: usize = 6;
 pub struct Generator {
     random: Random,
     pub player: Player,
+    rules: Rules,
     text: Vec<u8>,
     aim: Aim,
     favourite: usize,
@@ -48,13 +59,36 @@ pub fn schedule(seed: u64, sections: usize) -> Vec<u8> {
 
 impl Generator {
     pub fn new(seed: u64) -> Generator {
+        Generator::by(seed, Rules::Today)
+    }
+
+    /// One whose stores are of method 1 too, by the former rules: not for texts, whose lines go by today's.
+    pub fn mixed(seed: u64) -> Generator {
+        Generator::by(seed, Rules::Mixed)
+    }
+
+    /// One whose stores are of method 1 alone.
+    pub fn of_method_1(seed: u64) -> Generator {
+        Generator::by(seed, Rules::OfMethod1)
+    }
+
+    fn by(seed: u64, rules: Rules) -> Generator {
         Generator {
             random: Random::new(seed),
             player: Player::default(),
+            rules,
             text: Vec::new(),
             aim: Aim::Overlaps,
             favourite: 0,
             fresh: 1,
+        }
+    }
+
+    /// The store goes on.
+    pub fn take(&mut self, step: &Step) -> Outcome {
+        match self.rules {
+            Rules::Today => self.player.take(step),
+            Rules::Mixed | Rules::OfMethod1 => self.player.take_mixed(step),
         }
     }
 
@@ -67,7 +101,10 @@ impl Generator {
 
     fn before_opening(&mut self) {
         for _ in 0..self.random.below(8) {
-            let line = self.wrong_line();
+            let line = match self.random.below(16) {
+                0 => line_of(&wrong::opening_by_method_1(&mut self.random)),
+                _ => self.wrong_line(),
+            };
             self.push(&line);
         }
     }
@@ -97,7 +134,11 @@ impl Generator {
 
     /// The opening that a section starts with.
     pub fn opening(&mut self) -> Step {
-        let method = self.random.within(1, 3) as u32;
+        let method = match self.rules {
+            Rules::Today => self.random.within(2, 3) as u32,
+            Rules::Mixed => self.random.within(1, 3) as u32,
+            Rules::OfMethod1 => 1,
+        };
         let small = self.aim != Aim::Overlaps || self.random.chance(1, 2);
         let (most_servers, most_clients) = if small { (3, 4) } else { (16, 16) };
         let servers = self.random.within(1, most_servers) as u32;

@@ -140,6 +140,12 @@ fn mask(random: &mut Random, servers: usize) -> u32 {
     }
 }
 
+/// An opening by method 1 that is right in all else, as it was before E10.
+pub fn opening_by_method_1(random: &mut Random) -> Step {
+    let servers = random.within(1, 16);
+    Step::Open { method: 1, servers: servers as u32, clients: random.within(2, 16) as u32, setpoints: vec![7; servers] }
+}
+
 /// An opening with an argument out of its range, now and then with two.
 fn bad_opening(random: &mut Random) -> Step {
     let servers = random.within(1, 16) as u32;
@@ -149,7 +155,8 @@ fn bad_opening(random: &mut Random) -> Step {
             0 => method = random.pick(&[0, 4, 257, 258, 259, u32::MAX]),
             1 => asked = random.pick(&[0, 17, 256, 257, u32::MAX]),
             2 => clients = random.pick(&[0, 17, 256, 258, u32::MAX]),
-            3 => (method, clients) = (1, 1),
+            // Refused for every k and p.
+            3 => (method, clients) = (1, random.pick(&[1, 2, 3, 16])),
             _ => given = random.pick(&[servers - 1, servers + 1]),
         }
     }

@@ -23,9 +23,11 @@ fn every_answer_occurs() {
     for answer in ["ok", "wait", "next", "write", "read"] {
         assert!(found.get(answer).is_some_and(|&times| times > 200), "{answer}: {found:?}");
     }
-    for number in [1, 2, 3, 4, 5, 6, 7, 9, Refusal::Unreadable as u8, 14, 15] {
+    for number in [1, 2, 3, 5, 6, 7, 9, Refusal::Unreadable as u8, 14, 15] {
         assert!(found.contains_key(&format!("no {number}")), "{number}: {found:?}");
     }
+    // No opening leads to tables of method 1.
+    assert!(!found.contains_key("no 4"));
 }
 
 #[test]

@@ -47,6 +47,8 @@ fn refused() {
         "0 5 0 2 2",
         "0 5 4 2 2",
         "0 5 1 2 1",
+        "0 5 1 2 2",
+        "0 0 1 16 16",
         "0 5 2 0 2",
         "0 5 2 17 2",
         "0 5 2 4294967295 2",
@@ -60,7 +62,7 @@ fn refused() {
 
 #[test]
 fn every_line_is_accepted() {
-    for line in ["4294967295 2000 1 2 3", "7 500 2 4 4", "3 4294967295 3 1 2", "8 900 3 16 16", "1 900 2 16 1"] {
+    for line in ["4294967295 2000 2 2 3", "7 500 2 4 4", "3 4294967295 3 1 2", "8 900 3 16 16", "1 900 2 16 1"] {
         let schedule = load_text(line.as_bytes());
         let (lines, output) = (model::line::lines(&schedule).count(), replay(&schedule));
         let answers: Vec<&[u8]> = model::line::lines(&output).take(lines).collect();

@@ -21,6 +21,19 @@ pub fn take(tables: &mut Tables, step: &Step) -> Outcome {
     take_by(tables, |store| store.take(step))
 }
 
+/// A step of a run as document 02's E10 speaks of it: what the former rules accept of openings and begins of method 1 goes by them, and all
+/// else by today's.
+pub fn take_mixed(tables: &mut Tables, step: &Step) -> Outcome {
+    match step {
+        Step::Open { method: 1, servers, clients, setpoints } => match Store::open_mixed(1, *servers, *clients, setpoints) {
+            Ok(store) if long_enough(tables, store.servers.len(), store.clients.len()) => write_opening(tables, store),
+            _ => take(tables, step),
+        },
+        Step::Open { .. } => take(tables, step),
+        _ => take_by(tables, |store| store.take_mixed(step)),
+    }
+}
+
 /// The same of any step but an opening, taken by this function on the store that the tables hold.
 pub fn take_by(tables: &mut Tables, take: impl FnOnce(&mut Store) -> Outcome) -> Outcome {
     if !sound(tables) {
@@ -33,10 +46,13 @@ pub fn take_by(tables: &mut Tables, take: impl FnOnce(&mut Store) -> Outcome) ->
     Ok(answer)
 }
 
-/// An opening asks only that the tables are long enough for the new k and p.
 fn open(tables: &mut Tables, method: u32, servers: u32, clients: u32, setpoints: &[u32]) -> Outcome {
-    let store = Store::open(method, servers, clients, setpoints)?;
-    if !long_enough(tables, servers as usize, clients as usize) {
+    write_opening(tables, Store::open(method, servers, clients, setpoints)?)
+}
+
+/// An opening asks only that the tables are long enough for the new k and p.
+fn write_opening(tables: &mut Tables, store: Store) -> Outcome {
+    if !long_enough(tables, store.servers.len(), store.clients.len()) {
         return Err(Refusal::Unsound);
     }
     writing::write_opening(tables, &store);

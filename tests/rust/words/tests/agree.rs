@@ -3,7 +3,7 @@
 use model::{Refusal, Step};
 use schedules::Generator;
 use words::layout::*;
-use words::{sound, store_of, take, Tables};
+use words::{sound, store_of, take_mixed, Tables};
 
 /// Opens a store in tables full of a word.
 fn opened(opening: &Step, word: u32) -> Tables {
@@ -11,21 +11,21 @@ fn opened(opening: &Step, word: u32) -> Tables {
         unreachable!("openings open");
     };
     let mut tables = Tables::filled(*servers as usize, *clients as usize, word);
-    assert!(take(&mut tables, opening).is_ok());
+    assert!(take_mixed(&mut tables, opening).is_ok());
     tables
 }
 
 #[test]
 fn runs_on_words_are_the_models() {
     for seed in 0..60 {
-        let mut generator = Generator::new(seed);
+        let mut generator = Generator::mixed(seed);
         let opening = generator.opening();
         let mut tables = opened(&opening, 0xDEAD_BEEF);
-        generator.player.take(&opening).expect("a good opening");
+        generator.take(&opening).expect("a good opening");
         for _ in 0..150 {
             let step = generator.likely_step();
-            let expected = generator.player.take(&step);
-            assert_eq!(take(&mut tables, &step), expected);
+            let expected = generator.take(&step);
+            assert_eq!(take_mixed(&mut tables, &step), expected);
             assert!(sound(&tables), "seed {seed}, {step:?}");
             assert_eq!(Some(store_of(&tables)), generator.player.store);
         }
@@ -39,7 +39,7 @@ fn an_opening_needs_only_the_lengths() {
         let mut tables = Tables::filled(3, 2, 9);
         tables.all_mut()[which].pop();
         let before = tables.clone();
-        assert_eq!(take(&mut tables, &opening), Err(Refusal::Unsound));
+        assert_eq!(take_mixed(&mut tables, &opening), Err(Refusal::Unsound));
         assert_eq!(tables, before);
     }
     assert!(sound(&opened(&opening, 9)));
@@ -53,7 +53,7 @@ fn single_words_that_break_soundness() {
         let mut broken = tables.clone();
         broken.counts[place] = word;
         assert!(!sound(&broken), "counts[{place}] = {word}");
-        assert_eq!(take(&mut broken, &Step::BeginRead { client: 0, mask: 1 }), Err(Refusal::Unsound));
+        assert_eq!(take_mixed(&mut broken, &Step::BeginRead { client: 0, mask: 1 }), Err(Refusal::Unsound));
     }
 }
 
@@ -68,7 +68,7 @@ fn written(method: u32) -> Tables {
         Step::DeliverReply { client, target: 0 },
         Step::DeliverRequest { client, target: 16 },
     ];
-    steps.iter().for_each(|step| drop(take(&mut tables, step).expect("accepted")));
+    steps.iter().for_each(|step| drop(take_mixed(&mut tables, step).expect("accepted")));
     tables
 }
 
@@ -90,7 +90,7 @@ fn after(method: u32, steps: &[Step]) -> Tables {
     let opening = Step::Open { method, servers: 2, clients: 2, setpoints: vec![1, 2] };
     let mut tables = Tables::filled(3, 3, 70_000);
     for step in [&opening].into_iter().chain(steps) {
-        take(&mut tables, step).expect("accepted");
+        take_mixed(&mut tables, step).expect("accepted");
     }
     assert!(sound(&tables));
     tables
@@ -204,9 +204,9 @@ fn free_words_in_the_places_of_badges_are_kept() {
     tables.reads[record] = u32::MAX;
     tables.links[link + LINK_BADGE] = u32::MAX;
     tables.clients[BADGES + 2] = u32::MAX;
-    assert!(take(&mut tables, &request(0, 1)).is_ok());
+    assert!(take_mixed(&mut tables, &request(0, 1)).is_ok());
     assert_eq!(tables.link(0, 1), [REPLY, 0, 2, 0]);
-    assert!(take(&mut tables, &reply(0, 1)).is_ok());
+    assert!(take_mixed(&mut tables, &reply(0, 1)).is_ok());
     assert_eq!((tables.link(0, 1), tables.reads[record]), (&[NOTHING, 0, 0, 0][..], u32::MAX));
     assert_eq!(tables.clients[BADGES..BADGES + 3], [0, 0, u32::MAX]);
 }

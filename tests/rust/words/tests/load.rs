@@ -3,7 +3,7 @@
 use model::Step;
 use words::layout::{CLIENTS, STEP};
 use words::load::{next_step, play_load, LoadEnd, LoadPick, NO_STEP, STEP_WORDS};
-use words::{sound, store_of, take, Tables};
+use words::{sound, store_of, take, take_mixed, Tables};
 
 fn opened(method: u32, servers: u32, clients: u32) -> Tables {
     let mut tables = Tables::filled(servers as usize, clients as usize, 0xDEAD_BEEF);
@@ -45,7 +45,7 @@ fn the_worked_examples_rows() {
 
 #[test]
 fn a_load_leaves_what_its_steps_leave() {
-    for (method, servers, clients, seed) in [(1, 2, 3, 1), (2, 3, 2, 2), (3, 2, 2, 3)] {
+    for (method, servers, clients, seed) in [(2, 2, 3, 1), (2, 3, 2, 2), (3, 2, 2, 3)] {
         let (mut tables, mut one_by_one) = (opened(method, servers, clients), opened(method, servers, clients));
         let mut list = vec![9; STEP_WORDS * 300 + 5];
         let end = play_load(&mut tables, seed, 300, &mut list);
@@ -61,6 +61,27 @@ fn a_load_leaves_what_its_steps_leave() {
         assert_eq!(end.seed, seed);
         assert_eq!(list[STEP_WORDS * 300..], [9; 5]);
     }
+}
+
+/// Under method 1 nothing begins: a load delivers what the former rules began, and then no step is acceptable.
+#[test]
+fn a_load_under_method_1_delivers_to_the_end() {
+    let mut tables = Tables::filled(2, 2, 0xDEAD_BEEF);
+    for step in [
+        Step::Open { method: 1, servers: 2, clients: 2, setpoints: vec![1, 2] },
+        Step::BeginWrite { client: 1, mask: 3, badge: 7, setpoints: vec![8, 9] },
+        Step::BeginRead { client: 0, mask: 1 },
+    ] {
+        take_mixed(&mut tables, &step).expect("accepted");
+    }
+    let mut list = vec![9; STEP_WORDS * 20];
+    let end = play_load(&mut tables, 1, 20, &mut list);
+    // Of the WRITE 2 steps for each station and for the head, of the READ 2.
+    assert_eq!((end.answer, end.steps), (0, 8));
+    assert!(list[..STEP_WORDS * 8].chunks_exact(STEP_WORDS).all(|row| row[0] >= 2));
+    assert_eq!(list[STEP_WORDS * 8..], [9; STEP_WORDS * 12]);
+    assert_eq!(next_step(&tables, end.seed).answer, NO_STEP);
+    assert!(tables.links.chunks_exact(4).all(|link| link[0] == 0));
 }
 
 /// What stands in a link that holds nothing is free, and a link that was used since is four zeros.

@@ -2,7 +2,7 @@
 
 use model::{Refusal, Step};
 use words::layout::*;
-use words::{sound, take, Tables};
+use words::{sound, take_mixed, Tables};
 
 /// Tables after these steps behind an opening of two servers and two clients, with room for a third server and a third client, full of
 /// words that are no badge and no key.
@@ -10,7 +10,7 @@ fn after(method: u32, steps: &[Step]) -> Tables {
     let opening = Step::Open { method, servers: 2, clients: 2, setpoints: vec![1, 2] };
     let mut tables = Tables::filled(3, 3, 70_000);
     for step in [&opening].into_iter().chain(steps) {
-        take(&mut tables, step).expect("accepted");
+        take_mixed(&mut tables, step).expect("accepted");
     }
     assert!(sound(&tables));
     tables
@@ -101,7 +101,7 @@ fn all_links_lost() {
     for (state, tables, client, waiting) in states().into_iter().filter(|(.., waiting)| !waiting.is_empty()) {
         let (mut lost, mut empty) = (tables.clone(), tables);
         for &target in waiting {
-            assert!(take(&mut lost, &lose(client as u32, target as u32)).is_ok(), "state {state}");
+            assert!(take_mixed(&mut lost, &lose(client as u32, target as u32)).is_ok(), "state {state}");
             assert_eq!(lost.link(client, target), [LOST, 0, 0, 0]);
             empty.links[link_place(client, target)] = NOTHING;
         }
@@ -174,7 +174,7 @@ fn the_words_of_what_is_sent_again() {
         let mut expected = tables.clone();
         expected.links[place..place + LINK_WORDS].copy_from_slice(&words);
         expected.counts[STEP] += 1;
-        assert!(take(&mut tables, &resend(client as u32, target as u32)).is_ok(), "state {state}");
+        assert!(take_mixed(&mut tables, &resend(client as u32, target as u32)).is_ok(), "state {state}");
         assert_eq!(tables, expected, "state {state}");
     }
 }
@@ -185,14 +185,14 @@ fn the_row_decides_what_is_sent_again() {
     let mut tables = after(2, &[writing(), lose(1, 0)]);
     let row = CLIENT_WORDS;
     (tables.clients[row + WRITE_BADGE], tables.clients[row + SETPOINTS]) = (65_535, u32::MAX);
-    assert!(take(&mut tables, &resend(1, 0)).is_ok());
+    assert!(take_mixed(&mut tables, &resend(1, 0)).is_ok());
     assert_eq!(tables.link(1, 0), [REQUEST, 257, u32::MAX, 65_535]);
 
     let mut tables = after(1, &[reading(), lose(0, 1)]);
     tables.clients[ASKED + 1] = 257;
-    assert!(take(&mut tables, &resend(0, 1)).is_ok());
+    assert!(take_mixed(&mut tables, &resend(0, 1)).is_ok());
     assert_eq!(tables.link(0, 1), [REQUEST, 257, 0, 0]);
-    assert_eq!(take(&mut tables, &request(0, 1)), Err(Refusal::FullOrNotHeld));
+    assert_eq!(take_mixed(&mut tables, &request(0, 1)), Err(Refusal::FullOrNotHeld));
 }
 
 /// A begin of a WRITE keeps its badge, and gets keep their keys; what else stands in those words stays.
@@ -206,7 +206,7 @@ fn what_a_panel_keeps() {
         tables.clients[ASKED..ASKED + 16].fill(12_345);
         let both = Step::BeginRead { client: 0, mask: 3 };
         for step in [vec![both], if method == 2 { vec![request(0, 16), reply(0, 16)] } else { vec![] }].concat() {
-            assert!(take(&mut tables, &step).is_ok());
+            assert!(take_mixed(&mut tables, &step).is_ok());
         }
         let mut asked = [12_345; 16];
         if method != 3 {
@@ -224,17 +224,17 @@ fn nothing_is_stored_twice() {
     let mut expected = tables.clone();
     expected.links[link_place(1, 0)..][..LINK_WORDS].copy_from_slice(&[REPLY, 0, 0, 0]);
     expected.counts[STEP] += 1;
-    assert!(take(&mut tables, &request(1, 0)).is_ok());
+    assert!(take_mixed(&mut tables, &request(1, 0)).is_ok());
     assert_eq!(tables, expected);
     for step in [reply(1, 0), request(1, 16), lose(1, 16), resend(1, 16)] {
-        assert!(take(&mut tables, &step).is_ok());
+        assert!(take_mixed(&mut tables, &step).is_ok());
     }
     // The record's tag is another than the log has, and stays so.
     tables.writes[2] = 0;
     let mut expected = tables.clone();
     expected.links[link_place(1, 16)..][..LINK_WORDS].copy_from_slice(&[REPLY, 0, 1, 0]);
     expected.counts[STEP] += 1;
-    assert!(take(&mut tables, &request(1, 16)).is_ok());
+    assert!(take_mixed(&mut tables, &request(1, 16)).is_ok());
     assert_eq!(tables, expected);
 }
 
@@ -245,7 +245,7 @@ fn refused_by_2() {
     tables.clients[WRITE_BADGE] = 65_536;
     let before = tables.clone();
     for step in [lose(1, 0), resend(1, 0), lose(9, 9), resend(9, 9)] {
-        assert_eq!(take(&mut tables, &step), Err(Refusal::Unsound));
+        assert_eq!(take_mixed(&mut tables, &step), Err(Refusal::Unsound));
         assert_eq!(tables, before);
     }
 }
