@@ -1,7 +1,7 @@
 //! Loads, from openings to their ends and in parts, and on damaged tables.
 
 use super::damage::{damage, fill_to_limits};
-use super::store::{fresh_tables, opening};
+use super::store::fresh_tables;
 use super::{reached, Tally};
 use bench::fast::calls;
 use ffi::LoadLibrary;
@@ -21,7 +21,7 @@ pub fn compare(store: StoreLibrary, library: LoadLibrary) {
     let mut counts = Tally::default();
     for seed in 0..RUNS {
         let (mut generator, mut random) = (Generator::new(seed), Random::new(!seed));
-        let opening = opening(&mut generator);
+        let opening = generator.opening();
         let Step::Open { method, servers, clients, setpoints } = &opening else {
             unreachable!("openings open");
         };

@@ -37,16 +37,6 @@ pub fn compare(library: StoreLibrary) {
     reached("on tables of method 1", &of_method_1, &DUE_OF_METHOD_1);
 }
 
-/// An opening by method 2 or 3: none by method 1 is accepted.
-pub fn opening(generator: &mut Generator) -> Step {
-    loop {
-        match generator.opening() {
-            Step::Open { method: 1, .. } => {}
-            opening => return opening,
-        }
-    }
-}
-
 /// Tables for an opening, just long enough or longer, which hold anything.
 pub fn fresh_tables(opening: &Step, random: &mut Random) -> Tables {
     let Step::Open { servers, clients, .. } = opening else {
@@ -64,7 +54,7 @@ pub fn fresh_tables(opening: &Step, random: &mut Random) -> Tables {
 /// The steps of a run: how many there were.
 fn one_run(library: StoreLibrary, seed: u64, answers: &mut Tally, of_method_1: &mut Tally) -> usize {
     let (mut generator, mut random) = (Generator::new(seed), Random::new(!seed));
-    let opening = opening(&mut generator);
+    let opening = generator.opening();
     let mut run = Both::of(library, fresh_tables(&opening, &mut random));
     run.step(&opening, answers);
     let _ = generator.player.take(&opening);
@@ -95,12 +85,21 @@ fn on_damaged(run: &Both, generator: &mut Generator, random: &mut Random, answer
         damage(&mut odd, random);
         match random.below(8) {
             0 => generator.wrong_step(),
-            1 => generator.opening(),
+            1 => opening_by_any_method(generator, random),
             2..=4 => step_on_a_link(&odd, random),
             _ => generator.likely_step(),
         }
     });
     Both::of(run.library, odd).step(&step, answers);
+}
+
+/// An opening, now and then by method 1, which opens nothing any more.
+fn opening_by_any_method(generator: &mut Generator, random: &mut Random) -> Step {
+    let mut opening = generator.opening();
+    if let Step::Open { method, .. } = &mut opening {
+        *method = random.pick(&[1, *method, *method]);
+    }
+    opening
 }
 
 /// Where the tables are such as method 1 could have left them, they go on as tables of method 1.
