@@ -1,15 +1,15 @@
 //! The check of sound tables alone, by servers, clients and how much they hold.
 
 use crate::clock::{beside, least_of_passes};
+use crate::goals;
 use crate::plans::Plan;
 use crate::sides::opened_tables;
 use crate::table::{print, ratio, time};
+use bench::fast::calls;
 use ffi::StoreLibrary;
 use words::Tables;
 
-const GOAL: f64 = 1.5;
-
-const HEADS: [&str; 6] = ["servers", "clients", "versions of each server", "proved ns", "Rust ns", "ratio"];
+const HEADS: [&str; 6] = ["servers", "clients", "versions of each server", "proved ns", "fast ns", "ratio"];
 
 /// Servers, clients and versions of each server, with tables that hold so many.
 pub fn cases(library: StoreLibrary) -> Vec<([u32; 3], Tables)> {
@@ -20,10 +20,10 @@ pub fn cases(library: StoreLibrary) -> Vec<([u32; 3], Tables)> {
 
 pub fn report(library: StoreLibrary) {
     let cases = cases(library);
-    let times = least_of_passes(&cases, |(_, tables)| beside(|| library.sound(tables), || words::sound(tables)).into());
-    let row = |((size, _), [proved, rust]): (&([u32; 3], Tables), [f64; 2])| {
+    let times = least_of_passes(&cases, |(_, tables)| beside(|| library.sound(tables), || calls::sound(tables)).into());
+    let row = |((size, _), [proved, fast]): (&([u32; 3], Tables), [f64; 2])| {
         let numbers = size.map(|number| number.to_string());
-        [&numbers[..], &[time(proved), time(rust), ratio(proved, rust, GOAL)]].concat()
+        [&numbers[..], &[time(proved), time(fast), ratio(proved, fast, goals::CHECK)]].concat()
     };
     let rows: Vec<Vec<String>> = cases.iter().zip(times).map(row).collect();
     print("The check of sound tables", &HEADS, &rows);
@@ -39,6 +39,6 @@ fn filled(library: StoreLibrary, [servers, clients, entries]: [u32; 3]) -> Table
     for step in &plan.steps {
         library.number(&mut tables, step);
     }
-    assert!(library.sound(&tables) && words::sound(&tables));
+    assert!(library.sound(&tables) && calls::sound(&tables));
     tables
 }

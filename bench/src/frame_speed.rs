@@ -2,8 +2,9 @@
 //! Rust, and beside a codec that was written for speed.
 
 use crate::clock::{beside, least_of_passes};
-use crate::fast;
+use crate::goals;
 use crate::table::{print, ratio, thousands, time};
+use bench::fast::frame as fast;
 use ffi::frame::{answer, taken_apart, Parts};
 use ffi::FrameLibrary;
 use frames::lent::{read_lent, write_lent, Fixed};
@@ -121,13 +122,7 @@ impl Codec for FrameLibrary {
 pub fn report(library: FrameLibrary) {
     let a_second = |nanoseconds: f64| thousands(1e9 / nanoseconds);
     table("Frames", library, Rust, "written a second", "read a second", a_second, |_| 3.0);
-    // A frame with few entries has no goal beside the fast codec.
-    let goal = |entries: u32| match entries {
-        0 => 3.0,
-        1..16 => f64::INFINITY,
-        _ => 4.0,
-    };
-    table("Frames, beside a codec written for speed", library, Fast, "written, ns", "read, ns", time, goal);
+    table("Frames, beside a codec written for speed", library, Fast, "written, ns", "read, ns", time, goals::of_frame);
 }
 
 /// A row for each frame; `said` is how a time is printed.
@@ -144,7 +139,7 @@ fn table<C: Codec>(
     let heads: Vec<String> = ["kind", "entries", "bytes"]
         .map(String::from)
         .into_iter()
-        .chain([written, read].iter().flat_map(|what| [of(FrameLibrary::NAME, what), of(C::NAME, what), "times as long".into()]))
+        .chain([written, read].iter().flat_map(|what| [of(FrameLibrary::NAME, what), of(C::NAME, what), "ratio".into()]))
         .collect();
     let heads: Vec<&str> = heads.iter().map(String::as_str).collect();
     let times = least_of_passes(&FRAMES, |&(kind, entries)| one_kind(library, other, kind, entries));
@@ -237,4 +232,56 @@ pub fn message(kind: u32, entries: u32) -> Fixed {
         _ => {}
     }
     fixed
+}
+
+#[cfg(test)]
+mod tests {
+    use super::*;
+    use bench::fast::frame::{read, write};
+
+    /// Writes and reads as the independent codec does: each frame that is measured, each of its prefixes, each of its bits turned; and with
+    /// a place too few in each slice.
+    #[test]
+    fn as_the_independent_codec() {
+        for (kind, entries) in FRAMES {
+            let (fixed, [keys, badges, numbers]) = (message(kind, entries), entries_beside(kind, entries));
+            let (mut bytes, mut other) = (vec![0xA5; MOST_BYTES], vec![0xA5; MOST_BYTES]);
+            let length = write_lent(&fixed, &keys, &badges, &numbers, &mut other).expect("a good message");
+            assert_eq!(answer(write(&fixed, &keys, &badges, &numbers, &mut bytes)), Ok(length as u64));
+            assert_eq!(bytes, other);
+            let frame = &bytes[..length];
+            (0..length).for_each(|cut| alike(&frame[..cut]));
+            alike(frame);
+            for slice in 0..3 {
+                let mut places = [entries as usize; 3];
+                places[slice] = places[slice].saturating_sub(1);
+                alike_with(frame, places);
+                let short = [&keys, &badges, &numbers].map(|words| &words[..words.len().saturating_sub(1)]);
+                let mut lent = [&keys[..], &badges, &numbers];
+                lent[slice] = short[slice];
+                let [keys, badges, numbers] = lent;
+                let expected = write_lent(&fixed, keys, badges, numbers, &mut other).map(|length| length as u64);
+                assert_eq!(answer(write(&fixed, keys, badges, numbers, &mut vec![0; MOST_BYTES])), expected);
+            }
+            for bit in 0..8 * length {
+                let mut turned = frame.to_vec();
+                turned[bit / 8] ^= 128 >> (bit % 8);
+                alike(&turned);
+            }
+        }
+    }
+
+    fn alike(bytes: &[u8]) {
+        alike_with(bytes, [256; 3]);
+    }
+
+    fn alike_with(bytes: &[u8], places: [usize; 3]) {
+        let mut lent = places.map(|number| vec![7; number]);
+        let mut other = lent.clone();
+        let [keys, badges, numbers] = &mut lent;
+        let message = taken_apart(read(bytes, keys, badges, numbers));
+        let [keys, badges, numbers] = &mut other;
+        assert_eq!(message, read_lent(bytes, keys, badges, numbers));
+        assert_eq!(lent, other);
+    }
 }

@@ -1,6 +1,7 @@
 //! How the cost of a step grows with the log and the versions held, and the worst cases.
 
 use crate::clock::{least_of_passes, Clock};
+use crate::goals;
 use crate::plans::Plan;
 use crate::sides::last_steps;
 use crate::table::{print, ratio, time};
@@ -8,32 +9,47 @@ use ffi::StoreLibrary;
 use model::COORDINATOR;
 
 const ROUNDS: usize = 40;
-const GOAL: f64 = 1.5;
 
-/// Plans of which so many last steps are measured, made for any size.
-type Case = (&'static str, usize, fn(usize) -> Plan);
+/// Plans of which so many last steps are measured, made for any size, and the goal.
+pub struct Case {
+    pub name: &'static str,
+    pub goal: f64,
+    pub steps: usize,
+    pub plan: fn(usize) -> Plan,
+}
+
+const fn case(name: &'static str, goal: f64, steps: usize, plan: fn(usize) -> Plan) -> Case {
+    Case { name, goal, steps, plan }
+}
 
 const LOGS: [usize; 5] = [1, 32, 64, 128, 256];
-const BY_LOG: [Case; 13] = [
-    ("which keys, B, request and reply together, 2 servers, one never written: one search of the whole log", 2, |entries| {
-        keys_of_untouched(entries, 2)
+pub const BY_LOG: [Case; 13] = [
+    case("reply keys, one server that no WRITE wrote: one search of the whole log", goals::KEYS, 1, untouched_server),
+    case("reply keys, 16 servers of which 15 were never written: 15 such searches", goals::KEYS, 1, untouched_servers),
+    case("request get of the newest of as many versions", goals::SEARCH, 1, newest_version),
+    case("request set of a new key, behind as many versions, 255 of 256", goals::SEARCH, 1, |entries| new_key(entries, 0)),
+    case("request set of a key held, behind as many versions, 255 of 256", goals::SEARCH, 1, |entries| key_again(entries, 0)),
+    case("request enter of a new key, behind as many entries, 255 of 256", goals::SEARCH, 1, |entries| {
+        new_key(entries, COORDINATOR)
     }),
-    ("which keys, B, request and reply together, 16 servers, 15 never written: 15 such searches", 2, |entries| {
-        keys_of_untouched(entries, 16)
+    case("request enter of a key entered, behind as many entries, 255 of 256", goals::SEARCH, 1, |entries| {
+        key_again(entries, COORDINATOR)
     }),
-    ("request get of the newest of as many versions", 1, newest_version),
-    ("request set of a new key, behind as many versions, 255 of 256", 1, |entries| new_key(entries, 0)),
-    ("request set of a key held, behind as many versions, 255 of 256", 1, |entries| key_again(entries, 0)),
-    ("request enter of a new key, behind as many entries, 255 of 256", 1, |entries| new_key(entries, COORDINATOR)),
-    ("request enter of a key entered, behind as many entries, 255 of 256", 1, |entries| key_again(entries, COORDINATOR)),
-    ("C's last reply, 1 server, the newest tag qualifies", 1, newest_tag_of_one),
-    ("C's last reply, 16 servers, the newest tag qualifies", 1, newest_tag),
-    ("C's last reply, 16 servers, no tag but 0 qualifies, each WRITE of the last server", 1, |entries| gap(entries, 1, LAST)),
-    ("C's last reply, 16 servers, no tag but 0 qualifies, each WRITE of all", 1, |entries| gap(entries, 1, ALL)),
-    ("C's last reply, 16 servers, the tag below the newest qualifies, each WRITE of the last server", 1, |entries| {
-        gap(entries, entries - 1, LAST)
+    case("C's last reply, 1 server, the newest tag qualifies", goals::CHOICE, 1, newest_tag_of_one),
+    case("C's last reply, 16 servers, the newest tag qualifies", goals::CHOICE, 1, newest_tag),
+    case("C's last reply, 16 servers, no tag but 0 qualifies, each WRITE of the last server", goals::CHOICE, 1, |entries| {
+        gap(entries, 1, LAST)
     }),
-    ("C's last reply, 16 servers, the tag below the newest qualifies, each WRITE of all", 1, |entries| {
+    case("C's last reply, 16 servers, no tag but 0 qualifies, each WRITE of all", goals::CHOICE, 1, |entries| {
+        gap(entries, 1, ALL)
+    }),
+    case(
+        "C's last reply, 16 servers, the tag below the newest qualifies, each WRITE of the last server",
+        goals::CHOICE,
+        1,
+        |entries| gap(entries, entries - 1, LAST),
+    ),
+    case("C's last reply, 16 servers, the tag below the newest qualifies, each WRITE of all", goals::CHOICE, 1, |entries| {
         gap(entries, entries - 1, ALL)
     }),
 ];
@@ -43,15 +59,15 @@ const ALL: u32 = 0xFFFF;
 const LAST: u32 = 1 << 15;
 
 const SERVERS: [usize; 5] = [1, 2, 4, 8, 16];
-const BY_SERVERS: [Case; 6] = [
-    ("begin a WRITE", 1, |servers| after_64(2, servers, |plan| plan.begin_write(1, plan.all()))),
-    ("a WRITE's last reply set done, and its entry: 3 steps", 3, |servers| {
+pub const BY_SERVERS: [Case; 6] = [
+    case("begin a WRITE", goals::SHORT, 1, |servers| after_64(2, servers, |plan| plan.begin_write(1, plan.all()))),
+    case("a WRITE's last reply set done, and its entry: 3 steps", goals::SHORT, 3, |servers| {
         after_64(2, servers, |plan| plan.write(1, plan.all()))
     }),
-    ("begin a READ, B", 1, |servers| after_64(2, servers, |plan| plan.begin_read(0, plan.all()))),
-    ("begin a READ, C", 1, |servers| after_64(3, servers, |plan| plan.begin_read(0, plan.all()))),
-    ("B's last reply", 1, |servers| after_64(2, servers, read_to_end)),
-    ("C's last reply", 1, |servers| after_64(3, servers, read_to_end)),
+    case("begin a READ, C", goals::SHORT, 1, |servers| after_64(3, servers, |plan| plan.begin_read(0, plan.all()))),
+    case("reply keys", goals::SHORT, 1, |servers| after_64(2, servers, |plan| read_keys(plan, plan.all()))),
+    case("B's last reply", goals::LAST_GOT, 1, |servers| after_64(2, servers, read_to_end)),
+    case("C's last reply", goals::CHOICE, 1, |servers| after_64(3, servers, read_to_end)),
 ];
 
 pub fn report(clock: &Clock, library: StoreLibrary) {
@@ -65,19 +81,19 @@ fn heads(sizes: &[String]) -> Vec<&str> {
     ["step", "side"].into_iter().chain(sizes.iter().map(String::as_str)).collect()
 }
 
-/// Three rows a case: proved, Rust and their ratio.
+/// Three rows a case: proved, fast and their ratio.
 fn rows(clock: &Clock, library: StoreLibrary, cases: &[Case], sizes: &[usize]) -> Vec<Vec<String>> {
-    let plan_of = |&(_, steps, plan_of): &Case, &size: &usize| (plan_of(size), steps);
+    let plan_of = |case: &Case, &size: &usize| ((case.plan)(size), case.steps);
     let plans: Vec<(Plan, usize)> = cases.iter().flat_map(|case| sizes.iter().map(move |size| plan_of(case, size))).collect();
     let times = least_of_passes(&plans, |(plan, steps)| last_steps(clock, library, plan, *steps, ROUNDS));
     let mut rows = Vec::new();
-    for ((name, ..), times) in cases.iter().zip(times.chunks(sizes.len())) {
-        let row = |name: &str, side: &str, cell: fn(&[f64; 2]) -> String| {
+    for (case, times) in cases.iter().zip(times.chunks(sizes.len())) {
+        let row = |name: &str, side: &str, cell: &dyn Fn(&[f64; 2]) -> String| {
             [name.to_string(), side.to_string()].into_iter().chain(times.iter().map(cell)).collect()
         };
-        rows.push(row(name, "inner", |&[proved, _]| time(proved)));
-        rows.push(row("", "Rust", |&[_, rust]| time(rust)));
-        rows.push(row("", "ratio", |&[proved, rust]| ratio(proved, rust, GOAL)));
+        rows.push(row(case.name, "inner", &|&[proved, _]| time(proved)));
+        rows.push(row("", "fast", &|&[_, fast]| time(fast)));
+        rows.push(row("", "ratio", &|&[proved, fast]| ratio(proved, fast, case.goal)));
     }
     rows
 }
@@ -103,20 +119,29 @@ fn written(method: u32, servers: u32, mask: u32, entries: usize) -> Plan {
     plan
 }
 
-/// WRITEs of server 0 alone.
-fn keys_of_untouched(entries: usize, servers: u32) -> Plan {
-    let mut plan = written(2, servers, 1, entries);
-    plan.begin_read(0, plan.all());
+/// A READ under B up to the keys' arrival.
+fn read_keys(plan: &mut Plan, mask: u32) {
+    plan.begin_read(0, mask);
     plan.request(0, COORDINATOR);
     plan.reply(0, COORDINATOR);
+}
+
+fn untouched_server(entries: usize) -> Plan {
+    let mut plan = written(2, 2, 1, entries);
+    read_keys(&mut plan, 2);
+    plan
+}
+
+fn untouched_servers(entries: usize) -> Plan {
+    let mut plan = written(2, 16, 1, entries);
+    let all = plan.all();
+    read_keys(&mut plan, all);
     plan
 }
 
 fn newest_version(entries: usize) -> Plan {
     let mut plan = written(2, 1, 1, entries);
-    plan.begin_read(0, 1);
-    plan.request(0, COORDINATOR);
-    plan.reply(0, COORDINATOR);
+    read_keys(&mut plan, 1);
     plan.request(0, 0);
     plan
 }

@@ -1,16 +1,21 @@
-//! How many instructions each kind of step, the check of tables, each kind of frame and a load's steps take, on both sides. They repeat
-//! exactly, where times do not.
-//! `count` runs under callgrind and has it write a file for each figure; `report` makes tables of the files. `bench/run instructions` does both.
+//! How many instructions each kind of step, the check of tables, each kind of frame, a load's steps and the program take, on both sides.
+//! They repeat exactly, where times do not.
+//! `count` runs under callgrind and has it write a file for each figure; `report` makes tables of the files. `bench/run instructions` does
+//! both.
 
 use crate::check;
 use crate::frame_speed::{places, Codec, Fast, Lent, Rust, FRAMES, MOST_BYTES};
+use crate::goals;
+use crate::growth::{Case, BY_LOG, BY_SERVERS};
 use crate::load_speed::{self, PRESSES as PRESSES_OF_LOADS};
 use crate::plans::{in_turn, Plan};
+use crate::program;
 use crate::sides::{self, Meter};
-use crate::steps::{kinds, PRESSES};
+use crate::steps::{kinds, METHODS, PRESSES};
 use crate::table::{print, ratio, time};
+use bench::fast::calls;
 use ffi::{FrameLibrary, LoadLibrary, StoreLibrary};
-use model::{Step, Store};
+use model::Step;
 use std::arch::asm;
 use std::ffi::CString;
 use std::fs;
@@ -67,20 +72,49 @@ pub fn count_of_nothing() {
     written(NOTHING, "", "", 1);
 }
 
+/// The tables by their titles.
+const OF_STEPS: &str = "Instructions of steps";
+const OF_GROWTH: &str = "Instructions of steps by the log and the versions";
+const OF_GROWTH_WITH_SERVERS: &str = "Instructions of steps by the servers, a log of 64";
+const OF_CHECKS: &str = "Instructions of the check of sound tables";
+const OF_FAST_FRAMES: &str = "Instructions of frames, beside a codec written for speed";
+const OF_PROGRAM: &str = "Instructions of the program, a line of 100,000";
+
+/// The goal of a row.
+fn goal(table: &str, row: &str) -> f64 {
+    match table {
+        OF_GROWTH => BY_LOG.iter().find(|case| row.starts_with(case.name)).map_or(goals::NONE, |case| case.goal),
+        OF_GROWTH_WITH_SERVERS => BY_SERVERS.iter().find(|case| row.starts_with(case.name)).map_or(goals::NONE, |case| case.goal),
+        OF_CHECKS => goals::CHECK,
+        OF_PROGRAM => goals::PROGRAM,
+        OF_FAST_FRAMES => goals::of_frame(FRAMES.iter().find(|&&frame| row == frame_row(frame)).expect("a frame").1),
+        _ if table.starts_with(OF_STEPS) => goals::of_step(row),
+        _ => goals::NONE,
+    }
+}
+
+fn frame_row((kind, entries): (u32, u32)) -> String {
+    format!("kind {kind}, {entries} entries")
+}
+
 /// Steps and checks.
 pub fn count_of_steps(store: StoreLibrary) {
     for (place, &(servers, clients, times, _)) in PRESSES.iter().enumerate() {
-        let table = format!("Instructions of steps, {servers} servers and {clients} clients, {times} WRITEs and {times} READs of all servers in turn");
+        let table = format!(
+            "{OF_STEPS}, {servers} servers and {clients} clients, {times} WRITEs and {times} READs of all servers in turn"
+        );
         // A step that checks all tables of the larger press takes so long under valgrind that the first press must do.
-        count_steps(&table, store, &[2, 3].map(|method| in_turn(method, servers, clients, times)), place == 0);
+        count_steps(&table, store, &METHODS.map(|method| in_turn(method, servers, clients, times)), place == 0);
     }
-    count_checks("Instructions of the check of sound tables", store);
+    count_growth(OF_GROWTH, store, "a log of", &BY_LOG, &[1, 256]);
+    count_growth(OF_GROWTH_WITH_SERVERS, store, "k =", &BY_SERVERS, &[1, 16]);
+    count_checks(OF_CHECKS, store);
 }
 
 /// Frames.
 pub fn count_of_frames(frame: FrameLibrary) {
     count_frames("Instructions of frames", frame, Rust);
-    count_frames("Instructions of frames, beside a codec written for speed", frame, Fast);
+    count_frames(OF_FAST_FRAMES, frame, Fast);
 }
 
 /// Loads.
@@ -88,49 +122,59 @@ pub fn count_of_loads(store: StoreLibrary, load: LoadLibrary) {
     count_loads("Instructions of a load's step, of 20,000 from openings", store, load);
 }
 
-/// Counts the steps of one kind, over a plan.
-struct OfKind<'a>(&'a str);
+/// Counts the steps of a plan that are at these places in it, or of this kind.
+struct Counted<T: Fn(usize, &str) -> bool>(T);
 
-impl Meter for OfKind<'_> {
+impl<T: Fn(usize, &str) -> bool> Meter for Counted<T> {
     type Told = ();
 
-    fn play<S, R>(&self, plan: &Plan, fresh: impl Fn() -> S, take: impl Fn(&mut S, &Step) -> R, follow: impl Fn(&mut S, &Step)) {
+    fn play<S, R>(&self, plan: &Plan, fresh: impl Fn() -> S, take: impl Fn(&mut S, &Step) -> R) {
         let mut state = fresh();
-        for (step, &kind) in plan.steps.iter().zip(&plan.kinds) {
-            drop(if kind == self.0 { counted(|| take(&mut state, step)) } else { take(&mut state, step) });
-            follow(&mut state, step);
+        for (place, (step, kind)) in plan.steps.iter().zip(&plan.kinds).enumerate() {
+            drop(if self.0(place, kind) { counted(|| take(&mut state, step)) } else { take(&mut state, step) });
         }
     }
 }
 
 fn count_steps(table: &str, library: StoreLibrary, plans: &[Plan], checked: bool) {
-    count_openings(table, library, &plans[2]);
+    count_openings(table, library, &plans[1]);
     for kind in kinds(plans) {
         let calls = plans.iter().flat_map(|plan| &plan.kinds).filter(|&&other| other == kind).count();
         let having = || plans.iter().filter(|plan| plan.kinds.contains(&kind));
-        let meter = OfKind(kind);
+        let meter = Counted(|_, other: &str| other == kind);
         having().for_each(|plan| sides::inner(&meter, library, plan));
         written(table, kind, "inner", calls);
-        having().for_each(|plan| sides::rust(&meter, plan));
-        written(table, kind, "Rust", calls);
+        having().for_each(|plan| sides::fast(&meter, library, plan));
+        written(table, kind, "fast", calls);
         if checked {
             having().for_each(|plan| sides::checked(&meter, library, plan));
             written(table, kind, "checked", calls);
-            having().for_each(|plan| sides::rust_checked(&meter, library, plan));
-            written(table, kind, "Rust, checked", calls);
+            having().for_each(|plan| sides::fast_checked(&meter, library, plan));
+            written(table, kind, "fast, checked", calls);
         }
     }
 }
 
 fn count_openings(table: &str, library: StoreLibrary, plan: &Plan) {
-    let Step::Open { method, servers, clients, setpoints } = &plan.opening else {
-        unreachable!("openings open");
-    };
     let mut tables = sides::opened_tables(library, &plan.opening);
     counted(|| library.number(&mut tables, &plan.opening));
     written(table, "open", "inner", 1);
-    drop(counted(|| Store::open(*method, *servers, *clients, setpoints)));
-    written(table, "open", "Rust", 1);
+    counted(|| calls::number_checked(&mut tables, &plan.opening));
+    written(table, "open", "fast", 1);
+}
+
+/// The last steps of plans of several sizes, as one figure.
+fn count_growth(table: &str, library: StoreLibrary, size_named: &str, cases: &[Case], sizes: &[usize]) {
+    for (case, size) in cases.iter().flat_map(|case| sizes.iter().map(move |&size| (case, size))) {
+        let plan = (case.plan)(size);
+        let first = plan.steps.len() - case.steps;
+        let meter = Counted(|place, _: &str| place >= first);
+        let row = format!("{}, {size_named} {size}", case.name);
+        sides::inner(&meter, library, &plan);
+        written_of(table, &row, "inner", case.steps, 1);
+        sides::fast(&meter, library, &plan);
+        written_of(table, &row, "fast", case.steps, 1);
+    }
 }
 
 fn count_checks(table: &str, library: StoreLibrary) {
@@ -138,14 +182,14 @@ fn count_checks(table: &str, library: StoreLibrary) {
         let row = format!("{servers} servers, {clients} clients, {versions} versions of each server");
         counted(|| library.sound(&tables));
         written(table, &row, "proved", 1);
-        counted(|| words::sound(&tables));
-        written(table, &row, "Rust", 1);
+        counted(|| calls::sound(&tables));
+        written(table, &row, "fast", 1);
     }
 }
 
 fn count_frames<C: Codec>(table: &str, library: FrameLibrary, other: C) {
     for (kind, entries) in FRAMES {
-        let row = format!("kind {kind}, {entries} entries");
+        let row = frame_row((kind, entries));
         let lent = Lent::of(library, kind, entries);
         count_written(table, &row, library, &lent);
         count_written(table, &row, other, &lent);
@@ -172,8 +216,8 @@ fn count_loads(table: &str, store: StoreLibrary, library: LoadLibrary) {
         let row = load_speed::name(&press);
         let openings = load_speed::by_proved(store, library, &press, STEPS, &mut |call| counted(call));
         written_of(table, &row, "proved", openings, STEPS as usize);
-        let openings = load_speed::by_rust(&press, STEPS, &mut |call| counted(call));
-        written_of(table, &row, "Rust", openings, STEPS as usize);
+        let openings = load_speed::by_fast(store, &press, STEPS, &mut |call| counted(call));
+        written_of(table, &row, "fast", openings, STEPS as usize);
     }
 }
 
@@ -218,16 +262,46 @@ pub fn report(folder: &Path) {
         let heads: Vec<&str> = [""].into_iter().chain(names.chunks(2).flat_map(|pair| [pair[0], pair[1], "ratio"])).collect();
         let rows: Vec<Vec<String>> = distinct(within().map(|figure| &figure.row))
             .into_iter()
-            .map(|row| cells(row, &names, |side| found(table, row, side)))
+            .map(|row| cells(row, &names, goal(table, row), |side| found(table, row, side)))
             .collect();
         print(table, &heads, &rows);
     }
+    report_programs(folder);
+}
+
+/// Writes the program's schedules to a folder, from which both programs are run under callgrind.
+pub fn write_schedules(folder: &Path) {
+    for (place, (_, text)) in program::schedules().iter().enumerate() {
+        fs::write(folder.join(format!("schedule.{place}")), text).expect("the folder takes a file");
+    }
+}
+
+/// A line's instructions, less those of a run without lines.
+fn report_programs(folder: &Path) {
+    let total = |place: usize, side: &str| {
+        let text = fs::read_to_string(folder.join(format!("program.{place}.{side}"))).ok()?;
+        let behind = |words: &str| text.lines().find_map(|line| line.strip_prefix(words));
+        behind("totals: ").or(behind("summary: "))?.trim().parse::<f64>().ok()
+    };
+    let sides = ["proved", "fast"];
+    let [Some(proved), Some(fast)] = sides.map(|side| total(0, side)) else { return };
+    let mut rows = Vec::new();
+    for (place, (name, _)) in program::schedules().iter().enumerate().skip(1) {
+        let of_line = |side: &str| {
+            let nothing = if side == sides[0] { proved } else { fast };
+            total(place, side).map(|instructions| (instructions - nothing) / program::LINES as f64)
+        };
+        rows.push(cells(name, &sides, goal(OF_PROGRAM, name), of_line));
+    }
+    print(OF_PROGRAM, &["", "proved", "fast", "ratio"], &rows);
 }
 
 /// A row: its name, then of each two sides both figures and their ratio; nothing where they were not counted.
-fn cells(row: &str, names: &[&str], found: impl Fn(&str) -> Option<f64>) -> Vec<String> {
+fn cells(row: &str, names: &[&str], goal: f64, found: impl Fn(&str) -> Option<f64>) -> Vec<String> {
     let pair = |pair: &[&str]| match (found(pair[0]), found(pair[1])) {
-        (Some(proved), Some(rust)) => [time(proved), time(rust), ratio(proved, rust, f64::INFINITY)],
+        // A checked step is for the most part the check.
+        (Some(proved), Some(other)) if pair[0] == "checked" => [time(proved), time(other), ratio(proved, other, goals::CHECK)],
+        (Some(proved), Some(other)) => [time(proved), time(other), ratio(proved, other, goal)],
         _ => Default::default(),
     };
     [row.to_string()].into_iter().chain(names.chunks(2).flat_map(pair)).collect()

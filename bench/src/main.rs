@@ -1,9 +1,14 @@
-//! Measures the proved crates beside the independent Rust implementation, and prints the tables of docs/BENCHMARKS.md.
+//! Measures the proved crates beside Rust that was written for speed, and prints the tables of docs/BENCHMARKS.md; and holds the two to
+//! each other.
+//!
+//!     bench PROVED-PROGRAM FAST-PROGRAM [PART...]
+//!     bench equal PROVED-PROGRAM [ARGUMENT...]
 
 mod check;
 mod clock;
-mod fast;
+mod equal;
 mod frame_speed;
+mod goals;
 mod growth;
 mod instructions;
 mod load_speed;
@@ -21,8 +26,13 @@ use std::path::Path;
 
 fn main() {
     let given: Vec<String> = std::env::args().skip(1).collect();
-    let [proved, model, parts @ ..] = &given[..] else {
-        panic!("bench PROVED-PROGRAM MODEL-PROGRAM [PART...]");
+    if let [part, program @ ..] = &given[..] {
+        if part == "equal" {
+            return equal::report(program);
+        }
+    }
+    let [proved, fast, parts @ ..] = &given[..] else {
+        panic!("bench PROVED-PROGRAM FAST-PROGRAM [PART...] | bench equal PROVED-PROGRAM [ARGUMENT...]");
     };
     // Frames and recordings need their own library alone.
     let store = || StoreLibrary::linked().expect("libstore_exports.a is linked: run bench/run");
@@ -41,6 +51,7 @@ fn main() {
             }
             return;
         }
+        [part, folder] if part == "schedules" => return instructions::write_schedules(Path::new(folder)),
         [part, folder] if part == "instructions" => return instructions::report(Path::new(folder)),
         _ => {}
     }
@@ -67,6 +78,6 @@ fn main() {
         recording_speed::report(recording());
     }
     if wanted("program") {
-        program::report(proved, model);
+        program::report(proved, fast);
     }
 }

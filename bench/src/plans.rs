@@ -165,7 +165,7 @@ fn kind(method: Method, step: &Step, link: &Link, found: bool, outcome: &Outcome
         },
         (Step::BeginWrite { .. }, _) => "begin a WRITE",
         (Step::BeginRead { .. }, _) => match method {
-            Method::A => unreachable!("nothing begins under method 1"),
+            Method::A => unreachable!("nothing begins under A"),
             Method::B => "begin a READ, B",
             Method::C => "begin a READ, C",
         },
@@ -196,12 +196,13 @@ fn kind(method: Method, step: &Step, link: &Link, found: bool, outcome: &Outcome
 #[cfg(test)]
 mod tests {
     use super::*;
+    use crate::steps::METHODS;
     use std::collections::BTreeSet;
 
     /// The kinds that losses bring are in the plans that are measured, beside those that were there.
     #[test]
     fn kinds_of_plans() {
-        let kinds: BTreeSet<&str> = (2..=3).flat_map(|method| in_turn(method, 4, 4, 20).kinds).collect();
+        let kinds: BTreeSet<&str> = METHODS.iter().flat_map(|&method| in_turn(method, 4, 4, 20).kinds).collect();
         for kind in [
             "lose a request",
             "lose a reply",

@@ -1,22 +1,25 @@
 //! Each kind of step: on tables known to be sound, and through the public step that checks them.
 
-use crate::clock::{beside, Clock, PASSES};
+use crate::clock::{beside, least_of_passes, Clock, PASSES};
+use crate::goals;
 use crate::plans::{in_turn, Plan};
 use crate::sides::{measured, opened_tables, Measured};
 use crate::table::{print, ratio, time};
+use bench::fast::calls;
 use ffi::StoreLibrary;
-use model::{Step, Store};
+use model::Step;
+use std::hint::black_box;
 
-const HEADS: [&str; 7] = ["step", "inner ns", "Rust ns", "ratio", "checked ns", "Rust ns", "ratio"];
-/// The goal of both ratios.
-const GOAL: f64 = 1.5;
+const HEADS: [&str; 7] = ["step", "inner ns", "fast ns", "ratio", "checked ns", "fast ns", "ratio"];
+/// The methods that presses are opened by.
+pub const METHODS: [u32; 2] = [2, 3];
 
 /// Servers, clients, how many WRITEs and READs, and the rounds of a pass.
 pub const PRESSES: [(u32, u32, usize, usize); 2] = [(4, 4, 60, 50), (16, 16, 255, 4)];
 
 pub fn report(clock: &Clock, library: StoreLibrary) {
     let presses = PRESSES.map(|(servers, clients, times, rounds)| {
-        let plans: Vec<Plan> = (2..=3).map(|method| in_turn(method, servers, clients, times)).collect();
+        let plans: Vec<Plan> = METHODS.iter().map(|&method| in_turn(method, servers, clients, times)).collect();
         (plans, rounds)
     });
     let one_pass = || presses.iter().map(|(plans, rounds)| one_press(clock, library, plans, *rounds)).collect::<Vec<_>>();
@@ -32,37 +35,68 @@ pub fn report(clock: &Clock, library: StoreLibrary) {
             format!("Steps, {servers} servers and {clients} clients, {times} WRITEs and {times} READs of all servers in turn");
         print(&title, &HEADS, &rows(library, plans, results));
     }
+    let plans: Vec<&Plan> = presses.iter().flat_map(|(plans, _)| plans).collect();
+    let times = least_of_passes(&plans, |plan| whole_plan(library, plan));
+    let rows: Vec<Vec<String>> = plans.iter().zip(times).map(whole_row).collect();
+    print("Whole plans from their openings, without fences, ns a step", &["plan", "inner ns", "fast ns", "ratio"], &rows);
+}
+
+/// The mean of a plan's steps, one behind the other: where the counter is coarse it tells more than single steps do.
+fn whole_plan(library: StoreLibrary, plan: &Plan) -> [f64; 2] {
+    let mut tables = opened_tables(library, &plan.opening);
+    let mut fast_tables = tables.clone();
+    // The steps start at an opening, and steps keep tables sound.
+    let proved = || {
+        library.number(&mut tables, &plan.opening);
+        for step in &plan.steps {
+            black_box(unsafe { library.number_sound(&mut tables, step) });
+        }
+    };
+    let fast = || {
+        calls::number_checked(&mut fast_tables, &plan.opening);
+        for step in &plan.steps {
+            black_box(unsafe { calls::number(&mut fast_tables, step) });
+        }
+    };
+    let (proved, fast) = beside(proved, fast);
+    [proved, fast].map(|time| time / (1 + plan.steps.len()) as f64)
+}
+
+fn whole_row((plan, [proved, fast]): (&&Plan, [f64; 2])) -> Vec<String> {
+    let Step::Open { method, servers, clients, .. } = plan.opening else {
+        unreachable!("openings open");
+    };
+    let name = format!("method {method}, {servers} servers, {clients} clients");
+    vec![name, time(proved), time(fast), ratio(proved, fast, goals::NONE)]
 }
 
 fn one_press(clock: &Clock, library: StoreLibrary, plans: &[Plan], rounds: usize) -> Vec<Measured> {
     plans.iter().map(|plan| measured(clock, library, plan, rounds)).collect()
 }
 
-/// The means of all steps of a kind, over plans of the two methods that open.
+/// The means of all steps of a kind, over plans of the methods. A checked step is for the most part the check.
 fn rows(library: StoreLibrary, plans: &[Plan], results: &[Measured]) -> Vec<Vec<String>> {
     let mut rows = vec![opening_row(library, &plans[1])];
     for kind in kinds(plans) {
         let mean = |side: fn(&Measured) -> &Vec<f64>| mean_of(kind, plans, results.iter().map(side));
-        let (inner, rust) = (mean(|result| &result.inner), mean(|result| &result.rust));
-        let (checked, rust_checked) = (mean(|result| &result.checked), mean(|result| &result.rust_checked));
-        let (ratio_inner, ratio_checked) = (ratio(inner, rust, GOAL), ratio(checked, rust_checked, GOAL));
-        let times = [inner, rust, checked, rust_checked].map(time);
-        let [inner, rust, checked, rust_checked] = times;
-        rows.push(vec![kind.to_string(), inner, rust, ratio_inner, checked, rust_checked, ratio_checked]);
+        let (inner, fast) = (mean(|result| &result.inner), mean(|result| &result.fast));
+        let (checked, fast_checked) = (mean(|result| &result.checked), mean(|result| &result.fast_checked));
+        let ratio_inner = ratio(inner, fast, goals::of_step(kind));
+        let ratio_checked = ratio(checked, fast_checked, goals::CHECK);
+        let [inner, fast, checked, fast_checked] = [inner, fast, checked, fast_checked].map(time);
+        rows.push(vec![kind.to_string(), inner, fast, ratio_inner, checked, fast_checked, ratio_checked]);
     }
     rows
 }
 
 /// An opening has no inner step.
 fn opening_row(library: StoreLibrary, plan: &Plan) -> Vec<String> {
-    let Step::Open { method, servers, clients, setpoints } = &plan.opening else {
-        unreachable!("openings open");
-    };
     let mut tables = opened_tables(library, &plan.opening);
-    let open = || Store::open(*method, *servers, *clients, setpoints);
-    let (proved, rust) = beside(|| library.number(&mut tables, &plan.opening), open);
+    let mut fast_tables = tables.clone();
+    let open = || calls::number_checked(&mut fast_tables, &plan.opening);
+    let (proved, fast) = beside(|| library.number(&mut tables, &plan.opening), open);
     let none = || "".to_string();
-    vec!["open".into(), none(), none(), none(), time(proved), time(rust), ratio(proved, rust, GOAL)]
+    vec!["open".into(), none(), none(), none(), time(proved), time(fast), ratio(proved, fast, goals::of_step("open"))]
 }
 
 /// The kinds of all plans, in the order in which they first stand there.

@@ -33,10 +33,12 @@ pub fn thousands(number: f64) -> String {
     text
 }
 
-/// One time beside another; bold where it is above the goal.
-pub fn ratio(proved: f64, rust: f64, goal: f64) -> String {
-    let ratio = proved / rust;
-    if ratio > goal {
+/// One figure beside another; bold where it is above the goal. A time that the clock does not tell from nothing has none beside it.
+pub fn ratio(proved: f64, other: f64, goal: f64) -> String {
+    let ratio = proved / other;
+    if !ratio.is_finite() {
+        String::new()
+    } else if ratio > goal {
         format!("**{ratio:.2}**")
     } else {
         format!("{ratio:.2}")

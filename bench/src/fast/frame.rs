@@ -1,6 +1,5 @@
-//! A codec of frames written for speed alone, as what the machine can do: a frame without entries is one 64-bit number (a set has nine bits
-//! more), entries are moved by whole 64-bit words. `frame_speed` holds the proved codec against it; it answers as the exported functions
-//! do.
+//! A codec of frames: a frame without entries is one 64-bit number (a set has nine bits more), entries are moved by whole 64-bit words. It
+//! answers as the exported functions do.
 
 use ffi::frame::Parts;
 use frames::lent::Fixed;
@@ -415,58 +414,4 @@ fn write_entries<const WIDTH: u32, const MOST: usize>(
     }
     put_front(&mut room[at..], accumulator);
     length as u64
-}
-
-#[cfg(test)]
-mod tests {
-    use super::{read, write};
-    use crate::frame_speed::{entries_beside, message, FRAMES, MOST_BYTES};
-    use ffi::frame::{answer, taken_apart};
-    use frames::lent::{read_lent, write_lent};
-
-    /// Writes and reads as the independent codec does: each frame that is measured, each of its prefixes, each of its bits turned; and with
-    /// a place too few in each slice.
-    #[test]
-    fn as_the_independent_codec() {
-        for (kind, entries) in FRAMES {
-            let (fixed, [keys, badges, numbers]) = (message(kind, entries), entries_beside(kind, entries));
-            let (mut bytes, mut other) = (vec![0xA5; MOST_BYTES], vec![0xA5; MOST_BYTES]);
-            let length = write_lent(&fixed, &keys, &badges, &numbers, &mut other).expect("a good message");
-            assert_eq!(answer(write(&fixed, &keys, &badges, &numbers, &mut bytes)), Ok(length as u64));
-            assert_eq!(bytes, other);
-            let frame = &bytes[..length];
-            (0..length).for_each(|cut| alike(&frame[..cut]));
-            alike(frame);
-            for slice in 0..3 {
-                let mut places = [entries as usize; 3];
-                places[slice] = places[slice].saturating_sub(1);
-                alike_with(frame, places);
-                let short = [&keys, &badges, &numbers].map(|words| &words[..words.len().saturating_sub(1)]);
-                let mut lent = [&keys[..], &badges, &numbers];
-                lent[slice] = short[slice];
-                let [keys, badges, numbers] = lent;
-                let expected = write_lent(&fixed, keys, badges, numbers, &mut other).map(|length| length as u64);
-                assert_eq!(answer(write(&fixed, keys, badges, numbers, &mut vec![0; MOST_BYTES])), expected);
-            }
-            for bit in 0..8 * length {
-                let mut turned = frame.to_vec();
-                turned[bit / 8] ^= 128 >> (bit % 8);
-                alike(&turned);
-            }
-        }
-    }
-
-    fn alike(bytes: &[u8]) {
-        alike_with(bytes, [256; 3]);
-    }
-
-    fn alike_with(bytes: &[u8], places: [usize; 3]) {
-        let mut lent = places.map(|number| vec![7; number]);
-        let mut other = lent.clone();
-        let [keys, badges, numbers] = &mut lent;
-        let message = taken_apart(read(bytes, keys, badges, numbers));
-        let [keys, badges, numbers] = &mut other;
-        assert_eq!(message, read_lent(bytes, keys, badges, numbers));
-        assert_eq!(lent, other);
-    }
 }

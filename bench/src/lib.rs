@@ -1,0 +1,3 @@
+//! Plain Rust written for speed, which `bench` holds the proved crates against.
+
+pub mod fast;
