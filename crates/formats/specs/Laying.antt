@@ -7,14 +7,14 @@ use mathlib.Core.Bool.{true, false}
 use lib.ListN.{length, getD, drop}
 use borrow.Author.Tests.{le-leb, lt-leb}
 use Rattle.ranges.specs.Tests.{by-test}
-use Rattle.formats.specs.declared.table.Shape.{Shape}
+use Rattle.frame_table.specs.declared.Shape.{Shape}
 use Rattle.formats.specs.Grammar.{good, size, lay, zeros, frame}
 use Rattle.formats.specs.RoundTrip.{length-frame}
-use Rattle.formats.specs.Table.{headerBits, mostEntries, shapeOf, rowOf, entriesSaid}
-use Rattle.formats.specs.TableLaws.{mostColumn, columns-small, entries-fit}
+use Rattle.frame_table.specs.Table.{headerBits, mostEntries, shapeOf, rowOf, entriesSaid}
+use Rattle.frame_table.specs.TableLaws.{mostColumn, columns-small, entries-fit}
 use Rattle.formats.specs.Format.{format}
 use Rattle.formats.specs.Entries.{valuesBy}
-use Rattle.formats.specs.Columns.{lengthBy, Packable}
+use Rattle.frame_table.specs.Columns.{lengthBy, Packable}
 use Rattle.formats.specs.EntryLaws.{values-many, values-kind}
 use Rattle.formats.specs.Writing.{wroteOf, bytesAfter}
 use Rattle.formats.specs.Walk.{values-length, frame-bits, frame-length}

@@ -22,23 +22,25 @@ use Rattle.fields.specs.BitLaws.{Bytes, bytes-equal}
 use Rattle.fields.specs.FieldLaws.{length-putField, put-other, put-found, put-bytes, field-same, field-bits, field-join}
 use Rattle.fields.specs.Parts.{putByBytes}
 use Rattle.fields.specs.ByBytes.{put-by-bytes}
-use Rattle.formats.specs.declared.state.Field.{Field}
+use Rattle.frame_table.specs.declared.Field.{Field}
 use Rattle.formats.specs.declared.state.State.{State}
-use Rattle.formats.specs.declared.table.Behind.{Behind}
+use Rattle.frame_table.specs.declared.Behind.{Behind}
 use Rattle.formats.specs.Grammar.{Grammar, end, field, good, size, lay}
-use Rattle.formats.specs.Table.{none, count, of, manyPlace, entryPlace, badgePlace, numberPlace, fixedFields}
-use Rattle.formats.specs.Table.{entryFields, sortAt, bitsOf, leastOf}
-use Rattle.formats.specs.Table.{sorts, mostOf, limitsOf, limitRow, rowOf, hasBadges, entriesIn, entriesSaid, valuesFor}
-use Rattle.formats.specs.TableLaws.{sort-small, bitsFrom}
-use Rattle.formats.specs.Columns.{mostBits, Places}
+use Rattle.frame_table.specs.Table.{none, count, of, manyPlace, entryPlace, badgePlace, numberPlace, fixedFields}
+use Rattle.frame_table.specs.Table.{entryFields, sortAt, bitsOf, leastOf}
+use Rattle.frame_table.specs.Table.{sorts, mostOf, limitsOf, limitRow, rowOf, hasBadges, entriesIn, entriesSaid, valuesFor}
+use Rattle.frame_table.specs.TableLaws.{sort-small, bitsFrom}
+use Rattle.frame_table.specs.Columns.{mostBits, Places}
 use Rattle.formats.specs.Format.{sortOf, widthOf, fieldOf, within, allowed, nextOf, one, start, entries, format}
 use Rattle.formats.specs.FormatLaws.{Goes, goes-start, goes-next, Rowed, rowed-start, next-place, place-inner, field-is, at-most}
 use Rattle.formats.specs.FormatLaws.{rest, rest-start, rest-one, rest-late}
 use Rattle.formats.specs.Entries.{entryValue, valuesBy}
-use Rattle.formats.specs.Entry.{countBits, ownerBits, keyBits, badgeWidth, badgeBits, numberBits, numberLeast}
-use Rattle.formats.specs.Entry.{behindOf, entryBits}
-use Rattle.formats.specs.Entry.{Slim, Plain, Keyed, ownerField, Ahead, ahead-next, ahead-again}
-use Rattle.formats.specs.Entry.{count-field, owner-field, badge-field, number-field, badge-none, badge-some}
+use Rattle.frame_table.specs.Entry.{countBits, ownerBits, keyBits, badgeWidth, badgeBits, numberBits, numberLeast}
+use Rattle.frame_table.specs.Entry.{behindOf, entryBits}
+use Rattle.frame_table.specs.Entry.{Slim, Plain, Keyed}
+use Rattle.formats.specs.EntryFields.{ownerField, Ahead, ahead-next, ahead-again}
+use Rattle.frame_table.specs.Entry.{badge-none, badge-some}
+use Rattle.formats.specs.EntryFields.{count-field, owner-field, badge-field, number-field}
 use Rattle.formats.specs.EntryLaws.{part-count, part-client, part-badge, part-number}
 use Rattle.formats.specs.Reading.{Said}
 use Rattle.formats.specs.Judging.{said-keyed}

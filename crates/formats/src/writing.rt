@@ -1,17 +1,16 @@
 // From values to bytes: all values are tested before the first byte is written.
 use crate::state;
-use crate::state::Field;
 use crate::state::State;
-use crate::table;
-use crate::table::BADGE_BITS;
-use crate::table::Behind;
-use crate::table::ENTRY_BADGE;
-use crate::table::FIXED_FIELDS;
-use crate::table::KEY_BITS;
-use crate::table::LAST_KIND;
-use crate::table::MANY;
-use crate::table::NUMBER;
-use crate::table::PLACES;
+use frame_table::BADGE_BITS;
+use frame_table::Behind;
+use frame_table::ENTRY_BADGE;
+use frame_table::FIXED_FIELDS;
+use frame_table::Field;
+use frame_table::KEY_BITS;
+use frame_table::LAST_KIND;
+use frame_table::MANY;
+use frame_table::NUMBER;
+use frame_table::PLACES;
 ghost use mathlib.Core.Path.{_≡_};
 ghost use Prim.Native.Nat.{_+_, _*_, _^_, _≤_, _<_};
 ghost use mathlib.Core.Bool.{true, _&&_};
@@ -20,11 +19,11 @@ ghost use lib.ListN.{length, getD};
 ghost use Rattle.formats.specs.Grammar.{good, lay, zeros};
 ghost use Rattle.ranges.specs.All.{allBelow};
 ghost use Rattle.fields.specs.Bits.{putField};
-ghost use Rattle.formats.specs.Table.{sorts, fixedFields, rowOf, bitsOf};
+ghost use Rattle.frame_table.specs.Table.{sorts, fixedFields, rowOf, bitsOf};
 ghost use Rattle.formats.specs.Format.{sortOf, widthOf, within, allowed, format};
 ghost use Rattle.formats.specs.Entries.{valuesBy};
-ghost use Rattle.formats.specs.Columns.{mostBits, Packable};
-ghost use Rattle.formats.specs.Entry.{badgeWidth, Slim, entryBits};
+ghost use Rattle.frame_table.specs.Columns.{mostBits, Packable};
+ghost use Rattle.frame_table.specs.Entry.{badgeWidth, Slim, entryBits};
 ghost use Rattle.formats.specs.Writing.{wroteOf, bytesAfter};
 ghost use Rattle.formats.specs.Walk.{firstBit};
 ghost use Rattle.formats.specs.Laying.{Layable};
@@ -61,7 +60,7 @@ fn may_have(sort: u8, state: State, value: u32) -> bool
     requires { ⌜ (sort ≡ sortOf state) × (sort < sorts) ⌝ }
     ensures { λ r. ⌜ r ≡ (ltb value (2 ^ widthOf state) && allowed state value) ⌝ }
 {
-    if sort == table::NO {
+    if sort == frame_table::NO {
         return value == 0;
     }
     let field = state::field_at(sort, state);
@@ -169,10 +168,10 @@ fn writable(
     if !fixed_right(row, fixed) {
         return false;
     }
-    if entries != table::entries_in(row[MANY], fixed[MANY]) {
+    if entries != frame_table::entries_in(row[MANY], fixed[MANY]) {
         return false;
     }
-    let behind = table::behind_key(row[ENTRY_BADGE], row[NUMBER]);
+    let behind = frame_table::behind_key(row[ENTRY_BADGE], row[NUMBER]);
     entries_right(behind, keys, badges, numbers, entries)
 }
 
@@ -191,10 +190,10 @@ fn lay_field(sort: u8, at: usize, value: u32, bytes: &mut [u8]) -> usize
     requires { ⌜ (sort < sorts) × (at + bitsOf sort ≤ 8 * length (now bytes)) ⌝ }
     ensures { λ r. ⌜ (r ≡ bitsOf sort) × (now (bytes .exit) ≡ putField (now (bytes .entry)) at (bitsOf sort) value) ⌝ }
 {
-    if sort == table::NO {
+    if sort == frame_table::NO {
         return 0;
     }
-    let limits = table::limits_of(sort);
+    let limits = frame_table::limits_of(sort);
     let width = limits.width;
     fields::write_field(bytes, at, width, value);
     width
@@ -287,7 +286,7 @@ fn fill(
 {
     clear(bytes);
     let first = lay_fixed(row, fixed, bytes);
-    let behind = table::behind_key(row[ENTRY_BADGE], row[NUMBER]);
+    let behind = frame_table::behind_key(row[ENTRY_BADGE], row[NUMBER]);
     lay_entries(first, behind, keys, badges, numbers, entries, bytes);
 }
 
@@ -322,15 +321,15 @@ pub fn write_values(
             length: 0,
         };
     }
-    let shape = table::shape_of(kind);
-    let row = table::row_of(kind, table::target_of(shape));
+    let shape = frame_table::shape_of(kind);
+    let row = frame_table::row_of(kind, frame_table::target_of(shape));
     if !writable(&row, fixed, keys, badges, numbers, entries) {
         return Wrote {
             fault: 11,
             length: 0,
         };
     }
-    let length = table::frame_length(shape, entries);
+    let length = frame_table::frame_length(shape, entries);
     if bytes.len() < length {
         return Wrote {
             fault: 12,

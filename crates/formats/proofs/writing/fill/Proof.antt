@@ -5,10 +5,10 @@ use Prim.Native.Nat.{ℕ}
 use native.Mathlib.Omega.{arith}
 use mathlib.Core.List.{List}
 use lib.ListN.{length, getD, length-replicate}
-use Rattle.formats.specs.declared.table.Behind.{Behind}
+use Rattle.frame_table.specs.declared.Behind.{Behind}
 use Rattle.formats.specs.Grammar.{zeros}
-use Rattle.formats.specs.Table.{entryPlace, badgePlace, numberPlace}
-use Rattle.formats.specs.EntryLaws.{sort-known}
+use Rattle.frame_table.specs.Table.{entryPlace, badgePlace, numberPlace}
+use Rattle.frame_table.specs.TableLaws.{sort-known}
 use Rattle.formats.specs.Judging.{behind-limits}
 use Rattle.formats.specs.Laying.{Layable}
 use Rattle.formats.specs.Packing.{laidTo, length-laidTo, entriesRight, entriesLaid, fixed-in, entries-in, fixed-good, total-said}

@@ -4,7 +4,7 @@ use mathlib.Core.Path.{_≡_}
 use Prim.Native.Nat.{_+_, _-_}
 use native.Mathlib.Omega.{arith}
 use Rattle.ranges.specs.AllLaws.{all-stop, all-end}
-use Rattle.formats.specs.Table.{entryPlace}
+use Rattle.frame_table.specs.Table.{entryPlace}
 use Rattle.formats.specs.FormatLaws.{rowed-tells}
 use Rattle.formats.specs.Packing.{rightAt, Tried, tried-start, tried-some, tried-at, tried-on}
 use Rattle.formats.proofs.writing.fixed_right.Statement.{statement}

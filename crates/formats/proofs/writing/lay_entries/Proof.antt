@@ -5,8 +5,8 @@ use Prim.Native.Nat.{ℕ, _+_, _-_, _*_, _≤_}
 use native.Mathlib.Omega.{arith}
 use mathlib.Core.Bool.{true}
 use lib.ListN.{length, getD}
-use Rattle.formats.specs.Columns.{mostBits}
-use Rattle.formats.specs.Entry.{keyBits, behindBits, entryBits, Slim}
+use Rattle.frame_table.specs.Columns.{mostBits}
+use Rattle.frame_table.specs.Entry.{keyBits, behindBits, entryBits, Slim}
 use Rattle.formats.specs.Judging.{entry-more}
 use Rattle.formats.specs.Packing.{keyRight, entriesRight, right-next, entriesLaid, laid-entry, laid-none, length-entryLaid}
 use Rattle.formats.proofs.writing.lay_entries.Statement.{statement}

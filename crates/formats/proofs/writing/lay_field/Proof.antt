@@ -5,7 +5,7 @@ use Prim.Native.Nat.{ℕ}
 use native.Mathlib.Omega.{arith}
 use Rattle.fields.specs.Bits.{putField}
 use Rattle.fields.specs.ByBytes.{put-by-bytes}
-use Rattle.formats.specs.TableLaws.{limits-width, bits-most}
+use Rattle.frame_table.specs.TableLaws.{limits-width, bits-most}
 use Rattle.formats.specs.Packing.{put-nothing}
 use Rattle.formats.proofs.writing.lay_field.Statement.{statement}
 use Rattle.formats.proofs.writing.lay_field.Tie as tie

@@ -6,7 +6,7 @@ use native.Mathlib.Omega.{arith}
 use lib.ListN.{length, getD}
 use Rattle.ranges.specs.SumLaws.{sum-none}
 use Rattle.fields.specs.Bits.{putField}
-use Rattle.formats.specs.Table.{entryPlace, bitsOf}
+use Rattle.frame_table.specs.Table.{entryPlace, bitsOf}
 use Rattle.formats.specs.Format.{widthOf}
 use Rattle.formats.specs.Walk.{stateAt, firstBit}
 use Rattle.formats.specs.Packing.{laidTo, length-laidTo, laid-more, bit-more, bit-up, row-tells}

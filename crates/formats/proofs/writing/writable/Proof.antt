@@ -5,9 +5,9 @@ use mathlib.Core.Bool.{true}
 use lib.ListN.{getD}
 use Rattle.ranges.specs.Tests.{fails, holds}
 use Rattle.ranges.specs.All.{allBelow}
-use Rattle.formats.specs.declared.table.Behind.{Behind}
-use Rattle.formats.specs.Table.{manyPlace, badgePlace, numberPlace, fixedFields, entriesIn}
-use Rattle.formats.specs.EntryLaws.{sort-known}
+use Rattle.frame_table.specs.declared.Behind.{Behind}
+use Rattle.frame_table.specs.Table.{manyPlace, badgePlace, numberPlace, fixedFields, entriesIn}
+use Rattle.frame_table.specs.TableLaws.{sort-known}
 use Rattle.formats.specs.Judging.{entries-said, behind-limits}
 use Rattle.formats.specs.Packing.{rightAt, entriesRight, fixed-wrong, many-wrong, entries-decide, beside}
 use Rattle.formats.proofs.writing.writable.Statement.{statement}

@@ -8,11 +8,11 @@ use native.Mathlib.Omega.{arith}
 use lib.ListN.{length, getD, drop}
 use lib.Seq.{length-take-le}
 use Rattle.ranges.specs.Tests.{fails, holds}
-use Rattle.formats.specs.declared.table.Shape.{Shape}
+use Rattle.frame_table.specs.declared.Shape.{Shape}
 use Rattle.formats.specs.Grammar.{good, lay, zeros, frame}
 use Rattle.formats.specs.Format.{format}
 use Rattle.formats.specs.Entries.{valuesBy}
-use Rattle.formats.specs.TableLaws.{target-is}
+use Rattle.frame_table.specs.TableLaws.{target-is}
 use Rattle.formats.specs.EntryLaws.{values-kind}
 use Rattle.formats.specs.Laying.{kind-unknown, write-bad, write-small, write-done, frame-over, size-inside, length-is}
 use Rattle.formats.proofs.writing.write_values.Statement.{statement}
