@@ -65,12 +65,8 @@ keys = 14
 abbrev pub less : ℕ
 less = 15
 
--- How the table is laid out: these numbers stand here only. A row's places, from 0: the first field of the fixed body, the field that says
--- how many entries there are, an entry's first field, which is its key's count, its key's client, its badge, and its last, which is its
--- tag, setpoint or mask; and how many places a row has.
-abbrev pub bodyPlace : ℕ
-bodyPlace = 3
-
+-- How the table is laid out: these numbers stand here only. A row's places, from 0: the field that says how many entries there are, an
+-- entry's first field, which is its key's count, its key's client, its badge, and its last, which is its tag, setpoint or mask.
 abbrev pub manyPlace : ℕ
 manyPlace = 8
 
@@ -86,14 +82,7 @@ badgePlace = 11
 abbrev pub numberPlace : ℕ
 numberPlace = 12
 
-abbrev pub rowPlaces : ℕ
-rowPlaces = 13
-
--- how many fields the fixed body has, header and fixed body together, and an entry; how many kinds there are, with 0, and how many sorts
--- of fields
-abbrev pub bodyFields : ℕ
-bodyFields = 6
-
+-- how many fields header and fixed body have together, and an entry; how many kinds there are, with 0, and how many sorts of fields
 abbrev pub fixedFields : ℕ
 fixedFields = entryPlace
 

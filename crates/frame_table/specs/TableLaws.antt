@@ -13,11 +13,20 @@ use Rattle.ranges.specs.All.{allBelow}
 use Rattle.ranges.specs.AllLaws.{all-at}
 use Rattle.frame_table.specs.declared.Field.{Field}
 use Rattle.frame_table.specs.declared.Shape.{Shape}
-use Rattle.frame_table.specs.Table.{none, server, coord, own, of, badge, less, bodyPlace, manyPlace, entryPlace, badgePlace}
-use Rattle.frame_table.specs.Table.{rowPlaces, bodyFields, entryFields, kinds}
-use Rattle.frame_table.specs.Table.{sorts, headerBits, mostEntries}
+use Rattle.frame_table.specs.Table.{none, server, coord, own, of, badge, less, manyPlace, entryPlace, badgePlace}
+use Rattle.frame_table.specs.Table.{entryFields, kinds, sorts, headerBits, mostEntries}
 use Rattle.frame_table.specs.Table.{shape, byKind, shapeOf, bare, bodies, rowWith, rowOf, sortAt, bitsOf, leastOf, mostOf, limitsOf}
 use Rattle.frame_table.specs.Table.{entriesIn, hasBadges}
+
+-- the place of the fixed body's first field, how many fields it has, and how many places a row has
+abbrev pub bodyPlace : ℕ
+bodyPlace = 3
+
+abbrev pub bodyFields : ℕ
+bodyFields = 6
+
+abbrev pub rowPlaces : ℕ
+rowPlaces = 13
 
 -- the bits of n fields of a kind from a place on
 unfoldable pub bitsFrom : ℕ → ℕ → ℕ → ℕ

@@ -16,7 +16,8 @@ use Rattle.ranges.specs.AllLaws.{all-at}
 use Rattle.keys.specs.Keys.{keyOf}
 use Rattle.formats.specs.Grammar.{good}
 use Rattle.frame_table.specs.Table.{none, coord, sortAt, bitsOf, leastOf, mostOf, entriesIn, entriesSaid}
-use Rattle.frame_table.specs.Table.{hasBadges, entryPlace, ownerPlace, badgePlace, numberPlace, manyPlace, rowPlaces, kinds, fixedFields}
+use Rattle.frame_table.specs.Table.{hasBadges, entryPlace, ownerPlace, badgePlace, numberPlace, manyPlace, kinds, fixedFields}
+use Rattle.frame_table.specs.TableLaws.{rowPlaces}
 use Rattle.frame_table.specs.Table.{entryFields}
 use Rattle.formats.specs.Format.{sortOf, widthOf, format}
 use Rattle.formats.specs.FormatLaws.{at-most, at-least}
