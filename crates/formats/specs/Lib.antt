@@ -9,8 +9,6 @@ pub mod EntryLaws
 pub mod EntryFields
 pub mod Reading
 pub mod Judging
-pub mod Writing
+pub mod Tested
 pub mod Walk
-pub mod Laying
-pub mod Packing
 pub mod Found

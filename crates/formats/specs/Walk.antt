@@ -23,7 +23,7 @@ use Rattle.frame_table.specs.TableLaws.{row-right, bitsFrom, few-entries, entri
 use Rattle.formats.specs.Format.{sortOf, widthOf, allowed, nextOf, start, format}
 use Rattle.formats.specs.FormatLaws.{rest, rest-start, rest-one, rest-end, next-place, next-left}
 use Rattle.formats.specs.FormatLaws.{next-kind, place-last, place-inner, left-entries, left-one-less, at-most}
-use Rattle.formats.specs.Writing.{Tested, tested-start, tested-end, tested-short, tested-bad, tested-on}
+use Rattle.formats.specs.Tested.{Tested, tested-start, tested-end, tested-short, tested-bad, tested-on}
 use Rattle.formats.specs.RoundTrip.{length-frame}
 
 -- the state ahead of value i

@@ -13,7 +13,7 @@ ghost use Prim.Native.Nat.{_-_};
 ghost use Rattle.formats.specs.Entries.{valuesBy};
 ghost use Rattle.frame_table.specs.Columns.{Packable};
 ghost use Rattle.formats.specs.Reading.{Got};
-ghost use Rattle.formats.specs.Writing.{wroteOf, bytesAfter};
+ghost use Rattle.format_writing.specs.Writing.{wroteOf, bytesAfter};
 ghost use Rattle.frames.specs.Frames.{readingOf, keysRead, badgesRead, numbersRead, found, writtenOf, bytesWritten};
 ghost use Rattle.frames.specs.Answers.{writtenBy};
 ghost use Rattle.frames.specs.Messages.{entriesOf, fixedOf, messageAt};
@@ -400,7 +400,7 @@ fn send(
         ≡ bytesAfter (valuesBy (now (fixed .entry)) (now (keys .entry)) (now (badges .entry)) (now (numbers .entry)) entries)
         (now (bytes .entry))) ⌝ }
 {
-    let wrote = formats::writing::write_values(fixed, keys, badges, numbers, entries, bytes);
+    let wrote = format_writing::write_values(fixed, keys, badges, numbers, entries, bytes);
     let refusal = wrote.fault;
     let length = wrote.length;
     if refusal != 0 {
