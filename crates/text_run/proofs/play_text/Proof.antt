@@ -3,10 +3,10 @@ use mathlib.Core.Path.{sym, _∙_}
 use native.Mathlib.Omega.{arith}
 use borrow.Author.Tests.{not-false}
 use Rattle.tables.specs.Tables.{tablesOf}
 use Rattle.texts.specs.TextLaws.{playable-facts, room-there, text-unsound, text-short, text-played}
 use borrow.Author.Needs.{needs}
-use Rattle.texts.proofs.play_text.Statement.{statement}
-use Rattle.texts.proofs.play_text.Tie as tie
+use Rattle.text_run.proofs.play_text.Statement.{statement}
+use Rattle.text_run.proofs.play_text.Tie as tie
 
 returns : tie.Need-returns
 returns c =
