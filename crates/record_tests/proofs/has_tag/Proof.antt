@@ -1,7 +1,7 @@
--- `listing::records::has_tag` meets its contract: its tag is compared.
+-- `record_tests::has_tag` meets its contract: its tag is compared.
 use borrow.Author.Needs.{needs}
-use Rattle.listing.proofs.records.has_tag.Statement.{statement}
-use Rattle.listing.proofs.records.has_tag.Tie as tie
+use Rattle.record_tests.proofs.has_tag.Statement.{statement}
+use Rattle.record_tests.proofs.has_tag.Tie as tie
 
 returns : tie.Need-returns
 returns c = rw (c .record-word .ensures)

@@ -1,14 +1,14 @@
--- `listing::records::overlap` meets its contract: `found` counts the WRITEs passed that overlap.
+-- `record_tests::overlap` meets its contract: `found` counts the WRITEs passed that overlap.
 use Prim.Native.Nat.{_≤_, _-_}
 use mathlib.Core.Path.{_≡_, sym, _∙_}
 use mathlib.Core.Logic.{⊎-elim}
 use native.Mathlib.Omega.{arith}
 use Rattle.ranges.specs.Sum.{countBelow}
 use Rattle.ranges.specs.SumLaws.{count-zero, count-here, count-past, count-most}
-use Rattle.listing.specs.Register.{overlaps}
+use Rattle.record_tests.specs.Records.{overlaps}
 use borrow.Author.Needs.{needs}
-use Rattle.listing.proofs.records.overlap.Statement.{statement}
-use Rattle.listing.proofs.records.overlap.Tie as tie
+use Rattle.record_tests.proofs.overlap.Statement.{statement}
+use Rattle.record_tests.proofs.overlap.Tie as tie
 
 abbrev Inv-loop : tie.InvT-loop
 Inv-loop writes begun begin end found₀ place₀ found place = (place ≤ begun) × (found ≡ countBelow (overlaps writes begin end) place)

@@ -1,4 +1,5 @@
-// The tests of a record, and how many records pass them.
+// The tests of a record of the register, and how many records pass them.
+// They are for `listing`, which proves what they ask.
 ghost use mathlib.Core.Path.{_≡_};
 ghost use mathlib.Core.Bool.{not};
 ghost use Prim.Native.Nat.{_≤_};
@@ -6,7 +7,7 @@ ghost use Rattle.ranges.specs.Sum.{countBelow};
 ghost use Rattle.tables.specs.Rows.{HasRow};
 ghost use Rattle.tables.specs.Layout.{recordWidth, recordPlaces};
 ghost use Rattle.soundness.specs.Asked.{RecordsThere};
-ghost use Rattle.listing.specs.Register.{isFinished, hasTag, overlaps, overlap};
+ghost use Rattle.record_tests.specs.Records.{isFinished, hasTag, overlaps, overlap};
 use tables::records;
 
 // Whether a record has an end.

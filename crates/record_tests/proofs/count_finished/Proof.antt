@@ -1,14 +1,14 @@
--- `listing::records::count_finished` meets its contract: `found` counts the READs passed that are finished.
+-- `record_tests::count_finished` meets its contract: `found` counts the READs passed that are finished.
 use Prim.Native.Nat.{_≤_, _-_}
 use mathlib.Core.Path.{_≡_, sym, _∙_}
 use mathlib.Core.Logic.{⊎-elim}
 use native.Mathlib.Omega.{arith}
 use Rattle.ranges.specs.Sum.{countBelow}
 use Rattle.ranges.specs.SumLaws.{count-zero, count-here, count-past, count-most}
-use Rattle.listing.specs.Register.{isFinished}
+use Rattle.record_tests.specs.Records.{isFinished}
 use borrow.Author.Needs.{needs}
-use Rattle.listing.proofs.records.count_finished.Statement.{statement}
-use Rattle.listing.proofs.records.count_finished.Tie as tie
+use Rattle.record_tests.proofs.count_finished.Statement.{statement}
+use Rattle.record_tests.proofs.count_finished.Tie as tie
 
 abbrev Inv-loop : tie.InvT-loop
 Inv-loop reads begun found₀ place₀ found place = (place ≤ begun) × (found ≡ countBelow (isFinished reads) place)

@@ -1,4 +1,4 @@
--- `listing::records::count_tagged` meets its contract: `found` counts the WRITEs passed that have a tag.
+-- `record_tests::count_tagged` meets its contract: `found` counts the WRITEs passed that have a tag.
 use Prim.Native.Nat.{_≤_, _-_}
 use mathlib.Core.Path.{_≡_, sym, ap, _∙_}
 use mathlib.Core.Bool.{not}
@@ -6,10 +6,10 @@ use mathlib.Core.Logic.{⊎-elim}
 use native.Mathlib.Omega.{arith}
 use Rattle.ranges.specs.Sum.{countBelow}
 use Rattle.ranges.specs.SumLaws.{count-zero, count-here, count-past, count-most}
-use Rattle.listing.specs.Register.{hasTag}
+use Rattle.record_tests.specs.Records.{hasTag}
 use borrow.Author.Needs.{needs}
-use Rattle.listing.proofs.records.count_tagged.Statement.{statement}
-use Rattle.listing.proofs.records.count_tagged.Tie as tie
+use Rattle.record_tests.proofs.count_tagged.Statement.{statement}
+use Rattle.record_tests.proofs.count_tagged.Tie as tie
 
 abbrev Inv-loop : tie.InvT-loop
 Inv-loop writes begun found₀ place₀ found place = (place ≤ begun) × (found ≡ countBelow (λ k. not (hasTag writes 0 k)) place)

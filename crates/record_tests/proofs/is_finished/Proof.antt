@@ -1,7 +1,7 @@
--- `listing::records::is_finished` meets its contract: its end is compared with 0.
+-- `record_tests::is_finished` meets its contract: its end is compared with 0.
 use borrow.Author.Needs.{needs}
-use Rattle.listing.proofs.records.is_finished.Statement.{statement}
-use Rattle.listing.proofs.records.is_finished.Tie as tie
+use Rattle.record_tests.proofs.is_finished.Statement.{statement}
+use Rattle.record_tests.proofs.is_finished.Tie as tie
 
 returns : tie.Need-returns
 returns c = rw (c .record-word .ensures)

@@ -1,9 +1,9 @@
--- `listing::records::overlaps` meets its contract: the begin, then whether it is finished, then the end.
+-- `record_tests::overlaps` meets its contract: the begin, then whether it is finished, then the end.
 use borrow.Author.Tests.{lt-ltb, le-ltb}
 use Rattle.ranges.specs.Tests.{fails, holds}
 use borrow.Author.Needs.{needs}
-use Rattle.listing.proofs.records.overlaps.Statement.{statement}
-use Rattle.listing.proofs.records.overlaps.Tie as tie
+use Rattle.record_tests.proofs.overlaps.Statement.{statement}
+use Rattle.record_tests.proofs.overlaps.Tie as tie
 
 returns : tie.Need-returns
 returns c = rw (← (c .before .record-word .ensures), le-ltb _ _ (c .if1 .taken))
