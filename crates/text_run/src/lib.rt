@@ -1,59 +1,8 @@
 // A whole text, played on lent tables into a lent space: the answers of its lines, then the register.
 ghost use mathlib.Core.Path.{_≡_};
-ghost use Prim.Native.Nat.{_≤_};
-ghost use lib.ListN.{length};
 ghost use Rattle.tables.specs.Tables.{tablesOf};
-ghost use Rattle.schedule.specs.Lines.{linesOf};
-ghost use Rattle.playing.specs.Playable.{Playable};
-ghost use Rattle.texts.specs.Text.{roomFor, textLeft, playText};
-ghost use Rattle.texts.specs.TextLaws.{LinesPlayed};
+ghost use Rattle.texts.specs.Text.{textLeft, playText};
 use texts::TextPlayed;
-
-// Plays all lines of a text, each answer behind the one before. It answers where the print ends.
-fn play_lines(
-    counts: &mut [u32],
-    clients: &mut [u32],
-    links: &mut [u32],
-    keys: &mut [u32],
-    values: &mut [u32],
-    log: &mut [u32],
-    writes: &mut [u32],
-    reads: &mut [u32],
-    text: &[u8],
-    out: &mut [u8],
-) -> usize
-    requires { ⌜ Playable (tablesOf (now counts) (now clients) (now links) (now keys) (now values) (now log) (now writes) (now reads)) ⌝ }
-    requires { ⌜ roomFor (length (linesOf (now text))) ≤ length (now out) ⌝ }
-    ensures { λ r. ⌜ LinesPlayed (now (text .entry)) (tablesOf (now (counts .entry)) (now (clients .entry)) (now (links .entry))
-        (now (keys .entry)) (now (values .entry)) (now (log .entry)) (now (writes .entry)) (now (reads .entry)))
-        (now (out .entry)) r (now (out .exit)) (tablesOf (now (counts .exit)) (now (clients .exit)) (now (links .exit))
-        (now (keys .exit)) (now (values .exit)) (now (log .exit)) (now (writes .exit)) (now (reads .exit))) ⌝ }
-{
-    let mut start = 0;
-    let mut lines = 0u64;
-    let mut printed = 0;
-    while start < text.len() {
-        let line = schedule::line_at(text, start);
-        let size = line.len();
-        printed = playing::play_line(
-            counts,
-            clients,
-            links,
-            keys,
-            values,
-            log,
-            writes,
-            reads,
-            lines + 1,
-            line,
-            out,
-            printed,
-        );
-        start = start + size + 1;
-        lines += 1;
-    }
-    printed
-}
 
 // Plays a text on the lent tables: the answer of each line, then the register, at the front of the lent space. Refused by 2 or 12.
 pub fn play_text(
@@ -89,7 +38,7 @@ pub fn play_text(
     if !texts::has_room(lines, out.len()) {
         return TextPlayed::Refused(12);
     }
-    let next = play_lines(
+    let next = text_lines::play_lines(
         counts,
         clients,
         links,

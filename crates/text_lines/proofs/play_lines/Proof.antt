@@ -6,8 +6,8 @@ use native.Mathlib.Omega.{arith}
 use Rattle.tables.specs.Tables.{tablesOf}
 use Rattle.texts.specs.TextLaws.{SameLengths, Going, line-within, going-begun, going-on, going-room, going-done}
 use borrow.Author.Needs.{needs}
-use Rattle.text_run.proofs.play_lines.Statement.{statement}
-use Rattle.text_run.proofs.play_lines.Tie as tie
+use Rattle.text_lines.proofs.play_lines.Statement.{statement}
+use Rattle.text_lines.proofs.play_lines.Tie as tie
 
 abbrev Inv-loop : tie.InvT-loop
 Inv-loop counts₀ clients₀ links₀ keys₀ values₀ log₀ writes₀ reads₀ text out₀ start₀ lines₀ printed₀ counts clients links keys values
