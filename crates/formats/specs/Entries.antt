@@ -6,7 +6,7 @@ use mathlib.Core.Bool.{Bool, cond}
 use lib.Dec.{eqb}
 use lib.ListN.{getD}
 use Rattle.ranges.specs.Laid.{built}
-use Rattle.formats.specs.Table.{hasBadges, entryPlace, ownerPlace, badgePlace, numberPlace, entryFields}
+use Rattle.frame_table.specs.Table.{hasBadges, entryPlace, ownerPlace, badgePlace, numberPlace, entryFields}
 
 -- of entry i among a frame's values: its key as a number, as `keyWord` has it, its badge, and its tag, setpoint or mask
 abbrev pub keyIn : List ℕ → ℕ → ℕ

@@ -1,16 +1,14 @@
 -- Laws of the entries: the cases as the code meets them, and the values one by one.
-use Prim.Native.Nat.{ℕ, _+_, _*_, _/_, _%_, _<_}
-use mathlib.Core.Path.{_≡_, ap, ap₂, _∙_}
-use mathlib.Core.Bool.{Bool, cond, not}
+use Prim.Native.Nat.{ℕ, _+_, _*_, _/_, _%_}
+use mathlib.Core.Path.{_≡_, ap₂, _∙_}
+use mathlib.Core.Bool.{Bool, cond}
 use mathlib.Core.List.{List}
 use native.Mathlib.Omega.{arith}
-use lib.Dec.{eqb}
 use lib.ListN.{length, getD, length-append, List·getD-append}
 use Rattle.ranges.specs.LaidLaws.{built-length}
-use Rattle.formats.specs.Table.{none, badgePlace, entryFields, sorts, valuesFor, rowOf, sortAt, hasBadges}
-use Rattle.formats.specs.TableLaws.{row-at, sort-small}
+use Rattle.frame_table.specs.Table.{entryFields, valuesFor, hasBadges}
 use Rattle.formats.specs.Entries.{entryValue, valuesBy}
-use Rattle.formats.specs.Columns.{Packable}
+use Rattle.frame_table.specs.Columns.{Packable}
 
 -- ---- the parts of an entry
 
@@ -43,12 +41,6 @@ module _ (badged : Bool) (keys badges numbers : List ℕ) (i : ℕ) where
       let q : (entryFields * i + 3) / entryFields ≡ i = omega arith in
       rw (r, q)
 
--- whether the entries have badges, by the row of their kind
-pub badged-by : (kind : ℕ) {row : List ℕ} → row ≡ rowOf kind → not (eqb (getD row badgePlace 0) none) ≡ hasBadges kind
-unfolding hasBadges
-badged-by kind e =
-    ap (λ (r : List ℕ). not (eqb (getD r badgePlace 0) none)) e ∙ ap (λ (s : ℕ). not (eqb s none)) (row-at kind badgePlace)
-
 -- ---- the values
 
 module _ {fixed keys badges numbers : List ℕ} {entries : ℕ} (p : Packable fixed keys badges numbers entries) where
@@ -60,11 +52,3 @@ module _ {fixed keys badges numbers : List ℕ} {entries : ℕ} (p : Packable fi
 
   pub values-kind : getD (valuesBy fixed keys badges numbers entries) 0 0 ≡ getD fixed 0 0
   values-kind = List·getD-append fixed _ 0 0 (omega (arith, p .all-fixed))
-
--- each cell of a row is one of the sorts
-module _ (kind : ℕ) {row : List ℕ} (er : row ≡ rowOf kind) where
-  sort-is : (place : ℕ) → getD row place 0 ≡ sortAt kind place
-  sort-is place = ap (λ (r : List ℕ). getD r place 0) er ∙ row-at kind place
-
-  pub sort-known : (place : ℕ) → getD row place 0 < sorts
-  sort-known place = omega (arith, sort-is place, sort-small kind place)

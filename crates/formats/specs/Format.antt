@@ -2,11 +2,11 @@
 use Prim.Native.Nat.{ℕ, zero, suc, _+_, _-_, _*_}
 use mathlib.Core.Bool.{Bool, cond, _&&_}
 use lib.Dec.{leb, eqb}
-use Rattle.formats.specs.declared.state.Field.{Field}
+use Rattle.frame_table.specs.declared.Field.{Field}
 use Rattle.formats.specs.declared.state.State.{State}
 use Rattle.formats.specs.Grammar.{Grammar, end, field}
-use Rattle.formats.specs.Table.{manyPlace, entryPlace, numberPlace, fixedFields, entryFields, sortAt, bitsOf, leastOf, mostOf}
-use Rattle.formats.specs.Table.{entriesIn}
+use Rattle.frame_table.specs.Table.{manyPlace, entryPlace, numberPlace, fixedFields, entryFields, sortAt, bitsOf, leastOf, mostOf}
+use Rattle.frame_table.specs.Table.{entriesIn}
 
 abbrev pub sortOf : State → ℕ
 sortOf st = sortAt (st .kind) (st .place)

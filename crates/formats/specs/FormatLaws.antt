@@ -10,9 +10,9 @@ use borrow.Author.Tests.{eq-eqb, ne-eqb, lt-ltb, le-ltb, ltb-true, ltb-false, le
 use Rattle.ranges.specs.Tests.{by-equal, by-test, both-left, both-right}
 use Rattle.formats.specs.declared.state.State.{State}
 use Rattle.formats.specs.Grammar.{Grammar, end}
-use Rattle.formats.specs.Table.{manyPlace, entryPlace, numberPlace, entryFields, sorts, rowOf, sortAt, bitsOf, leastOf, mostOf}
-use Rattle.formats.specs.Table.{entriesIn}
-use Rattle.formats.specs.TableLaws.{sort-small}
+use Rattle.frame_table.specs.Table.{manyPlace, entryPlace, numberPlace, entryFields, sorts, rowOf, sortAt, bitsOf, leastOf, mostOf}
+use Rattle.frame_table.specs.Table.{entriesIn}
+use Rattle.frame_table.specs.TableLaws.{sort-small}
 use Rattle.formats.specs.Format.{sortOf, fieldOf, within, allowed, leftAfter, placeAfter, nextOf, one, entries, fixed, start, format}
 
 module _ (place : ℕ) where

@@ -11,16 +11,16 @@ use Rattle.ranges.specs.SumLaws.{sum-more}
 use Rattle.fields.specs.Bits.{fieldAt}
 use Rattle.formats.specs.Grammar.{Grammar, got, read, good}
 use Rattle.formats.specs.RoundTrip.{field-got, read-good, read-size}
-use Rattle.formats.specs.declared.table.Behind.{Behind}
-use Rattle.formats.specs.Table.{manyPlace, entryPlace, ownerPlace, badgePlace, numberPlace, entryFields, kinds}
-use Rattle.formats.specs.Table.{headerBits, shapeOf, sortAt, bitsOf}
-use Rattle.formats.specs.Table.{mostOf, entriesIn, entriesSaid, valuesFor}
-use Rattle.formats.specs.TableLaws.{row-right, bitsFrom, columns-small, entries-fit}
+use Rattle.frame_table.specs.declared.Behind.{Behind}
+use Rattle.frame_table.specs.Table.{manyPlace, entryPlace, ownerPlace, badgePlace, numberPlace, entryFields, kinds}
+use Rattle.frame_table.specs.Table.{headerBits, shapeOf, sortAt, bitsOf}
+use Rattle.frame_table.specs.Table.{mostOf, entriesIn, entriesSaid, valuesFor}
+use Rattle.frame_table.specs.TableLaws.{row-right, bitsFrom, columns-small, entries-fit}
 use Rattle.formats.specs.Format.{widthOf, nextOf, format}
 use Rattle.formats.specs.FormatLaws.{rest, rest-start, rest-one, at-most}
 use Rattle.formats.specs.Entries.{keyIn, badgeIn, numberIn}
-use Rattle.formats.specs.Columns.{mostBits}
-use Rattle.formats.specs.Entry.{countBits, ownerBits, keyBits, badgeBits, Slim, is-slim, Keyed, keyed-some, behindOf, entryBits}
+use Rattle.frame_table.specs.Columns.{mostBits}
+use Rattle.frame_table.specs.Entry.{countBits, ownerBits, keyBits, badgeBits, Slim, is-slim, Keyed, keyed-some, behindOf, entryBits}
 use Rattle.formats.specs.Judging.{key-parts}
 use Rattle.formats.specs.Walk.{stateAt, firstBit, place-early, place-late, walk, walk-place, walk-kind, some-left, values-length}
 use Rattle.formats.specs.Walk.{value-width, value-allowed, entry-first, entries-few, kind-below, frame-bits}

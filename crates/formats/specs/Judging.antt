@@ -12,21 +12,23 @@ use borrow.Author.Tests.{le-leb, lt-leb, leb-true, leb-false, eq-eqb, ne-eqb}
 use Rattle.ranges.specs.Tests.{by-test, by-equal}
 use Rattle.fields.specs.Bits.{fieldAt}
 use Rattle.fields.specs.FieldLaws.{field-below, field-join}
-use Rattle.formats.specs.declared.state.Field.{Field}
+use Rattle.frame_table.specs.declared.Field.{Field}
 use Rattle.formats.specs.declared.state.State.{State}
-use Rattle.formats.specs.declared.table.Behind.{Behind}
+use Rattle.frame_table.specs.declared.Behind.{Behind}
 use Rattle.formats.specs.Grammar.{Grammar, Outcome, got, fault, ahead, ended, read}
-use Rattle.formats.specs.Table.{manyPlace, entryPlace, ownerPlace, badgePlace, numberPlace, fixedFields}
-use Rattle.formats.specs.Table.{entryFields, mostEntries, sortAt, bitsOf, mostOf}
-use Rattle.formats.specs.Table.{less, limitsOf, limitRow, rowOf, entriesIn}
-use Rattle.formats.specs.TableLaws.{few-entries, entries-most, entries-by, row-at}
+use Rattle.frame_table.specs.Table.{manyPlace, entryPlace, ownerPlace, badgePlace, numberPlace, fixedFields}
+use Rattle.frame_table.specs.Table.{entryFields, mostEntries, sortAt, bitsOf, mostOf}
+use Rattle.frame_table.specs.Table.{less, limitsOf, limitRow, rowOf, entriesIn}
+use Rattle.frame_table.specs.TableLaws.{few-entries, entries-most, entries-by, row-at}
 use Rattle.formats.specs.Format.{widthOf, fieldOf, within, nextOf, one, entries, format}
 use Rattle.formats.specs.FormatLaws.{rest-late}
-use Rattle.formats.specs.Columns.{mostBits}
-use Rattle.formats.specs.Entry.{countBits, ownerBits, keyBits, maskBits, badgeBits, numberBits, numberLeast, Slim, is-slim, Plain}
-use Rattle.formats.specs.Entry.{Keyed}
-use Rattle.formats.specs.Entry.{behindBy, behindOf, behindBits, entryBits, ownerField, Ahead, ahead-next, ahead-again}
-use Rattle.formats.specs.Entry.{count-field, owner-field, badge-field, number-field, keyed-some}
+use Rattle.frame_table.specs.Columns.{mostBits}
+use Rattle.frame_table.specs.Entry.{countBits, ownerBits, keyBits, maskBits, badgeBits, numberBits, numberLeast, Slim, is-slim, Plain}
+use Rattle.frame_table.specs.Entry.{Keyed}
+use Rattle.frame_table.specs.Entry.{behindBy, behindOf, behindBits, entryBits}
+use Rattle.formats.specs.EntryFields.{ownerField, Ahead, ahead-next, ahead-again}
+use Rattle.frame_table.specs.Entry.{keyed-some}
+use Rattle.formats.specs.EntryFields.{count-field, owner-field, badge-field, number-field}
 use Rattle.formats.specs.Reading.{faultAt, endFault, end-reads, scanOf, after, fault-reads, none-reads, Come, Said}
 
 -- ---- definitions

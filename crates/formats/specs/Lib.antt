@@ -1,18 +1,14 @@
--- The format of frames. Grammar, Table, Format and Entries say what is right, in document 01's words; the rest follows from them.
+-- The format of frames. Grammar, Format and Entries say what is right, in document 01's words; the rest follows from them.
 pub mod Grammar
 pub mod Table
 pub mod Format
 pub mod Entries
-pub mod Columns
 pub mod RoundTrip
-pub mod TableLaws
 pub mod FormatLaws
 pub mod EntryLaws
-pub mod Entry
+pub mod EntryFields
 pub mod Reading
 pub mod Judging
-pub mod Writing
+pub mod Tested
 pub mod Walk
-pub mod Laying
-pub mod Packing
 pub mod Found

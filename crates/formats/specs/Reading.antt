@@ -10,13 +10,13 @@ use lib.Seq.{getD-set-same, getD-set-other, getD-append-seam}
 use borrow.Author.Tests.{le-leb, lt-leb, leb-true, eq-eqb, ne-eqb}
 use Rattle.ranges.specs.Tests.{by-equal}
 use Rattle.fields.specs.Bits.{fieldAt}
-use Rattle.formats.specs.declared.state.Field.{Field}
+use Rattle.frame_table.specs.declared.Field.{Field}
 use Rattle.formats.specs.declared.state.State.{State}
 use Rattle.formats.specs.declared.reading.Took.{Took}
 use Rattle.formats.specs.declared.reading.Scan.{Scan}
 use Rattle.formats.specs.Grammar.{Grammar, end, field, Outcome, got, fault, ahead, judged, ended, read, zeros}
-use Rattle.formats.specs.Table.{none, manyPlace, entryPlace, fixedFields, entryFields, sortAt, bitsOf, leastOf, mostOf, entriesIn}
-use Rattle.formats.specs.TableLaws.{kindBits}
+use Rattle.frame_table.specs.Table.{none, manyPlace, entryPlace, fixedFields, entryFields, sortAt, bitsOf, leastOf, mostOf, entriesIn}
+use Rattle.frame_table.specs.TableLaws.{kindBits}
 use Rattle.formats.specs.Format.{sortOf, widthOf, fieldOf, within, allowed, nextOf, one, fixed, start, format}
 use Rattle.formats.specs.FormatLaws.{Goes, goes-start, goes-next, next-place, next-left, place-inner}
 use Rattle.formats.specs.FormatLaws.{left-entries, at-most, Rowed, rowed-next, rest}

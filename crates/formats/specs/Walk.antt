@@ -15,15 +15,15 @@ use Rattle.ranges.specs.Sum.{sumBelow}
 use Rattle.ranges.specs.SumLaws.{sum-more}
 use Rattle.formats.specs.declared.state.State.{State}
 use Rattle.formats.specs.Grammar.{Grammar, good, size, frame}
-use Rattle.formats.specs.Columns.{lengthBy}
-use Rattle.formats.specs.Table.{manyPlace, entryPlace, ownerPlace, badgePlace, numberPlace, entryFields, kinds, headerBits}
-use Rattle.formats.specs.Table.{mostEntries}
-use Rattle.formats.specs.Table.{sortAt, bitsOf, mostOf, shapeOf, entriesIn, entriesSaid, valuesFor}
-use Rattle.formats.specs.TableLaws.{row-right, bitsFrom, few-entries, entries-most}
+use Rattle.frame_table.specs.Columns.{lengthBy}
+use Rattle.frame_table.specs.Table.{manyPlace, entryPlace, ownerPlace, badgePlace, numberPlace, entryFields, kinds, headerBits}
+use Rattle.frame_table.specs.Table.{mostEntries}
+use Rattle.frame_table.specs.Table.{sortAt, bitsOf, mostOf, shapeOf, entriesIn, entriesSaid, valuesFor}
+use Rattle.frame_table.specs.TableLaws.{row-right, bitsFrom, few-entries, entries-most}
 use Rattle.formats.specs.Format.{sortOf, widthOf, allowed, nextOf, start, format}
 use Rattle.formats.specs.FormatLaws.{rest, rest-start, rest-one, rest-end, next-place, next-left}
 use Rattle.formats.specs.FormatLaws.{next-kind, place-last, place-inner, left-entries, left-one-less, at-most}
-use Rattle.formats.specs.Writing.{Tested, tested-start, tested-end, tested-short, tested-bad, tested-on}
+use Rattle.formats.specs.Tested.{Tested, tested-start, tested-end, tested-short, tested-bad, tested-on}
 use Rattle.formats.specs.RoundTrip.{length-frame}
 
 -- the state ahead of value i

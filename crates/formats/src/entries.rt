@@ -1,12 +1,12 @@
 // The entries of a frame that was found good, from its bytes to the lent slices: keys, as numbers, badges, and tags, setpoints or masks.
-use crate::table::BADGE_BITS;
-use crate::table::Behind;
-use crate::table::KEY_BITS;
+use frame_table::BADGE_BITS;
+use frame_table::Behind;
+use frame_table::KEY_BITS;
 ghost use mathlib.Core.Path.{_≡_};
 ghost use Prim.Native.Nat.{_≤_};
 ghost use lib.ListN.{length};
 ghost use Rattle.ranges.specs.Laid.{laid};
-ghost use Rattle.formats.specs.Entry.{badgeWidth};
+ghost use Rattle.frame_table.specs.Entry.{badgeWidth};
 ghost use Rattle.formats.specs.Found.{keyAt, badgeAt, numberAt, Unpackable};
 
 // The keys and the numbers of so many entries from a bit on.

@@ -1,25 +1,24 @@
 // From bytes to values: the fixed fields one by one, then the entries, until the first fault. Only the fixed values are kept; the entries
 // are judged where they stand.
 use crate::state;
-use crate::state::Field;
 use crate::state::State;
-use crate::table;
-use crate::table::ENTRY_BADGE;
-use crate::table::ENTRY_FIELDS;
-use crate::table::FIXED_FIELDS;
-use crate::table::KEY_BITS;
-use crate::table::LAST_KIND;
-use crate::table::MANY;
-use crate::table::MASK_BITS;
-use crate::table::NUMBER;
+use frame_table::ENTRY_BADGE;
+use frame_table::ENTRY_FIELDS;
+use frame_table::FIXED_FIELDS;
+use frame_table::Field;
+use frame_table::KEY_BITS;
+use frame_table::LAST_KIND;
+use frame_table::MANY;
+use frame_table::MASK_BITS;
+use frame_table::NUMBER;
 ghost use mathlib.Core.Path.{_≡_};
 ghost use Prim.Native.Nat.{_+_, _*_, _≤_, _<_};
 ghost use lib.ListN.{length};
 ghost use Rattle.formats.specs.Grammar.{fault, read};
-ghost use Rattle.formats.specs.Columns.{mostBits};
-ghost use Rattle.formats.specs.Table.{sorts};
+ghost use Rattle.frame_table.specs.Columns.{mostBits};
+ghost use Rattle.frame_table.specs.Table.{sorts};
 ghost use Rattle.formats.specs.Format.{sortOf, fieldOf, format};
-ghost use Rattle.formats.specs.Entry.{keyBits};
+ghost use Rattle.frame_table.specs.Entry.{keyBits};
 ghost use Rattle.formats.specs.Reading.{tookAt, endFault, scanOf};
 ghost use Rattle.formats.specs.Judging.{keyFault, numberFault, entryFault, entriesFault, restFault, Number, EntriesAt};
 
@@ -103,7 +102,7 @@ fn taken(bytes: &[u8], at: usize, sort: u8, state: State) -> Took
     requires { ⌜ (at ≤ mostBits) × (at ≤ 8 * length (now bytes)) × (sort ≡ sortOf state) × (sort < sorts) ⌝ }
     ensures { λ r. ⌜ (r ≡ tookAt (now (bytes .entry)) at (fieldOf state)) × (r .width ≤ 32) ⌝ }
 {
-    if sort == table::NO {
+    if sort == frame_table::NO {
         return Took {
             fault: 0,
             width: 0,
@@ -199,12 +198,12 @@ pub fn scan_frame(bytes: &[u8]) -> Scan
     if bytes.len() == 0 {
         return refused(10);
     }
-    let kind = fields::read_field(bytes, 0, table::KIND_BITS);
+    let kind = fields::read_field(bytes, 0, frame_table::KIND_BITS);
     if LAST_KIND < kind {
         return refused(11);
     }
-    let shape = table::shape_of(kind);
-    let row = table::row_of(kind, table::target_of(shape));
+    let shape = frame_table::shape_of(kind);
+    let row = frame_table::row_of(kind, frame_table::target_of(shape));
     let mut fixed = [0u32; FIXED_FIELDS];
     let mut state = state::first();
     let mut at: usize = 0;
@@ -221,8 +220,8 @@ pub fn scan_frame(bytes: &[u8]) -> Scan
         at += took.width;
         state = state::next(sort, state, value);
     }
-    let entries = table::entries_in(row[MANY], fixed[MANY]);
-    let behind = table::behind_key(row[ENTRY_BADGE], row[NUMBER]);
+    let entries = frame_table::entries_in(row[MANY], fixed[MANY]);
+    let behind = frame_table::behind_key(row[ENTRY_BADGE], row[NUMBER]);
     let number = rest_fault(
         bytes,
         at,

@@ -1,18 +1,11 @@
 // Which field comes next: a frame's fields are the three of its header, the six of its fixed body, and four for each entry.
-use crate::table;
+use frame_table::Field;
 ghost use mathlib.Core.Path.{_≡_};
 ghost use Prim.Native.Nat.{_<_, _≤_};
 ghost use mathlib.Core.Bool.{cond};
 ghost use lib.Dec.{eqb};
-ghost use Rattle.formats.specs.Table.{numberPlace, sorts};
+ghost use Rattle.frame_table.specs.Table.{numberPlace, sorts};
 ghost use Rattle.formats.specs.Format.{sortOf, fieldOf, leftAfter, placeAfter, nextOf, start};
-
-// A field: its bits, and the least and the greatest value that it may have.
-pub struct Field {
-    pub width: usize,
-    pub least: u32,
-    pub most: u32,
-}
 
 // What is known ahead of a field: the kind and the client once they are read, the value before it, how many fields are left
 // (until the number of entries is read, of the header and the fixed body alone), and its place in the table.
@@ -31,7 +24,7 @@ pub fn first() -> State
         kind: 0,
         client: 0,
         before: 0,
-        left: table::FIXED_FIELDS,
+        left: frame_table::FIXED_FIELDS,
         place: 0,
     }
 }
@@ -41,10 +34,10 @@ pub fn field_at(sort: u8, state: State) -> Field
     requires { ⌜ (sort ≡ sortOf state) × (sort < sorts) ⌝ }
     ensures { λ r. ⌜ (r ≡ fieldOf state) × (r .width ≤ 32) ⌝ }
 {
-    let plain = table::limits_of(sort);
+    let plain = frame_table::limits_of(sort);
     let width = plain.width;
-    let least = table::least_of(sort, plain.least, state.client);
-    let most = table::most_of(sort, plain.most, state.client, state.before);
+    let least = frame_table::least_of(sort, plain.least, state.client);
+    let most = frame_table::most_of(sort, plain.most, state.client, state.before);
     Field {
         width: width,
         least: least,
@@ -64,8 +57,8 @@ fn left_after(sort: u8, state: State, value: u32) -> usize
     requires { ⌜ (0 < state .left) × (sort ≡ sortOf state) ⌝ }
     ensures { λ r. ⌜ r ≡ leftAfter state value ⌝ }
 {
-    if state.place == table::MANY {
-        return table::ENTRY_FIELDS * table::entries_in(sort, value);
+    if state.place == frame_table::MANY {
+        return frame_table::ENTRY_FIELDS * frame_table::entries_in(sort, value);
     }
     state.left - 1
 }
@@ -75,8 +68,8 @@ pub fn place_after(place: usize) -> usize
     requires { ⌜ place ≤ numberPlace ⌝ }
     ensures { λ r. ⌜ r ≡ placeAfter place ⌝ }
 {
-    if place == table::NUMBER {
-        return table::ENTRY;
+    if place == frame_table::NUMBER {
+        return frame_table::ENTRY;
     }
     place + 1
 }

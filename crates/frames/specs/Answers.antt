@@ -12,16 +12,16 @@ use Rattle.ranges.specs.Tests.{by-test, both-right}
 use Rattle.ranges.specs.Laid.{laid}
 use Rattle.ranges.specs.LaidLaws.{built-same, laid-none}
 use Rattle.formats.specs.declared.reading.Scan.{Scan}
-use Rattle.formats.specs.declared.writing.Wrote.{Wrote}
+use Rattle.format_writing.specs.declared.Wrote.{Wrote}
 use Rattle.formats.specs.Grammar.{Outcome, got, fault, good, frame}
 use Rattle.formats.specs.RoundTrip.{read-good}
-use Rattle.formats.specs.Table.{mostEntries, fixedFields, entriesSaid, hasBadges}
+use Rattle.frame_table.specs.Table.{mostEntries, fixedFields, entriesSaid, hasBadges}
 use Rattle.formats.specs.Format.{format}
 use Rattle.formats.specs.Entries.{keyIn, badgeIn, numberIn, valuesBy}
-use Rattle.formats.specs.Columns.{Places, Packable}
-use Rattle.formats.specs.Entry.{Keyed, behindOf, badge-none, badge-some}
+use Rattle.frame_table.specs.Columns.{Places, Packable}
+use Rattle.frame_table.specs.Entry.{Keyed, behindOf, badge-none, badge-some}
 use Rattle.formats.specs.Reading.{scanOf, Got, scan-got, fault-some}
-use Rattle.formats.specs.Writing.{wroteOf, bytesAfter}
+use Rattle.format_writing.specs.Writing.{wroteOf, bytesAfter}
 use Rattle.formats.specs.Walk.{entries-few}
 use Rattle.formats.specs.Found.{entriesBit, keyAt, badgeAt, numberAt, Unpackable, key-found, badge-found, number-found, found-keyed}
 use Rattle.formats.specs.Found.{found-unpackable}

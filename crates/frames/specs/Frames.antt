@@ -5,7 +5,7 @@ use mathlib.Core.Bool.{Bool, cond, not, _&&_, _||_}
 use lib.Dec.{leb}
 use lib.ListN.{length, drop}
 use Rattle.formats.specs.Grammar.{Outcome, got, fault, read, good, frame}
-use Rattle.formats.specs.Table.{hasBadges}
+use Rattle.frame_table.specs.Table.{hasBadges}
 use Rattle.formats.specs.Format.{format}
 use Rattle.formats.specs.Entries.{keyIn, badgeIn, numberIn}
 use Rattle.frames.specs.declared.Message.{Message}

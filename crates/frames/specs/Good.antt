@@ -15,9 +15,10 @@ use Rattle.ranges.specs.All.{allBelow}
 use Rattle.ranges.specs.AllLaws.{all-at}
 use Rattle.keys.specs.Keys.{keyOf}
 use Rattle.formats.specs.Grammar.{good}
-use Rattle.formats.specs.Table.{none, coord, sortAt, bitsOf, leastOf, mostOf, entriesIn, entriesSaid}
-use Rattle.formats.specs.Table.{hasBadges, entryPlace, ownerPlace, badgePlace, numberPlace, manyPlace, rowPlaces, kinds, fixedFields}
-use Rattle.formats.specs.Table.{entryFields}
+use Rattle.frame_table.specs.Table.{none, coord, sortAt, bitsOf, leastOf, mostOf, entriesIn, entriesSaid}
+use Rattle.frame_table.specs.Table.{hasBadges, entryPlace, ownerPlace, badgePlace, numberPlace, manyPlace, kinds, fixedFields}
+use Rattle.frame_table.specs.TableLaws.{rowPlaces}
+use Rattle.frame_table.specs.Table.{entryFields}
 use Rattle.formats.specs.Format.{sortOf, widthOf, format}
 use Rattle.formats.specs.FormatLaws.{at-most, at-least}
 use Rattle.formats.specs.Walk.{stateAt, placeAt, place-early, place-late, walk-place, walk-kind, values-length, entries-few, value-fits, value-allowed, value-width, kind-below}

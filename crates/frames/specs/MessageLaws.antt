@@ -5,8 +5,8 @@ use mathlib.Core.List.{List}
 use lib.ListN.{getD}
 use borrow.Author.Tests.{ne-eqb}
 use Rattle.keys.specs.Keys.{keyOf}
-use Rattle.formats.specs.Table.{fixedFields, entryFields}
-use Rattle.formats.specs.Columns.{mostValues}
+use Rattle.frame_table.specs.Table.{fixedFields, entryFields}
+use Rattle.frame_table.specs.Columns.{mostValues}
 use Rattle.frames.specs.declared.Fixed.{Fixed}
 use Rattle.frames.specs.declared.Message.{Message}
 use Rattle.frames.specs.declared.Message.the-variants.{Log}

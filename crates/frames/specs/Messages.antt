@@ -5,7 +5,7 @@ use mathlib.Core.Bool.{cond}
 use lib.Dec.{eqb}
 use lib.ListN.{getD}
 use Rattle.keys.specs.Keys.{keyOf}
-use Rattle.formats.specs.Table.{entriesSaid}
+use Rattle.frame_table.specs.Table.{entriesSaid}
 use Rattle.frames.specs.declared.Fixed.{Fixed}
 use Rattle.frames.specs.declared.Message.{Message}
 use Rattle.frames.specs.declared.Message.the-variants.{Set, SetDone, Enter, Entered, WhichKeys, Keys, Get, Got, GetAll, All, GetLog, Log}

@@ -13,12 +13,12 @@ use Rattle.ranges.specs.Tests.{by-test, both, both-left, both-right}
 use Rattle.fields.specs.BitLaws.{Bytes}
 use Rattle.formats.specs.Grammar.{Outcome, got, fault, good, frame}
 use Rattle.formats.specs.RoundTrip as formats
-use Rattle.formats.specs.Table.{entriesIn, entriesSaid, sortAt, hasBadges, entryPlace, ownerPlace, badgePlace, numberPlace, fixedFields}
-use Rattle.formats.specs.Table.{entryFields, valuesFor}
+use Rattle.frame_table.specs.Table.{entriesIn, entriesSaid, sortAt, hasBadges, entryPlace, ownerPlace, badgePlace, numberPlace, fixedFields}
+use Rattle.frame_table.specs.Table.{entryFields, valuesFor}
 use Rattle.formats.specs.Format.{format}
 use Rattle.formats.specs.Entries.{keyIn, badgeIn, numberIn, entryValue}
 use Rattle.formats.specs.EntryLaws.{part-count, part-client, part-badge, part-number}
-use Rattle.formats.specs.Columns.{Places}
+use Rattle.frame_table.specs.Columns.{Places}
 use Rattle.formats.specs.Walk.{values-length}
 use Rattle.frames.specs.declared.Message.{Message}
 use Rattle.frames.specs.declared.Message.the-variants.{Set, SetDone, Enter, Entered, WhichKeys, Keys, Get, Got, GetAll, All, GetLog, Log}

@@ -6,8 +6,8 @@ use mathlib.Core.List.{List, [], _∷_}
 use Prim.Native.Nat.{ℕ}
 use Rattle.fields.specs.Bits.{bitOf, withBit, bitAt, setBit, fieldAt, putField}
 use Rattle.formats.specs.Grammar.{ahead, judged, ended, read, good, size, lay, frame}
-use Rattle.formats.specs.Columns.{lengthBy}
-use Rattle.formats.specs.Table.{sortAt, bitsOf, leastOf, mostOf, shapeOf, entriesIn, hasBadges}
+use Rattle.frame_table.specs.Columns.{lengthBy}
+use Rattle.frame_table.specs.Table.{sortAt, bitsOf, leastOf, mostOf, shapeOf, entriesIn, hasBadges}
 use Rattle.formats.specs.Format.{fieldOf, within, leftAfter, placeAfter, nextOf, entries, fixed, format}
 use Rattle.keys.specs.Keys.{keyOf}
 use Rattle.frames.specs.declared.Message.{Message}

@@ -1,12 +1,11 @@
 // The entries beside a message: whether there are places for them, and from a frame's bytes to these.
-use formats::table;
-use formats::table::ENTRY_BADGE;
-use formats::table::NUMBER;
+use frame_table::ENTRY_BADGE;
+use frame_table::NUMBER;
 ghost use mathlib.Core.Path.{_≡_};
 ghost use mathlib.Core.Bool.{cond};
 ghost use lib.ListN.{length};
-ghost use Rattle.formats.specs.Table.{hasBadges};
-ghost use Rattle.formats.specs.Entry.{behindOf};
+ghost use Rattle.frame_table.specs.Table.{hasBadges};
+ghost use Rattle.frame_table.specs.Entry.{behindOf};
 ghost use Rattle.formats.specs.Found.{entriesBit, keyAt, badgeAt, numberAt};
 ghost use Rattle.ranges.specs.Laid.{laid};
 ghost use Rattle.frames.specs.Frames.{enough};
@@ -22,7 +21,7 @@ pub fn enough_places(kind: u32, entries: usize, keys: usize, badges: usize, numb
     if numbers < entries {
         return false;
     }
-    if !table::has_badges(kind) {
+    if !frame_table::has_badges(kind) {
         return true;
     }
     entries <= badges
@@ -45,10 +44,10 @@ pub fn store(
         × (now (numbers .exit)
         ≡ laid (numberAt (now (bytes .entry)) (entriesBit kind) (behindOf kind)) entries (now (numbers .entry))) ⌝ }
 {
-    let shape = table::shape_of(kind);
-    let row = table::row_of(kind, shape.target);
-    let behind = table::behind_key(row[ENTRY_BADGE], row[NUMBER]);
-    let first = table::entries_at(shape);
+    let shape = frame_table::shape_of(kind);
+    let row = frame_table::row_of(kind, shape.target);
+    let behind = frame_table::behind_key(row[ENTRY_BADGE], row[NUMBER]);
+    let first = frame_table::entries_at(shape);
     formats::entries::store_entries(bytes, first, behind, keys, numbers, entries);
     if behind.badge == 0 {
         return;

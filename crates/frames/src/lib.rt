@@ -1,9 +1,9 @@
 // Frames: the messages that cross the wire, from bytes and to bytes.
 // A message holds what is fixed; the entries of kinds 6, 10 and 12 stand beside it, in three lent slices: keys, as numbers, badges, which
 // only kind 10 has, and the numbers beside them: tags of kind 6, setpoints of kind 10, masks of kind 12.
-use formats::table::ENTRY_FIELDS;
-use formats::table::FIXED_FIELDS;
-use formats::table::MOST_ENTRIES;
+use frame_table::ENTRY_FIELDS;
+use frame_table::FIXED_FIELDS;
+use frame_table::MOST_ENTRIES;
 use keys::Key;
 
 pub mod entries; // entries.rt: places for the entries, and from bytes to these
@@ -11,9 +11,9 @@ pub mod entries; // entries.rt: places for the entries, and from bytes to these
 ghost use mathlib.Core.Path.{_≡_};
 ghost use Prim.Native.Nat.{_-_};
 ghost use Rattle.formats.specs.Entries.{valuesBy};
-ghost use Rattle.formats.specs.Columns.{Packable};
+ghost use Rattle.frame_table.specs.Columns.{Packable};
 ghost use Rattle.formats.specs.Reading.{Got};
-ghost use Rattle.formats.specs.Writing.{wroteOf, bytesAfter};
+ghost use Rattle.format_writing.specs.Writing.{wroteOf, bytesAfter};
 ghost use Rattle.frames.specs.Frames.{readingOf, keysRead, badgesRead, numbersRead, found, writtenOf, bytesWritten};
 ghost use Rattle.frames.specs.Answers.{writtenBy};
 ghost use Rattle.frames.specs.Messages.{entriesOf, fixedOf, messageAt};
@@ -400,7 +400,7 @@ fn send(
         ≡ bytesAfter (valuesBy (now (fixed .entry)) (now (keys .entry)) (now (badges .entry)) (now (numbers .entry)) entries)
         (now (bytes .entry))) ⌝ }
 {
-    let wrote = formats::writing::write_values(fixed, keys, badges, numbers, entries, bytes);
+    let wrote = format_writing::write_values(fixed, keys, badges, numbers, entries, bytes);
     let refusal = wrote.fault;
     let length = wrote.length;
     if refusal != 0 {

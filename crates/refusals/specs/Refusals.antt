@@ -15,11 +15,10 @@ use Rattle.soundness.specs.Sound.{longEnough, pressFits, sound}
 abbrev pub openFault : Bool → ℕ → ℕ → List ℕ → Tables → ℕ
 openFault fits k p setpoints t = cond (not (fits && eqb (length setpoints) k)) 1 (cond (not (longEnough k p t)) 2 0)
 
--- "Method A retired": tables of method 1 may be there still
+-- "Method A retired": tables of method 1 may be there still. "An opening with method 1 returns 1"
 abbrev pub isRetired : ℕ → Bool
 isRetired method = eqb method 1
 
--- "An opening with method 1 returns 1"
 abbrev pub pressOpens : ℕ → ℕ → ℕ → Bool
 pressOpens method k p = not (isRetired method) && pressFits method k p
 

@@ -89,7 +89,6 @@ askingByB q mask t = asking (startedClient askingKeys mask (readsOf t) q (t .cli
 abbrev pub askingByC : ℕ → ℕ → Tables → Asking
 askingByC q mask t = asking (startedClient askingAll mask (readsOf t) q (t .clients)) (sendAsk q coordinator (sentAsks q mask (serversOf t) (t .links)))
 
--- "nothing new begins" by A
 abbrev pub askingBy : ℕ → ℕ → ℕ → Tables → Asking
 askingBy method q mask t = cond (eqb method 2) (askingByB q mask t) (askingByC q mask t)
 

@@ -2,7 +2,7 @@
 use borrow.Author.Needs.{needs}
 use Prim.Native.Nat.{_-_, _/_}
 use lib.ListN.{getD}
-use Rattle.formats.specs.Table.{fixedFields, entryFields}
+use Rattle.frame_table.specs.Table.{fixedFields, entryFields}
 use Rattle.frames.proofs.fixed_at.Statement.{statement}
 use Rattle.frames.proofs.fixed_at.Tie as tie
 

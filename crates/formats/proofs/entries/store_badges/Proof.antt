@@ -9,8 +9,8 @@ use lib.ListN.{length}
 use Rattle.ranges.specs.LaidLaws.{Laying, laying-none, laying-more, laying-all}
 use Rattle.fields.specs.Bits.{fieldAt}
 use Rattle.fields.specs.ByBytes.{field-by-bytes}
-use Rattle.formats.specs.Columns.{mostBits}
-use Rattle.formats.specs.Entry.{keyBits, entryBits}
+use Rattle.frame_table.specs.Columns.{mostBits}
+use Rattle.frame_table.specs.Entry.{keyBits, entryBits}
 use Rattle.formats.specs.Found.{badgeAt}
 use Rattle.formats.proofs.entries.store_badges.Statement.{statement}
 use Rattle.formats.proofs.entries.store_badges.Tie as tie

@@ -10,8 +10,8 @@ use Rattle.ranges.specs.LaidLaws.{Laying, laying-none, laying-more, laying-all}
 use Rattle.fields.specs.Bits.{fieldAt}
 use Rattle.fields.specs.FieldLaws.{field-below}
 use Rattle.fields.specs.ByBytes.{field-by-bytes}
-use Rattle.formats.specs.Columns.{mostBits}
-use Rattle.formats.specs.Entry.{keyBits, entryBits, Slim}
+use Rattle.frame_table.specs.Columns.{mostBits}
+use Rattle.frame_table.specs.Entry.{keyBits, entryBits, Slim}
 use Rattle.formats.specs.Found.{keyAt, numberAt}
 use Rattle.formats.proofs.entries.store_entries.Statement.{statement}
 use Rattle.formats.proofs.entries.store_entries.Tie as tie

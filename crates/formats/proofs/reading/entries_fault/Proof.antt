@@ -3,7 +3,7 @@ use borrow.Author.Needs.{needs}
 use mathlib.Core.Path.{_≡_, refl, _∙_}
 use Prim.Native.Nat.{_+_, _-_, _*_, _≤_}
 use native.Mathlib.Omega.{arith}
-use Rattle.formats.specs.Entry.{keyBits}
+use Rattle.frame_table.specs.Entry.{keyBits}
 use Rattle.formats.specs.Judging.{entriesFault, entries-stop, entries-on, entries-end, entry-more}
 use Rattle.formats.proofs.reading.entries_fault.Statement.{statement}
 use Rattle.formats.proofs.reading.entries_fault.Tie as tie

@@ -4,7 +4,7 @@ use mathlib.Core.Path.{_≡_, sym, _∙_}
 use native.Mathlib.Omega.{arith}
 use Rattle.fields.specs.Bits.{fieldAt}
 use Rattle.fields.specs.ByBytes.{field-by-bytes}
-use Rattle.formats.specs.Entry.{keyBits}
+use Rattle.frame_table.specs.Entry.{keyBits}
 use Rattle.formats.specs.Judging.{key-cut, key-counted, key-none, key-broken}
 use Rattle.formats.proofs.reading.key_fault.Statement.{statement}
 use Rattle.formats.proofs.reading.key_fault.Tie as tie

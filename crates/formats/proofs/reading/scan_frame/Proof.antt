@@ -7,12 +7,13 @@ use native.Mathlib.Omega.{arith}
 use lib.ListN.{getD, length-replicate}
 use Rattle.fields.specs.ByBytes.{field-by-bytes}
 use Rattle.formats.specs.declared.state.State.{State}
-use Rattle.formats.specs.declared.table.Shape.{Shape}
-use Rattle.formats.specs.Table.{manyPlace, entryPlace, badgePlace, numberPlace, fixedFields, entriesIn}
-use Rattle.formats.specs.TableLaws.{target-is}
+use Rattle.frame_table.specs.declared.Shape.{Shape}
+use Rattle.frame_table.specs.Table.{manyPlace, entryPlace, badgePlace, numberPlace, fixedFields, entriesIn}
+use Rattle.frame_table.specs.TableLaws.{target-is}
 use Rattle.formats.specs.FormatLaws.{Rowed, rowed-start, rowed-tells, next-place, place-inner}
-use Rattle.formats.specs.Entry.{Ahead, behindOf, Slim}
-use Rattle.formats.specs.EntryLaws.{sort-known}
+use Rattle.frame_table.specs.Entry.{behindOf, Slim}
+use Rattle.formats.specs.EntryFields.{Ahead}
+use Rattle.frame_table.specs.TableLaws.{sort-known}
 use Rattle.formats.specs.Reading.{scanOf, Come, Said, come-none, come-unknown, come-start, turn-fault, turn-on, turn-rowed, turn-said}
 use Rattle.formats.specs.Judging.{entries-said, behind-limits, said-few, rest-asked, rest-refused, rest-read}
 use Rattle.formats.proofs.reading.scan_frame.Statement.{statement}

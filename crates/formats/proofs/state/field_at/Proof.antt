@@ -2,8 +2,8 @@
 use borrow.Author.Needs.{needs}
 use mathlib.Core.Path.{ap}
 use native.Mathlib.Omega.{arith}
-use Rattle.formats.specs.declared.state.Field.{Field}
-use Rattle.formats.specs.TableLaws.{limits-width, bits-most}
+use Rattle.frame_table.specs.declared.Field.{Field}
+use Rattle.frame_table.specs.TableLaws.{limits-width, bits-most}
 use Rattle.formats.specs.FormatLaws.{field-is}
 use Rattle.formats.proofs.state.field_at.Statement.{statement}
 use Rattle.formats.proofs.state.field_at.Tie as tie

@@ -3,8 +3,8 @@ use borrow.Author.Needs.{needs}
 use mathlib.Core.Path.{_≡_, ap, _∙_}
 use Prim.Native.Nat.{ℕ}
 use native.Mathlib.Omega.{arith}
-use Rattle.formats.specs.Table.{sortAt, entriesIn}
-use Rattle.formats.specs.TableLaws.{entries-by, entries-most}
+use Rattle.frame_table.specs.Table.{sortAt, entriesIn}
+use Rattle.frame_table.specs.TableLaws.{entries-by, entries-most}
 use Rattle.formats.specs.FormatLaws.{left-entries, left-one-less}
 use Rattle.formats.proofs.state.left_after.Statement.{statement}
 use Rattle.formats.proofs.state.left_after.Tie as tie

@@ -4,11 +4,11 @@ use mathlib.Core.Path.{_≡_, ap, ap₂, _∙_}
 use Prim.Native.Nat.{ℕ, _+_}
 use Rattle.ranges.specs.Laid.{laid}
 use Rattle.ranges.specs.Tests.{by-test}
-use Rattle.formats.specs.declared.table.Behind.{Behind}
-use Rattle.formats.specs.declared.table.Shape.{Shape}
-use Rattle.formats.specs.Table.{badgePlace, numberPlace, headerBits, hasBadges}
-use Rattle.formats.specs.Entry.{behindOf, is-slim, badge-none}
-use Rattle.formats.specs.EntryLaws.{sort-known}
+use Rattle.frame_table.specs.declared.Behind.{Behind}
+use Rattle.frame_table.specs.declared.Shape.{Shape}
+use Rattle.frame_table.specs.Table.{badgePlace, numberPlace, headerBits, hasBadges}
+use Rattle.frame_table.specs.Entry.{behindOf, is-slim, badge-none}
+use Rattle.frame_table.specs.TableLaws.{sort-known}
 use Rattle.formats.specs.Judging.{behind-limits}
 use Rattle.formats.specs.Found.{entriesBit, keyAt, badgeAt, numberAt}
 use Rattle.frames.specs.Answers.{badges-alone, badges-stored}

@@ -1,0 +1,2 @@
+-- The tests of a record of the register.
+pub mod Records
