@@ -1,5 +1,5 @@
 -- Document 01's sample: the text of "The yard program" computes to what document 01 prints for it, every answer and then the register,
--- on the definition that the contract of `texts::play_text` cites. Texts are bytes, each line below its letters.
+-- on the definition that the contract of `text_run::play_text` cites. Texts are bytes, each line below its letters.
 use Prim.Native.Nat.{ℕ, _*_}
 use mathlib.Core.Path.{_≡_}
 use mathlib.Core.List.{List, [], _∷_, _++_}
