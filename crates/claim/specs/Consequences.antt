@@ -10,8 +10,8 @@ use Rattle.rules.specs.declared.Arrival.{Arrival}
 use Rattle.rules.specs.declared.Arrival.the-variants as arrival
 use Rattle.tables.specs.Tables.{Tables, stepOf}
 use Rattle.soundness.specs.Sound.{sound}
-use Rattle.serial.specs.Steps.{Event, opened, begun-write, begun-read, requested, replied, lost, resent, Played, Machine, leftBy}
-use Rattle.serial.specs.History.{BehindOpenings}
+use Rattle.claim.specs.Steps.{Event, opened, begun-write, begun-read, requested, replied, lost, resent, Played, Machine, leftBy}
+use Rattle.claim.specs.History.{BehindOpenings}
 
 -- the number by which a step was refused; 0 where it was accepted
 abbrev pub numberOf : Answer → ℕ

@@ -4,8 +4,8 @@
 use Prim.Native.Nat.{ℕ}
 use mathlib.Core.List.{List}
 use Rattle.refusals.specs.Former.{formerOpen, formerBeginWrite, formerBeginRead}
-use Rattle.serial.specs.Steps.{Step, opening, beginning-write, beginning-read, request, reply, losing, resending}
-use Rattle.serial.specs.Steps.{opened, begun-write, begun-read, leaving, Machine, play}
+use Rattle.claim.specs.Steps.{Step, opening, beginning-write, beginning-read, request, reply, losing, resending}
+use Rattle.claim.specs.Steps.{opened, begun-write, begun-read, leaving, Machine, play}
 
 pub data MixedStep : Type 0 where
   today : Step → MixedStep

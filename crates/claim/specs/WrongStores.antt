@@ -21,8 +21,8 @@ use Rattle.rules.specs.Answers.{Left, nothingShown}
 use Rattle.rules.specs.Request.{gotFrom, onNewEnter}
 use Rattle.rules.specs.Loss.{ownKeyOf}
 use Rattle.refusals.specs.Steps.{deliverReply}
-use Rattle.serial.specs.Steps.{Step, opening, beginning-write, beginning-read, request, reply, losing, resending}
-use Rattle.serial.specs.Steps.{Event, opened, begun-write, begun-read, requested, replied, lost, resent, Played, Machine}
+use Rattle.claim.specs.Steps.{Step, opening, beginning-write, beginning-read, request, reply, losing, resending}
+use Rattle.claim.specs.Steps.{Event, opened, begun-write, begun-read, requested, replied, lost, resent, Played, Machine}
 
 -- the opening's setpoints, and those of a WRITE
 abbrev pub first : List ℕ

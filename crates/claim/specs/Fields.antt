@@ -21,13 +21,13 @@ use Rattle.rules.specs.declared.Answer.the-variants as answer
 use Rattle.rules.specs.declared.Arrival.{Arrival}
 use Rattle.rules.specs.declared.Arrival.the-variants as arrival
 use Rattle.rules.specs.declared.Delivered.{Delivered}
-use Rattle.serial.specs.Steps.{Event, opened, begun-write, begun-read, requested, replied, lost, resent, Played}
-use Rattle.serial.specs.History.{Value, valueOf, Transaction, Doing, nothing, writing, tagged, reading, History, changed}
-use Rattle.serial.specs.History.{begun, delivered, entered, wrote, showed, arrived, missed, repeated, openedWith, atCoordinator}
-use Rattle.serial.specs.History.{after, history}
-use Rattle.serial.specs.Row.{row, walked, Shows, Walk, at, RealTime}
-use Rattle.serial.specs.Claim.{enough, EndsAt, Unfinished, IsReply, LeavesReply, AnswersAt, Answers, Claim}
-use Rattle.serial.specs.Decided.{Test, always, never, meaning, both, only-if, each, below, equal, most, less, is}
+use Rattle.claim.specs.Steps.{Event, opened, begun-write, begun-read, requested, replied, lost, resent, Played}
+use Rattle.claim.specs.History.{Value, valueOf, Transaction, Doing, nothing, writing, tagged, reading, History, changed}
+use Rattle.claim.specs.History.{begun, delivered, entered, wrote, showed, arrived, missed, repeated, openedWith, atCoordinator}
+use Rattle.claim.specs.History.{after, history}
+use Rattle.claim.specs.Row.{row, walked, Shows, Walk, at, RealTime}
+use Rattle.claim.specs.Claim.{enough, EndsAt, Unfinished, IsReply, LeavesReply, AnswersAt, Answers, Claim}
+use Rattle.claim.specs.Decided.{Test, always, never, meaning, both, only-if, each, below, equal, most, less, is}
 
 -- the claim's fields; real time by the kind of the later beside that of the earlier
 pub data Field : Type 0 where

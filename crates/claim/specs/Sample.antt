@@ -27,10 +27,10 @@ use Rattle.refusals.specs.Refusals.{openRefusal, writeRefusal, readRefusal, del
 use Rattle.refusals.specs.Steps as store
 use Rattle.refusals.specs.Former.{formerlyBegunRead, formerOpenRefusal, formerWriteRefusal, formerReadRefusal, formerOpen}
 use Rattle.refusals.specs.Former.{formerBeginWrite, formerBeginRead}
-use Rattle.serial.specs.Steps.{Step, beginning-write, beginning-read, request, reply, losing, resending, play, run}
-use Rattle.serial.specs.Former.{playFormerly}
-use Rattle.serial.specs.History.{Transaction, valueWritten, valueShown, changed, writeOf, readOf, openedWith, history}
-use Rattle.serial.specs.Row.{readsOf, rowTo, row}
+use Rattle.claim.specs.Steps.{Step, beginning-write, beginning-read, request, reply, losing, resending, play, run}
+use Rattle.claim.specs.Former.{playFormerly}
+use Rattle.claim.specs.History.{Transaction, valueWritten, valueShown, changed, writeOf, readOf, openedWith, history}
+use Rattle.claim.specs.Row.{readsOf, rowTo, row}
 
 -- tables just long enough for two clients and two servers, all zero
 unfoldable pub zeros : Tables

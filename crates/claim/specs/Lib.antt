@@ -1,6 +1,6 @@
 -- Demand 3, "The row". To believe: Steps, History, Row, Claim; beside it Consequences. To see that they mean it: Sample, the document's own
 -- list of steps, and Wrong, for each field of the claim (Fields) a store (WrongStores) that breaks it and no other (Broken), by tests that
--- decide (Decided). The proof stands in proofs/, and `proofs/Theorem.antt` has the one theorem, `Demand3 play`.
+-- decide (Decided). The crate `serial` has the proof, and its `proofs/Theorem.antt` the one theorem, `Demand3 play`.
 pub mod Steps
 pub mod Former
 pub mod History

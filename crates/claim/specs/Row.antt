@@ -7,7 +7,7 @@ use mathlib.Core.List.{List, [], _∷_, _++_}
 use lib.ListN.{length, getD}
 use lib.Dec.{eqb}
 use Rattle.keys.specs.Masks.{hasServer}
-use Rattle.serial.specs.History.{Value, Transaction, noWrite, History}
+use Rattle.claim.specs.History.{Value, Transaction, noWrite, History}
 
 -- the READs of a tag, in their order
 unfoldable pub readsOf : ℕ → List Transaction → List Transaction

@@ -12,9 +12,9 @@ use Rattle.tables.specs.declared.links.Content.the-variants.{Nothing, Request, 
 use Rattle.tables.specs.Tables.{Tables, contentAt}
 use Rattle.rules.specs.declared.Answer.{Answer}
 use Rattle.rules.specs.declared.Answer.the-variants.{Ok, Refused}
-use Rattle.serial.specs.Steps.{Event, opened, begun-write, begun-read, requested, replied, lost, resent, Played, Machine}
-use Rattle.serial.specs.History.{Transaction, Doing, nothing, writing, tagged, reading, History, history, BehindOpenings}
-use Rattle.serial.specs.Row.{row, Walk, RealTime}
+use Rattle.claim.specs.Steps.{Event, opened, begun-write, begun-read, requested, replied, lost, resent, Played, Machine}
+use Rattle.claim.specs.History.{Transaction, Doing, nothing, writing, tagged, reading, History, history, BehindOpenings}
+use Rattle.claim.specs.Row.{row, Walk, RealTime}
 
 -- the deliveries at which a READ of a mask ends: two for each station, what the method adds, "one … more for each of its lost replies"
 abbrev pub enough : ℕ → ℕ → ℕ → ℕ

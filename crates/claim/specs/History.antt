@@ -14,7 +14,7 @@ use Rattle.rules.specs.declared.Arrival.the-variants as arrival
 use Rattle.rules.specs.declared.Delivered.{Delivered}
 use Rattle.rules.specs.Common.{coordinator}
 use Rattle.refusals.specs.Steps.{badgeOf}
-use Rattle.serial.specs.Steps.{Event, opened, begun-write, begun-read, requested, replied, lost, resent, Played, Machine, run}
+use Rattle.claim.specs.Steps.{Event, opened, begun-write, begun-read, requested, replied, lost, resent, Played, Machine, run}
 
 -- a function changed at one place
 unfoldable pub changed : {A : Type 0} → (ℕ → A) → ℕ → A → ℕ → A

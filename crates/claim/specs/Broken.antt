@@ -4,15 +4,15 @@ use mathlib.Core.Path.{_≡_, refl}
 use mathlib.Core.Bool.{Bool}
 use mathlib.Core.List.{List, [], _∷_, map}
 use Rattle.rules.specs.declared.Answer.the-variants.{Ok}
-use Rattle.serial.specs.Steps.{Step, opening, opened, Played, Machine, run}
-use Rattle.serial.specs.History.{History, openedWith, history}
-use Rattle.serial.specs.Claim.{Claim, Demand3}
-use Rattle.serial.specs.Decided.{Stated, among, InPlace, all-stated, first-broken}
-use Rattle.serial.specs.Decided as decided
-use Rattle.serial.specs.Fields as field
-use Rattle.serial.specs.Fields.{Field, Says, claim-says, test}
-use Rattle.serial.specs.Sample.{zeros}
-use Rattle.serial.specs.WrongStores.{first}
+use Rattle.claim.specs.Steps.{Step, opening, opened, Played, Machine, run}
+use Rattle.claim.specs.History.{History, openedWith, history}
+use Rattle.claim.specs.Claim.{Claim, Demand3}
+use Rattle.claim.specs.Decided.{Stated, among, InPlace, all-stated, first-broken}
+use Rattle.claim.specs.Decided as decided
+use Rattle.claim.specs.Fields as field
+use Rattle.claim.specs.Fields.{Field, Says, claim-says, test}
+use Rattle.claim.specs.Sample.{zeros}
+use Rattle.claim.specs.WrongStores.{first}
 
 -- ---- the fields by number
 

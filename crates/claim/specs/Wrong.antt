@@ -1,6 +1,6 @@
 -- That the claim rules wrong stores out, field by field: for each field and each kind of pair of real time a wrong store and a list of
 -- steps on which it fails, and all the others hold. `whole` and `complete` say the same, and whatever a machine answers, no WRITE stands
--- before one that had finished when it began (`proofs/Always.antt`).
+-- before one that had finished when it began (`serial/proofs/Always.antt`).
 use mathlib.Core.Path.{_≡_, refl, ap}
 use mathlib.Core.List.{List, [], _∷_, _++_}
 use Prim.Native.Nat.{ℕ}
@@ -25,16 +25,16 @@ use Rattle.refusals.specs.Refusals.{openRefusal, writeRefusal, readRefusal, del
 use Rattle.refusals.specs.Steps.{open′, beginWrite, beginRead, deliverRequest, deliverReply, lose, resend}
 use Rattle.refusals.specs.Former.{formerlyBegunRead, formerOpenRefusal, formerWriteRefusal, formerReadRefusal, formerOpen}
 use Rattle.refusals.specs.Former.{formerBeginWrite, formerBeginRead}
-use Rattle.serial.specs.Steps.{Step, beginning-write, beginning-read, request, reply, losing, resending, opened, play}
-use Rattle.serial.specs.Former.{playFormerly}
-use Rattle.serial.specs.History.{changed}
-use Rattle.serial.specs.Row.{readsOf, rowTo}
-use Rattle.serial.specs.Fields.{walk, whole, complete, readAfterRead, writeAfterRead, readAfterWrite}
-use Rattle.serial.specs.Fields.{answered, ends, unfinished, tags, whose}
-use Rattle.serial.specs.Sample.{zeros}
-use Rattle.serial.specs.WrongStores as store
-use Rattle.serial.specs.WrongStores.{first, second}
-use Rattle.serial.specs.Broken.{played, Breaks, Computed, breaks}
+use Rattle.claim.specs.Steps.{Step, beginning-write, beginning-read, request, reply, losing, resending, opened, play}
+use Rattle.claim.specs.Former.{playFormerly}
+use Rattle.claim.specs.History.{changed}
+use Rattle.claim.specs.Row.{readsOf, rowTo}
+use Rattle.claim.specs.Fields.{walk, whole, complete, readAfterRead, writeAfterRead, readAfterWrite}
+use Rattle.claim.specs.Fields.{answered, ends, unfinished, tags, whose}
+use Rattle.claim.specs.Sample.{zeros}
+use Rattle.claim.specs.WrongStores as store
+use Rattle.claim.specs.WrongStores.{first, second}
+use Rattle.claim.specs.Broken.{played, Breaks, Computed, breaks}
 
 -- ---- the lists of steps
 
