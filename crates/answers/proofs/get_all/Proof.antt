@@ -1,10 +1,10 @@
--- `requests::get_all` meets its contract: the log or a server, each a case law of `onGetAll`.
+-- `answers::get_all` meets its contract: the log or a server, each a case law of `onGetAll`.
 use Rattle.tables.specs.Tables.{tablesOf}
-use Rattle.requests.specs.Cases.{all-entries, all-held}
+use Rattle.answers.specs.Cases.{all-entries, all-held}
 use borrow.Author.Needs.{needs}
-use Rattle.requests.proofs.get_all.Statement.{statement}
-use Rattle.requests.proofs.get_all.Tie as tie
-use Rattle.requests.proofs.get_all.Reads as reads
+use Rattle.answers.proofs.get_all.Statement.{statement}
+use Rattle.answers.proofs.get_all.Tie as tie
+use Rattle.answers.proofs.get_all.Reads as reads
 
 returns : tie.Need-returns
 returns c =

@@ -1,10 +1,10 @@
--- `requests::set` meets its contract: held already or new, each a case law of `onSet`.
+-- `server_requests::set` meets its contract: held already or new, each a case law of `onSet`.
 use Rattle.tables.specs.Tables.{tablesOf}
-use Rattle.requests.specs.Cases.{set-held, set-new}
+use Rattle.server_requests.specs.Cases.{set-held, set-new}
 use borrow.Author.Needs.{needs}
-use Rattle.requests.proofs.set.Statement.{statement}
-use Rattle.requests.proofs.set.Tie as tie
-use Rattle.requests.proofs.set.Reads as reads
+use Rattle.server_requests.proofs.set.Statement.{statement}
+use Rattle.server_requests.proofs.set.Tie as tie
+use Rattle.server_requests.proofs.set.Reads as reads
 
 returns : tie.Need-returns
 returns c =

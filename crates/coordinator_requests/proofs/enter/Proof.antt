@@ -1,10 +1,10 @@
--- `requests::enter` meets its contract: in the log already or new, each a case law of `onEnter`.
+-- `coordinator_requests::enter` meets its contract: in the log already or new, each a case law of `onEnter`.
 use Rattle.tables.specs.Tables.{tablesOf}
-use Rattle.requests.specs.Cases.{enter-known, enter-new}
+use Rattle.coordinator_requests.specs.Cases.{enter-known, enter-new}
 use borrow.Author.Needs.{needs}
-use Rattle.requests.proofs.enter.Statement.{statement}
-use Rattle.requests.proofs.enter.Tie as tie
-use Rattle.requests.proofs.enter.Reads as reads
+use Rattle.coordinator_requests.proofs.enter.Statement.{statement}
+use Rattle.coordinator_requests.proofs.enter.Tie as tie
+use Rattle.coordinator_requests.proofs.enter.Reads as reads
 
 returns : tie.Need-returns
 returns c =

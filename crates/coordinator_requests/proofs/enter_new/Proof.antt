@@ -1,10 +1,10 @@
--- `requests::enter_new` meets its contract: entered or full, each a case law of `onNewEnter`.
+-- `coordinator_requests::enter_new` meets its contract: entered or full, each a case law of `onNewEnter`.
 use Rattle.tables.specs.Tables.{tablesOf}
-use Rattle.requests.specs.Cases.{enter-step, enter-entered, enter-full}
+use Rattle.coordinator_requests.specs.Cases.{enter-step, enter-entered, enter-full}
 use borrow.Author.Needs.{needs}
-use Rattle.requests.proofs.enter_new.Statement.{statement}
-use Rattle.requests.proofs.enter_new.Tie as tie
-use Rattle.requests.proofs.enter_new.Reads as reads
+use Rattle.coordinator_requests.proofs.enter_new.Statement.{statement}
+use Rattle.coordinator_requests.proofs.enter_new.Tie as tie
+use Rattle.coordinator_requests.proofs.enter_new.Reads as reads
 
 answer-requires : tie.Need-answer-requires
 answer-requires c κs =

@@ -1,10 +1,10 @@
--- `requests::set_new` meets its contract: stored or full, each a case law of `onNewSet`.
+-- `server_requests::set_new` meets its contract: stored or full, each a case law of `onNewSet`.
 use Rattle.tables.specs.Tables.{tablesOf}
-use Rattle.requests.specs.Cases.{set-step, set-stored, set-full}
+use Rattle.server_requests.specs.Cases.{set-step, set-stored, set-full}
 use borrow.Author.Needs.{needs}
-use Rattle.requests.proofs.set_new.Statement.{statement}
-use Rattle.requests.proofs.set_new.Tie as tie
-use Rattle.requests.proofs.set_new.Reads as reads
+use Rattle.server_requests.proofs.set_new.Statement.{statement}
+use Rattle.server_requests.proofs.set_new.Tie as tie
+use Rattle.server_requests.proofs.set_new.Reads as reads
 
 answer-requires : tie.Need-answer-requires
 answer-requires c κs =

@@ -1,10 +1,10 @@
--- `requests::which_keys` meets its contract: the number answered is that of the log's entries, as `onWhichKeys` says.
+-- `answers::which_keys` meets its contract: the number answered is that of the log's entries, as `onWhichKeys` says.
 use Rattle.tables.specs.Tables.{tablesOf}
-use Rattle.requests.specs.Cases.{keys-told}
+use Rattle.answers.specs.Cases.{keys-told}
 use borrow.Author.Needs.{needs}
-use Rattle.requests.proofs.which_keys.Statement.{statement}
-use Rattle.requests.proofs.which_keys.Tie as tie
-use Rattle.requests.proofs.which_keys.Reads as reads
+use Rattle.answers.proofs.which_keys.Statement.{statement}
+use Rattle.answers.proofs.which_keys.Tie as tie
+use Rattle.answers.proofs.which_keys.Reads as reads
 
 returns : tie.Need-returns
 returns c = let a = c .before .before .before .before .before .before .before .before .before .before .before .args in λ clients keys values log writes reads.

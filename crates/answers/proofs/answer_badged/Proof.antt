@@ -1,8 +1,8 @@
--- `requests::answer_badged` meets its contract: what `fill` left, and the answer.
+-- `answers::answer_badged` meets its contract: what `fill` left, and the answer.
 use mathlib.Core.Path.{refl}
 use borrow.Author.Needs.{needs}
-use Rattle.requests.proofs.answer_badged.Statement.{statement}
-use Rattle.requests.proofs.answer_badged.Tie as tie
+use Rattle.answers.proofs.answer_badged.Statement.{statement}
+use Rattle.answers.proofs.answer_badged.Tie as tie
 
 returns : tie.Need-returns
 returns c =

@@ -1,10 +1,10 @@
--- `requests::get` meets its contract: found or missing, each a case law of `onGet`.
+-- `server_requests::get` meets its contract: found or missing, each a case law of `onGet`.
 use Rattle.tables.specs.Tables.{tablesOf}
-use Rattle.requests.specs.Cases.{get-found, get-missing}
+use Rattle.server_requests.specs.Cases.{get-found, get-missing}
 use borrow.Author.Needs.{needs}
-use Rattle.requests.proofs.get.Statement.{statement}
-use Rattle.requests.proofs.get.Tie as tie
-use Rattle.requests.proofs.get.Reads as reads
+use Rattle.server_requests.proofs.get.Statement.{statement}
+use Rattle.server_requests.proofs.get.Tie as tie
+use Rattle.server_requests.proofs.get.Reads as reads
 
 returns : tie.Need-returns
 returns c =
