@@ -10,8 +10,8 @@ use Rattle.rules.specs.declared.Answer.the-variants.{Ok, Refused}
 use Rattle.rules.specs.declared.Arrival.the-variants as arrival
 use Rattle.rules.specs.declared.Delivered.{Delivered}
 use Rattle.rules.specs.Answers.{nothingShown}
-use Rattle.serial.specs.Steps.{Step, request, reply, Event, requested, replied, play, run}
-use Rattle.serial.specs.Sample.{zeros}
+use Rattle.claim.specs.Steps.{Step, request, reply, Event, requested, replied, play, run}
+use Rattle.claim.specs.Sample.{zeros}
 use Rattle.commutation.specs.Claim.{SwapsWhere, Swaps}
 use Rattle.commutation.specs.Equal.{differ}
 use Rattle.commutation.specs.Examples.{opens, Opened, behind, BothAccepted, enterAndSet, getLogAndSet, twoSets}

@@ -7,8 +7,8 @@ use lib.ListN.{set}
 use Rattle.tables.specs.Layout.{methodField, writesField, readsField, countField, putClientWord}
 use Rattle.tables.specs.Tables.{Tables, withCounts, withClients, methodOf}
 use Rattle.rules.specs.declared.Answer.the-variants.{Ok}
-use Rattle.serial.specs.Steps.{Event, begun-write, begun-read, requested, Machine}
-use Rattle.serial.specs.Sample.{zeros}
+use Rattle.claim.specs.Steps.{Event, begun-write, begun-read, requested, Machine}
+use Rattle.claim.specs.Sample.{zeros}
 use Rattle.retirement.specs.Claim.{Unopened, Retired}
 
 -- tables of method 1, on which nothing has begun

@@ -6,7 +6,4 @@ pub mod Balance
 pub mod Parts
 pub mod Asked
 pub mod Loops
-pub mod Kinds
-pub mod Opens
-pub mod There
 pub mod Room

@@ -143,7 +143,7 @@ pub fn begin_write(
     ensures { λ r. ⌜ left r (tablesOf (now (counts .exit)) (now (clients .exit)) (now (links .exit)) (now (keys .entry)) (now (values .entry)) (now (log .entry)) (now (writes .exit)) (now (reads .entry)))
         ≡ beginWrite client mask badge (now (setpoints .entry)) (tablesOf (now (counts .entry)) (now (clients .entry)) (now (links .entry)) (now (keys .entry)) (now (values .entry)) (now (log .entry)) (now (writes .entry)) (now (reads .entry))) ⌝ }
 {
-    if !soundness::sound(
+    if !sound_tables::sound(
         &*counts,
         &*clients,
         &*links,
@@ -212,7 +212,7 @@ pub fn begin_read(
     ensures { λ r. ⌜ left r (tablesOf (now (counts .exit)) (now (clients .exit)) (now (links .exit)) (now (keys .entry)) (now (values .entry)) (now (log .entry)) (now (writes .entry)) (now (reads .exit)))
         ≡ beginRead client mask (tablesOf (now (counts .entry)) (now (clients .entry)) (now (links .entry)) (now (keys .entry)) (now (values .entry)) (now (log .entry)) (now (writes .entry)) (now (reads .entry))) ⌝ }
 {
-    if !soundness::sound(
+    if !sound_tables::sound(
         &*counts,
         &*clients,
         &*links,
@@ -288,7 +288,7 @@ pub fn deliver_request(
     ensures { λ r. ⌜ left r (tablesOf (now (counts .exit)) (now (clients .entry)) (now (links .exit)) (now (keys .exit)) (now (values .exit)) (now (log .exit)) (now (writes .exit)) (now (reads .entry)))
         ≡ deliverRequest client target (tablesOf (now (counts .entry)) (now (clients .entry)) (now (links .entry)) (now (keys .entry)) (now (values .entry)) (now (log .entry)) (now (writes .entry)) (now (reads .entry))) ⌝ }
 {
-    if !soundness::sound(
+    if !sound_tables::sound(
         &*counts,
         clients,
         &*links,
@@ -404,7 +404,7 @@ pub fn deliver_reply(
     ensures { λ r. ⌜ arrived r (tablesOf (now (counts .exit)) (now (clients .exit)) (now (links .exit)) (now (keys .entry)) (now (values .entry)) (now (log .entry)) (now (writes .exit)) (now (reads .exit)))
         ≡ deliverReply client target (tablesOf (now (counts .entry)) (now (clients .entry)) (now (links .entry)) (now (keys .entry)) (now (values .entry)) (now (log .entry)) (now (writes .entry)) (now (reads .entry))) ⌝ }
 {
-    if !soundness::sound(
+    if !sound_tables::sound(
         &*counts,
         &*clients,
         &*links,
@@ -479,7 +479,7 @@ pub fn lose(
         (now (values .entry)) (now (log .entry))
         (now (writes .entry)) (now (reads .entry))) ⌝ }
 {
-    if !soundness::sound(&*counts, clients, &*links, keys, values, log, writes, reads) {
+    if !sound_tables::sound(&*counts, clients, &*links, keys, values, log, writes, reads) {
         return Answer::Refused(2);
     }
     lose_sound(
@@ -544,7 +544,7 @@ pub fn resend(
         (now (values .entry)) (now (log .entry))
         (now (writes .entry)) (now (reads .entry))) ⌝ }
 {
-    if !soundness::sound(&*counts, clients, &*links, keys, values, log, writes, reads) {
+    if !sound_tables::sound(&*counts, clients, &*links, keys, values, log, writes, reads) {
         return Answer::Refused(2);
     }
     resend_sound(

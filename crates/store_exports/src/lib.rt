@@ -73,7 +73,7 @@ pub extern "C" fn store_sound(
 ) -> bool
     ensures { λ r. ⌜ r ≡ sound (tablesOf (now (counts .entry)) (now (clients .entry)) (now (links .entry)) (now (keys .entry)) (now (values .entry)) (now (log .entry)) (now (writes .entry)) (now (reads .entry))) ⌝ }
 {
-    soundness::sound(counts, clients, links, keys, values, log, writes, reads)
+    sound_tables::sound(counts, clients, links, keys, values, log, writes, reads)
 }
 
 // Opens the store.

@@ -357,7 +357,7 @@ pub fn write_link_frame(
     ensures { λ r. ⌜ sent r (now (bytes .exit))
         ≡ linkFrame client target (tablesOf (now (counts .entry)) (now (clients .entry)) (now (links .entry)) (now (keys .entry)) (now (values .entry)) (now (log .entry)) (now (writes .entry)) (now (reads .entry))) (now (bytes .entry)) ⌝ }
 {
-    if !soundness::sound(counts, clients, links, keys, values, log, writes, reads) {
+    if !sound_tables::sound(counts, clients, links, keys, values, log, writes, reads) {
         return Written::Refused(2);
     }
     write_link_frame_sound(

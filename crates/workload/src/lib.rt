@@ -367,7 +367,7 @@ pub fn next_step(
         ≡ nextStep (tablesOf (now (counts .entry)) (now (clients .entry)) (now (links .entry)) (now (keys .entry)) (now (values .entry))
         (now (log .entry)) (now (writes .entry)) (now (reads .entry))) seed ⌝ }
 {
-    if !soundness::sound(counts, clients, links, keys, values, log, writes, reads) {
+    if !sound_tables::sound(counts, clients, links, keys, values, log, writes, reads) {
         return Next::Refused(2);
     }
     next_step_sound(

@@ -274,7 +274,7 @@ pub fn play_load(
         ≡ playLoad seed wanted (now (list .entry)) (tablesOf (now (counts .entry)) (now (clients .entry)) (now (links .entry))
         (now (keys .entry)) (now (values .entry)) (now (log .entry)) (now (writes .entry)) (now (reads .entry))) ⌝ }
 {
-    if !soundness::sound(
+    if !sound_tables::sound(
         &*counts,
         &*clients,
         &*links,
