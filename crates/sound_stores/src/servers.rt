@@ -6,24 +6,54 @@ ghost use Rattle.tables.specs.Rows.{HasRow};
 ghost use Rattle.tables.specs.Layout.{serverPlaces, versionWord, versionBadge, HasValues};
 ghost use Rattle.tables.specs.Tables.{Tables, withCounts, withVersions, serversOf};
 ghost use Rattle.soundness.specs.Sound.{keyInRange, badgeFits, serverSound};
+ghost use Rattle.soundness.specs.Parts.{keyOwned, keyCounted};
 ghost use Rattle.soundness.specs.Asked.{Counted, VersionsThere};
 use soundness::scalars;
 use tables::counts;
 use tables::versions;
 
-// The keys of the first versions of a server.
-fn keys_in_range(keys: &[u32], server: usize, held: usize, clients: u32) -> bool
+// The keys of the first versions of a server, one comparison of each a loop. All are looked at, so that the compiler compares several at
+// once; it does not where a key has more than one comparison. Whether they have counts, but for the opening's:
+fn keys_counted(keys: &[u32], server: usize, held: usize) -> bool
     requires { ⌜ (held ≤ serverPlaces) × HasRow serverPlaces (now keys) server ⌝ }
-    ensures { λ r. ⌜ r ≡ allBelow (λ place. keyInRange clients (versionWord (now (keys .entry)) server place)) held ⌝ }
+    ensures { λ r. ⌜ r ≡ allBelow (λ place. keyCounted (versionWord (now (keys .entry)) server place)) held ⌝ }
 {
+    let mut counted = true;
     let mut place = 0;
     while place < held {
-        if !scalars::key_in_range(clients, versions::key_word(keys, server, place)) {
-            return false;
+        if !scalars::key_counted(versions::key_word(keys, server, place)) {
+            counted = false;
         }
         place += 1;
     }
-    true
+    counted
+}
+
+// Whether they have 16 bits, and are of clients up to the last.
+fn keys_owned(keys: &[u32], server: usize, held: usize, last: u32) -> bool
+    requires { ⌜ (held ≤ serverPlaces) × HasRow serverPlaces (now keys) server ⌝ }
+    ensures { λ r. ⌜ r ≡ allBelow (λ place. keyOwned last (versionWord (now (keys .entry)) server place)) held ⌝ }
+{
+    let mut owned = true;
+    let mut place = 0;
+    while place < held {
+        if !scalars::key_owned(last, versions::key_word(keys, server, place)) {
+            owned = false;
+        }
+        place += 1;
+    }
+    owned
+}
+
+fn keys_in_range(keys: &[u32], server: usize, held: usize, clients: u32) -> bool
+    requires { ⌜ (held ≤ serverPlaces) × HasRow serverPlaces (now keys) server ⌝ }
+    requires { ⌜ (0 < clients) × (clients ≤ 16) ⌝ }
+    ensures { λ r. ⌜ r ≡ allBelow (λ place. keyInRange clients (versionWord (now (keys .entry)) server place)) held ⌝ }
+{
+    if !keys_counted(keys, server, held) {
+        return false;
+    }
+    keys_owned(keys, server, held, clients - 1)
 }
 
 // Their badges. All are looked at, so that the compiler tests several at once.

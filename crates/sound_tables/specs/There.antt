@@ -1,11 +1,14 @@
 -- The first two conditions of `sound` give all that the other parts of the check ask before they read.
 use Prim.Native.Nat.{ℕ, _≤_, _<_}
 use mathlib.Core.Path.{_≡_}
-use mathlib.Core.Bool.{true, false}
+use mathlib.Core.Bool.{true, false, cond}
+use native.Mathlib.Omega.{arith}
+use lib.Dec.{eqb}
+use Rattle.ranges.specs.Tests.{by-test}
 use lib.ListN.{length}
 use borrow.Author.Tests.{lt-leb}
 use Rattle.tables.specs.Layout.{countWords}
-use Rattle.tables.specs.Tables.{Tables, serversOf, clientsOf}
+use Rattle.tables.specs.Tables.{Tables, methodOf, serversOf, clientsOf}
 use Rattle.soundness.specs.Sound.{longEnough, scalarsSound}
 use Rattle.soundness.specs.Facts.{long-facts, scalars-facts}
 use Rattle.soundness.specs.Asked.{Counted, TablesThere}
@@ -15,10 +18,22 @@ pub short-counts : (k p : ℕ) (t : Tables) → length (t .counts) < countWords 
 unfolding longEnough
 short-counts k p t h = rw (lt-leb _ _ h)
 
+-- by method 1 there are two clients at least, and else one
+some-client : (method : ℕ) {p : ℕ} → cond (eqb method 1) 2 1 ≤ p → 0 < p
+some-client method {p} = by-test (eqb method 1) (λ e h. let two : 2 ≤ p = rw e at h in omega arith) (λ e h. let one : 1 ≤ p = rw e at h in omega arith)
+
 pub counted : (t : Tables) → countWords ≤ length (t .counts) → scalarsSound t ≡ true → Counted (t .counts)
 counted t h e =
     let f = scalars-facts t e in
-    record { long = h; servers = f .press .servers .most; clients = f .press .clients .most; entries = f .entries .most; writes = f .writes; reads = f .reads }
+    record {
+      long = h;
+      servers = f .press .servers .most;
+      clients = f .press .clients .most;
+      client = some-client (methodOf t) (f .press .clients .least);
+      entries = f .entries .most;
+      writes = f .writes;
+      reads = f .reads;
+    }
 
 pub tables-there : (t : Tables) → longEnough (serversOf t) (clientsOf t) t ≡ true → scalarsSound t ≡ true →
     TablesThere (t .counts) (t .clients) (t .links) (t .keys) (t .values) (t .log) (t .writes) (t .reads)

@@ -4,6 +4,7 @@ pub mod Sound
 pub mod Facts
 pub mod Balance
 pub mod Parts
+pub mod KeyParts
 pub mod Asked
 pub mod Loops
 pub mod Room

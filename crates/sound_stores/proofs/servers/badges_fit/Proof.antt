@@ -1,12 +1,11 @@
 -- `sound_stores::servers::badges_fit` meets its contract: what the loop has so far is whether the badges before `place` fit.
-use mathlib.Core.Path.{_≡_, sym, _∙_}
+use mathlib.Core.Path.{_≡_, sym}
 use mathlib.Core.Logic.{⊎-elim}
 use Prim.Native.Nat.{ℕ, _-_, _≤_}
 use mathlib.Core.Bool.{Bool}
 use native.Mathlib.Omega.{arith}
 use Rattle.ranges.specs.All.{allBelow}
-use Rattle.ranges.specs.AllLaws.{all-none, all-past, all-not}
-use Rattle.ranges.specs.Tests.{fails, holds}
+use Rattle.ranges.specs.AllLaws.{all-none, noted-fails, noted-passes}
 use Rattle.tables.specs.Layout.{versionBadge}
 use Rattle.soundness.specs.Sound.{badgeFits}
 use borrow.Author.Needs.{needs}
@@ -33,8 +32,8 @@ loop-again c =
     let told = rw (at-version-badge .version-badge .ensures) at (at-badge-fits .badge-fits .ensures) in (
       search needs,
       ⊎-elim
-          (λ w. w .1 ∙ sym (all-not p _ place (omega arith) (fails told (w .0 .taken))))
-          (λ w. w .1 ∙ at-loop .loop .inv .1 ∙ sym (all-past p place (holds told (w .0 .left))))
+          (λ w. noted-fails p place told (w .0 .taken) (w .1))
+          (λ w. noted-passes p place (at-loop .loop .inv .1) told (w .0 .left) (w .1))
           (c .if1 .came),
     )
 
