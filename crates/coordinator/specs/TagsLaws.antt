@@ -9,10 +9,10 @@ use lib.Dec.{eqb}
 use lib.ListN.{set, length, getD, length-set}
 use lib.Seq.{set-set, set-comm, getD-set-same, getD-set-other}
 use borrow.Author.Tests.{eqb-true, eq-eqb, ne-eqb, not-false}
-use Rattle.ranges.specs.Tests.{by-equal, by-test, both, both-left, both-right, not-both}
+use Rattle.ranges.specs.Tests.{either, by-equal, by-test, both, both-left, both-right, not-both}
 use Rattle.ranges.specs.Last.{lastBelow}
 use Rattle.ranges.specs.LastLaws.{last-here, last-before, last-below, last-behind}
-use Rattle.ranges.specs.Turns.{turns}
+use Rattle.ranges.specs.Turns.{turns, turns-keep}
 use Rattle.ranges.specs.PickedLaws.{is-picked}
 use Rattle.keys.specs.Masks.{hasServer}
 use Rattle.keys.specs.Bits.{without, and-bit, without-bit, no-bit}
@@ -98,6 +98,11 @@ module _ (v : ℕ → ℕ) (p : ℕ → Bool) where
 pub laid-again : (p : ℕ → Bool) (v w : ℕ → ℕ) (k : ℕ) (row : List ℕ) → laidTags p w k (laidTags p v k row) ≡ laidTags p w k row
 laid-again p v w k row =
     laid-both w v w p p p k row (λ i. sym (or-self (p i))) (λ i e. refl) (λ i n e. absurd (not-both e n))
+
+pub laid-length : (p : ℕ → Bool) (v : ℕ → ℕ) (k : ℕ) (row : List ℕ) → length (laidTags p v k row) ≡ length row
+laid-length p v k row =
+    let Long : List ℕ → Type 0 = λ xs. length xs ≡ length row in
+    turns-keep _ Long (λ i xs e. either Long (p i) (length-set xs i (v i) ∙ e) e) k row refl
 
 -- the tag of a wanted server, in a row of 16 that they were laid into
 pub laid-there : (p : ℕ → Bool) (v : ℕ → ℕ) (k i : ℕ) (row : List ℕ) {row′ : List ℕ} → row′ ≡ laidTags p v k row → 16 ≤ length row →
