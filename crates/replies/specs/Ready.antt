@@ -12,9 +12,8 @@ use Rattle.rules.specs.declared.Delivered.{Delivered}
 use Rattle.rules.specs.Common.{counted, idle, writing, entering, askingKeys, askingSetpoints, pending, coordinator, endedRecord, taggedRecord}
 use Rattle.rules.specs.Choice.{qualifies, chosenTag, chosenSetpoint, chosenBadge}
 use Rattle.rules.specs.Reply.{shownTags, readShown, receivedIn, putReceived, tagFrom, concludedRow, chosenTags}
-use Rattle.choice.specs.Ready.{ChoiceReady}
+use Rattle.choice.specs.Ready.{ChoiceReady, Choosable}
 use Rattle.rules.specs.Filled.{Fillable}
-use Rattle.ranges.specs.LastLaws.{last-below, last-passes}
 use mathlib.Core.Bool.{Bool, true, false}
 
 -- what `settle` leaves
@@ -71,17 +70,14 @@ FinishedByC clients keys values log reads q mask k place step d clients′ reads
     let row = concludedRow setpoint badge tag q mask k clients in
     Finished row reads q mask place tag (chosenTags log mask k tag) step d clients′ reads′
 
--- the tag chosen is below the entries received, and it qualifies
-module _ (clients keys log : List ℕ) (q mask k : ℕ) (some : 0 < receivedIn clients q coordinator) where
-  pub tag-below : tagFrom clients keys log q mask k < receivedIn clients q coordinator
-  tag-below = last-below (qualifies keys log mask (receivedIn clients q) k) (receivedIn clients q coordinator) some
+-- what C's choice relies on, and the tag that it finds; n is what was read of the row
+module _ (clients keys log : List ℕ) (q mask k : ℕ) {n : ℕ} (e : n ≡ receivedIn clients q coordinator) where
+  pub choosable : {reads : List ℕ} {place : ℕ} → Concludable clients keys log reads q mask k place → Choosable clients keys log q mask k n
+  choosable c =
+      record { some = rw e (c .some); few = rw e (c .entries); logged = rw e (c .logged); opening = c .opening }
 
-  pub tag-qualifies : qualifies keys log mask (receivedIn clients q) k 0 ≡ true → qualifies keys log mask (receivedIn clients q) k (tagFrom clients keys log q mask k) ≡ true
-  tag-qualifies e = last-passes (qualifies keys log mask (receivedIn clients q) k) (receivedIn clients q coordinator) 0 some e
-
-  -- the tag as the code finds it: n is what was read of the row
-  pub tag-is : {n tag : ℕ} → n ≡ receivedIn clients q coordinator → tag ≡ chosenTag keys log mask (receivedIn clients q) k n → tag ≡ tagFrom clients keys log q mask k
-  tag-is e d = d ∙ rw e
+  pub tag-is : {tag : ℕ} → tag ≡ chosenTag keys log mask (receivedIn clients q) k n → tag ≡ tagFrom clients keys log q mask k
+  tag-is d = d ∙ rw e
 
 -- a reply to C: where it is the last, the choice is ready
 pub record AllReady (counts clients links keys values log reads : List ℕ) (q i number : ℕ) : Type 0 where

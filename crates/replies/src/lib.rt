@@ -209,19 +209,10 @@ fn finish_by_c(
         client mask servers place step r (now (clients .exit)) (now (reads .exit)) ⌝ }
 {
     let entries = clients::client_word(clients, client, clients::RECEIVED + links::COORDINATOR);
-    let tag = choice::chosen_tag(
-        &*clients,
-        keys,
-        log,
-        client,
-        mask,
-        servers,
-        entries as usize,
-    ) as u32;
     let mut setpoints = [0u32; 16];
     let mut tags = [0u32; 16];
     let mut badges = [0u32; 16];
-    choice::conclude(
+    let tag = choice::conclude(
         clients,
         keys,
         values,
@@ -229,7 +220,7 @@ fn finish_by_c(
         client,
         mask,
         servers,
-        tag,
+        entries as usize,
         &mut tags,
     );
     words::show_words(&*clients, client, clients::SETPOINTS, mask, &mut setpoints);
