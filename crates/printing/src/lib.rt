@@ -6,6 +6,7 @@ ghost use Rattle.schedule.specs.Decimal.{decimal, spacedAll};
 ghost use Rattle.printing.specs.Texts.{marked, spaced, serverText, maskedText, serversBelow, wordText, answerText};
 ghost use Rattle.printing.specs.Texts.{endText, writeText, readText, rowText};
 ghost use Rattle.printing.specs.Printed.{Printed};
+ghost use Rattle.printing.specs.Digits.{lastDigits};
 ghost use Rattle.printing.specs.Sizes.{markedMost, serverMost, shownMost, wordMost, answerMost};
 ghost use Rattle.printing.specs.Sizes.{rowMost, recordMost};
 ghost use Rattle.printing.specs.StepTexts.{stepLine, refusalText, stepMost, refusalMost};
@@ -28,16 +29,75 @@ fn put_byte(byte: u8, out: &mut [u8], at: usize) -> usize
     at + 1
 }
 
-// A number in decimal: the digits before the last one are printed first.
-pub fn print_decimal(number: u64, out: &mut [u8], at: usize) -> usize
-    requires { ⌜ at + length (decimal number) ≤ length (now out) ⌝ }
+// Two digits.
+fn put_two(number: u64, out: &mut [u8], at: usize) -> usize
+    requires { ⌜ (number < 100) × (at + 2 ≤ length (now out)) ⌝ }
+    ensures { λ r. ⌜ Printed (now (out .entry)) at (lastDigits 2 number) r (now (out .exit)) ⌝ }
+{
+    let next = put_byte(48 + (number / 10) as u8, out, at);
+    put_byte(48 + (number % 10) as u8, out, next)
+}
+
+// Four digits, with zeros in front.
+fn put_four(number: u64, out: &mut [u8], at: usize) -> usize
+    requires { ⌜ (number < 10000) × (at + 4 ≤ length (now out)) ⌝ }
+    ensures { λ r. ⌜ Printed (now (out .entry)) at (lastDigits 4 number) r (now (out .exit)) ⌝ }
+{
+    let next = put_two(number / 100, out, at);
+    put_two(number % 100, out, next)
+}
+
+// A number of at most four digits.
+fn print_short(number: u64, out: &mut [u8], at: usize) -> usize
+    requires { ⌜ (number < 10000) × (at + length (decimal number) ≤ length (now out)) ⌝ }
     ensures { λ r. ⌜ Printed (now (out .entry)) at (decimal number) r (now (out .exit)) ⌝ }
 {
     if number < 10 {
         return put_byte(48 + number as u8, out, at);
     }
-    let next = print_decimal(number / 10, out, at);
-    put_byte(48 + (number % 10) as u8, out, next)
+    if number < 100 {
+        return put_two(number, out, at);
+    }
+    if number < 1000 {
+        let next = put_byte(48 + (number / 100) as u8, out, at);
+        return put_two(number % 100, out, next);
+    }
+    put_four(number, out, at)
+}
+
+// A number of any length: the digits before the last four are printed first.
+fn print_long(number: u64, out: &mut [u8], at: usize) -> usize
+    requires { ⌜ at + length (decimal number) ≤ length (now out) ⌝ }
+    ensures { λ r. ⌜ Printed (now (out .entry)) at (decimal number) r (now (out .exit)) ⌝ }
+{
+    if number < 10000 {
+        return print_short(number, out, at);
+    }
+    let next = print_long(number / 10000, out, at);
+    put_four(number % 10000, out, next)
+}
+
+// A number of at most eight digits, with no call of itself: most numbers are such, and so take one call.
+fn print_middle(number: u64, out: &mut [u8], at: usize) -> usize
+    requires { ⌜ (number < 100000000) × (at + length (decimal number) ≤ length (now out)) ⌝ }
+    ensures { λ r. ⌜ Printed (now (out .entry)) at (decimal number) r (now (out .exit)) ⌝ }
+{
+    if number < 10000 {
+        return print_short(number, out, at);
+    }
+    let next = print_short(number / 10000, out, at);
+    put_four(number % 10000, out, next)
+}
+
+// A number in decimal.
+pub fn print_decimal(number: u64, out: &mut [u8], at: usize) -> usize
+    requires { ⌜ at + length (decimal number) ≤ length (now out) ⌝ }
+    ensures { λ r. ⌜ Printed (now (out .entry)) at (decimal number) r (now (out .exit)) ⌝ }
+{
+    if number < 100000000 {
+        return print_middle(number, out, at);
+    }
+    print_long(number, out, at)
 }
 
 // Some bytes.
