@@ -376,15 +376,18 @@ fn play_named(
     )
 }
 
-// The answer of a line, in print.
+// The answer of a line, in print. Only where servers are shown are their rows looked at.
 fn print_shown(number: u64, shown: Shown, out: &mut [u8], at: usize) -> usize
     requires { ⌜ at + answerMost ≤ length (now out) ⌝ }
     ensures { λ r. ⌜ Printed (now (out .entry)) at (shownText number shown) r (now (out .exit)) × (r ≤ at + answerMost) ⌝ }
 {
+    let word = shown.word;
+    if !printing::shows_servers(word) {
+        return printing::print_plain_answer(number, word, out, at);
+    }
     let setpoints = shown.setpoints;
     let tags = shown.tags;
     let badges = shown.badges;
-    let word = shown.word;
     printing::print_answer(
         number,
         word,
