@@ -2,9 +2,9 @@
 use mathlib.Core.Path.{_∙_}
 use borrow.Author.Needs.{needs}
 use Rattle.ranges.specs.Tests.{fails, holds}
 use Rattle.recordings.specs.LinkLaws.{compared-refused, compared-refused-other, compared-both, is-paired}
-use Rattle.recordings.proofs.compare.Statement.{statement}
-use Rattle.recordings.proofs.compare.Tie as tie
+use Rattle.comparing.proofs.compare.Statement.{statement}
+use Rattle.comparing.proofs.compare.Tie as tie
 
 returns : tie.Need-returns
 returns c =

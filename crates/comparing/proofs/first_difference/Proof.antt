@@ -1,11 +1,11 @@
--- `recordings::first_difference` meets its contract: the links before this one have no difference, so that those from it on decide.
+-- `comparing::first_difference` meets its contract: the links before this one have no difference, so that those from it on decide.
 use Prim.Native.Nat.{_-_}
 use borrow.Author.Needs.{needs}
 use Rattle.recordings.specs.Recording.{framesOf}
 use Rattle.recordings.specs.Comparing.{links}
 use Rattle.recordings.specs.LinkLaws.{Linked, linked-start, linked-end, linked-differs, linked-on}
-use Rattle.recordings.proofs.first_difference.Statement.{statement}
-use Rattle.recordings.proofs.first_difference.Tie as tie
+use Rattle.comparing.proofs.first_difference.Statement.{statement}
+use Rattle.comparing.proofs.first_difference.Tie as tie
 
 abbrev Inv-loop : tie.InvT-loop
 Inv-loop lengths bytes lengths2 bytes2 link₀ link = Linked (framesOf lengths bytes) (framesOf lengths2 bytes2) link

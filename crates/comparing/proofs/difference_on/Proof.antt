@@ -1,11 +1,11 @@
--- `recordings::difference_on` meets its contract: the frames of the link before the two cursors are the same, as many in each.
+-- `comparing::difference_on` meets its contract: the frames of the link before the two cursors are the same, as many in each.
 use Prim.Native.Nat.{_-_}
 use native.Mathlib.Omega.{arith}
 use lib.ListN.{length}
 use Rattle.ranges.specs.Tests.{fails, holds}
 use Rattle.recordings.specs.Following.{Level, level-start, level-end, level-missing, level-missing-other, level-differs, level-next}
-use Rattle.recordings.proofs.difference_on.Statement.{statement}
-use Rattle.recordings.proofs.difference_on.Tie as tie
+use Rattle.comparing.proofs.difference_on.Statement.{statement}
+use Rattle.comparing.proofs.difference_on.Tie as tie
 
 abbrev Inv-loop : tie.InvT-loop
 Inv-loop lengths bytes lengths2 bytes2 client target i₀ at₀ i2₀ at2₀ place₀ i at i2 at2 place =
