@@ -1,9 +1,9 @@
--- `workload_run::pick_one` meets its contract: the pick that was played, and then listed.
+-- `load_run::pick_one` meets its contract: the pick that was played, and then listed.
 use Rattle.workload_run.specs.Cases.{picked-one}
 use Rattle.tables.specs.Tables.{tablesOf}
 use borrow.Author.Needs.{needs}
-use Rattle.workload_run.proofs.pick_one.Statement.{statement}
-use Rattle.workload_run.proofs.pick_one.Tie as tie
+use Rattle.load_run.proofs.pick_one.Statement.{statement}
+use Rattle.load_run.proofs.pick_one.Tie as tie
 
 returns : tie.Need-returns
 returns c =

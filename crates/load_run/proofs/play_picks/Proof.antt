@@ -1,13 +1,13 @@
--- `workload_run::play_picks` meets its contract: the load is on its way from where it began (`Going`), and lengths stay.
+-- `load_run::play_picks` meets its contract: the load is on its way from where it began (`Going`), and lengths stay.
 use borrow.Author.Needs.{needs}
 use Rattle.workload_run.specs.RunLaws.{SameLengths, Going, going-begun, going-on, left-less}
 use Rattle.workload_run.specs.Run.{Running, running, begun, ended}
 use Rattle.tables.specs.Tables.{tablesOf}
 use native.Mathlib.Omega.{arith}
 use mathlib.Core.Path.{refl, _∙_, ap}
 use Prim.Native.Nat.{_<_}
-use Rattle.workload_run.proofs.play_picks.Statement.{statement}
-use Rattle.workload_run.proofs.play_picks.Tie as tie
+use Rattle.load_run.proofs.play_picks.Statement.{statement}
+use Rattle.load_run.proofs.play_picks.Tie as tie
 
 abbrev Inv-loop : tie.InvT-loop
 Inv-loop counts₀ clients₀ links₀ keys₀ values₀ log₀ writes₀ reads₀ seed wanted list₀ progress₀ left₀ counts clients links keys values log

@@ -1,10 +1,10 @@
--- `workload_run::take_step` meets its contract: each case of a pick leaves the tables that `afterPick` says.
+-- `load_run::take_step` meets its contract: each case of a pick leaves the tables that `afterPick` says.
 use Rattle.workload_run.specs.Cases.{taken-by}
 use Rattle.tables.specs.Tables.{tablesOf}
 use mathlib.Core.Path.{refl}
 use borrow.Author.Needs.{needs}
-use Rattle.workload_run.proofs.take_step.Statement.{statement}
-use Rattle.workload_run.proofs.take_step.Tie as tie
+use Rattle.load_run.proofs.take_step.Statement.{statement}
+use Rattle.load_run.proofs.take_step.Tie as tie
 
 returns : tie.Need-returns
 returns c =

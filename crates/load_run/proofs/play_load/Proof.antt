@@ -1,12 +1,12 @@
--- `workload_run::play_load` meets its contract: numbers 2 and 12, or the picks on tables that were found sound.
+-- `load_run::play_load` meets its contract: numbers 2 and 12, or the picks on tables that were found sound.
 use Rattle.workload_run.specs.RunLaws.{load-unsound, load-short, load-played}
 use Rattle.soundness.specs.Facts.{sound-facts}
 use Rattle.tables.specs.Tables.{tablesOf}
 use borrow.Author.Tests.{not-false}
 use mathlib.Core.Path.{sym, _∙_}
 use borrow.Author.Needs.{needs}
-use Rattle.workload_run.proofs.play_load.Statement.{statement}
-use Rattle.workload_run.proofs.play_load.Tie as tie
+use Rattle.load_run.proofs.play_load.Statement.{statement}
+use Rattle.load_run.proofs.play_load.Tie as tie
 
 returns : tie.Need-returns
 returns c =

@@ -1,10 +1,10 @@
--- `workload::pick` meets its contract: what the scan found is picked from; the index is below their count.
+-- `load_pick::pick` meets its contract: what the scan found is picked from; the index is below their count.
 use Rattle.workload.specs.Cases.{pick-none, pick-some}
 use Rattle.workload.specs.Accepts.{seen, accepts}
 use native.Mathlib.Omega.{arith}
 use borrow.Author.Needs.{needs}
-use Rattle.workload.proofs.pick.Statement.{statement}
-use Rattle.workload.proofs.pick.Tie as tie
+use Rattle.load_pick.proofs.pick.Statement.{statement}
+use Rattle.load_pick.proofs.pick.Tie as tie
 
 returns : tie.Need-returns
 returns c =
@@ -12,8 +12,8 @@ returns c =
     let t = seen (a .counts .now) (a .clients .now) (a .links .now) (a .keys .now) (a .log .now) in
     pick-none (accepts t) t (a .seed) (c .before .before .list-accepted .ensures) (c .if1 .taken)
 
-array-read-numbered : tie.Need-array-read-numbered
-array-read-numbered c =
+array-read-given : tie.Need-array-read-given
+array-read-given c =
     omega (
       arith,
       c .index-by .ensures .1,
@@ -27,7 +27,7 @@ returns-2 c =
     let t = seen (a .counts .now) (a .clients .now) (a .links .now) (a .keys .now) (a .log .now) in
     pick-some (accepts t) t (a .seed) (c .before .before .before .before .before .list-accepted .ensures)
     (c .before .before .before .if1 .left) (c .before .before .advance .ensures) (c .before .index-by .ensures .0)
-    (c .numbered .ensures (a .links .now) (a .keys .now) (a .log .now))
+    (c .given .ensures (a .links .now) (a .keys .now) (a .log .now))
 
 pub pick-spec : {M : Type 1} → statement M
 pick-spec =
@@ -41,6 +41,6 @@ pick-spec =
     (λ c κs. search needs)
     (λ c. search needs)
     (λ c. search needs)
-    array-read-numbered
+    array-read-given
     (λ c κs. search needs)
     returns-2)

@@ -1,15 +1,15 @@
--- `workload::list_accepted` meets its contract: the numbers passed that were accepted stand at the front of the row.
+-- `load_pick::list_accepted` meets its contract: the numbers passed that were accepted stand at the front of the row.
 use borrow.Author.Needs.{needs}
 use Rattle.workload.specs.PassingLaws.{Found, found-none, found-more}
 use Rattle.workload.specs.Accepts.{seen, accepts}
 use Rattle.workload.specs.Load.{numberedCount}
 use Rattle.tables.specs.Layout.{countAt, clientsField}
 use lib.ListN.{length}
 use native.Mathlib.Omega.{arith}
 use mathlib.Core.Path.{_≡_, refl, _∙_}
 use Prim.Native.Nat.{_-_, _≤_, _<_}
-use Rattle.workload.proofs.list_accepted.Statement.{statement}
-use Rattle.workload.proofs.list_accepted.Tie as tie
+use Rattle.load_pick.proofs.list_accepted.Statement.{statement}
+use Rattle.load_pick.proofs.list_accepted.Tie as tie
 
 abbrev Inv-loop : tie.InvT-loop
 Inv-loop counts clients links keys log numbers₀ total count₀ number₀ numbers count number =

@@ -1,10 +1,10 @@
--- `workload::note` meets its contract: a number that passes goes behind those noted, and any other changes nothing.
+-- `load_pick::note` meets its contract: a number that passes goes behind those noted, and any other changes nothing.
 use Rattle.workload.specs.PassingLaws.{note-here, note-none}
 use borrow.Author.Needs.{needs}
-use Rattle.workload.proofs.note.Statement.{statement}
-use Rattle.workload.proofs.note.Tie as tie
-use Rattle.workload.proofs.note.Reads as reads
-use Rattle.workload.proofs.note.Lts as lts
+use Rattle.load_pick.proofs.note.Statement.{statement}
+use Rattle.load_pick.proofs.note.Tie as tie
+use Rattle.load_pick.proofs.note.Reads as reads
+use Rattle.load_pick.proofs.note.Lts as lts
 
 returns : tie.Need-returns
 returns c = let a = c .before .args in note-here (a .numbers .now) (a .count) (a .number) (c .if1 .taken) (c .before .pre)

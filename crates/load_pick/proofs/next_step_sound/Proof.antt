@@ -1,8 +1,8 @@
--- `workload::next_step_sound` meets its contract: sound tables can be scanned, and a pick among what is found is the load's.
+-- `load_pick::next_step_sound` meets its contract: sound tables can be scanned, and a pick among what is found is the load's.
 use Rattle.workload.specs.ReadyLaws.{scanned, picked-next}
 use Rattle.tables.specs.Tables.{tablesOf}
-use Rattle.workload.proofs.next_step_sound.Statement.{statement}
-use Rattle.workload.proofs.next_step_sound.Tie as tie
+use Rattle.load_pick.proofs.next_step_sound.Statement.{statement}
+use Rattle.load_pick.proofs.next_step_sound.Tie as tie
 
 pick-requires : tie.Need-pick-requires
 pick-requires c κs =

@@ -1,14 +1,14 @@
--- `workload_run::play_given` meets its contract: the setpoint stands for each server, and the step is played as a line.
+-- `load_run::play_given` meets its contract: the setpoint stands for each server, and the step is played as a line.
 use lib.Seq.{length-take-le}
 use lib.ListN.{replicate}
 use mathlib.Core.Path.{sym}
 use Rattle.workload_run.specs.Cases.{given-played}
 use Rattle.soundness.specs.Room.{few-servers}
 use Rattle.tables.specs.Tables.{tablesOf}
 use native.Mathlib.Omega.{arith}
 use borrow.Author.Needs.{needs}
-use Rattle.workload_run.proofs.play_given.Statement.{statement}
-use Rattle.workload_run.proofs.play_given.Tie as tie
+use Rattle.load_run.proofs.play_given.Statement.{statement}
+use Rattle.load_run.proofs.play_given.Tie as tie
 
 slice-aggregate-play-step : tie.Need-slice-aggregate-play-step
 slice-aggregate-play-step c =

@@ -1,12 +1,12 @@
--- `workload::next_step` meets its contract: number 2, or the step picked on tables that were found sound.
+-- `load_pick::next_step` meets its contract: number 2, or the step picked on tables that were found sound.
 use Rattle.workload.specs.ReadyLaws.{unsound-next}
 use Rattle.soundness.specs.Facts.{sound-facts}
 use Rattle.tables.specs.Tables.{tablesOf}
 use borrow.Author.Tests.{not-false}
 use mathlib.Core.Path.{sym, _∙_}
 use borrow.Author.Needs.{needs}
-use Rattle.workload.proofs.next_step.Statement.{statement}
-use Rattle.workload.proofs.next_step.Tie as tie
+use Rattle.load_pick.proofs.next_step.Statement.{statement}
+use Rattle.load_pick.proofs.next_step.Tie as tie
 
 returns : tie.Need-returns
 returns c =
