@@ -14,6 +14,7 @@ use Rattle.rules.specs.Choice.{qualifies, chosenTag, chosenSetpoint, chosenBadg
 use Rattle.rules.specs.Reply.{shownTags, readShown, receivedIn, putReceived, tagFrom, concludedRow, chosenTags}
 use Rattle.choice.specs.Ready.{ChoiceReady, Choosable}
 use Rattle.rules.specs.Filled.{Fillable}
+use Rattle.rules.specs.Waiting.{KindsFit}
 use mathlib.Core.Bool.{Bool, true, false}
 
 -- what `settle` leaves
@@ -84,6 +85,7 @@ pub record AllReady (counts clients links keys values log reads : List ℕ) (q i
   pub row : HasRow clientWidth clients q
   pub target : i < targets
   pub linked : HasLinks links q
+  pub kinds : KindsFit links q
   pub last : pending (putLink links q i Nothing) q ≡ false →
       (ChoiceReady (putReceived clients q i number) keys values q (countAt counts serversField)
       × Concludable (putReceived clients q i number) keys log reads q (clientWord clients q maskField) (countAt counts serversField) (clientWord clients q recordField))
@@ -108,4 +110,5 @@ pub record ReplyReady (counts clients links keys values log writes reads : List 
   pub fillable : Fillable counts links q i
   pub row : HasRow clientWidth clients q
   pub linked : HasLinks links q
+  pub kinds : KindsFit links q
   pub brings : (w : Contents) → linkAt links q i .content ≡ Reply w → Brings counts clients links keys values log writes reads q i (w .number)

@@ -15,6 +15,7 @@ ghost use Rattle.rules.specs.Reply.{onSetDone, onEntered, onKeys, onGot, onAll}
 ghost use Rattle.replies.specs.Ready.{Settled, CountFits, GotReady, KeysReady, rowShown, Concludable, FinishedByC, AllReady};
 ghost use Rattle.choice.specs.Ready.{ChoiceReady};
 ghost use Rattle.rules.specs.Filled.{Fillable};
+ghost use Rattle.rules.specs.Waiting.{KindsFit};
 use keys::Key;
 use rules::Arrival;
 use rules::Delivered;
@@ -64,14 +65,14 @@ pub fn set_done(
 ) -> Arrival
     requires { ⌜ Fillable (now counts) (now links) client target ⌝ }
     requires { ⌜ CountFits (now clients) client ⌝ }
-    requires { ⌜ HasLinks (now links) client ⌝ }
+    requires { ⌜ HasLinks (now links) client × KindsFit (now links) client ⌝ }
     ensures { λ r. ⌜ ((keys values log writes reads : List ℕ) →
         arrived (nothingShown r) (tablesOf (now (counts .exit)) (now (clients .exit)) (now (links .exit)) keys values log writes reads)
         ≡ onSetDone client target
         (tablesOf (now (counts .entry)) (now (clients .entry)) (now (links .entry)) keys values log writes reads)) ⌝ }
 {
     settle(counts, links, client, target);
-    if rules::is_pending(&*links, client) {
+    if rules::is_waiting(&*links, client) {
         return Arrival::Wait;
     }
     send_entry(clients, links, client);
@@ -163,7 +164,7 @@ pub fn got(
     contents: Contents,
 ) -> bool
     requires { ⌜ Fillable (now counts) (now links) client target ⌝ }
-    requires { ⌜ (HasLinks (now links) client) × (target < 16) ⌝ }
+    requires { ⌜ (HasLinks (now links) client) × KindsFit (now links) client × (target < 16) ⌝ }
     requires { ⌜ GotReady (now clients) (now reads) client ⌝ }
     ensures { λ r. ⌜ ((keys values log writes : List ℕ) →
         arrived (cond r (nothingShown Wait)
@@ -183,7 +184,7 @@ pub fn got(
         contents.number,
     );
     clients::put_client_word(clients, client, clients::BADGES + target, contents.badge);
-    if rules::is_pending(&*links, client) {
+    if rules::is_waiting(&*links, client) {
         return true;
     }
     finish(clients, reads, client, place, tag, step);
@@ -258,7 +259,7 @@ pub fn all_told(
     let place = clients::client_word(clients, client, clients::RECORD);
     let step = settle(counts, links, client, target);
     clients::put_client_word(clients, client, clients::RECEIVED + target, contents.number);
-    if rules::is_pending(&*links, client) {
+    if rules::is_waiting(&*links, client) {
         return rules::showing_nothing(Arrival::Wait);
     }
     finish_by_c(

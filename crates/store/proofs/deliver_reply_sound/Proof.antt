@@ -78,7 +78,8 @@ set-done-requires c κs =
     let t = lent (first s) in
     let h = free (none s) in
     let b = brings t (a .client) (a .target) h (link s .link-at .ensures) (s .before .before .before .content .given .1) in
-    (h .ready .fillable, (b .done (sym (s .client-word .ensures) ∙ c .before .before .before .if2 .taken), h .ready .linked))
+    let done = b .done (sym (s .client-word .ensures) ∙ c .before .before .before .if2 .taken) in
+    (h .ready .fillable, (done, (h .ready .linked, h .ready .kinds)))
 
 returns-3 : tie.Need-returns-3
 returns-3 c =
@@ -156,7 +157,7 @@ got-requires c κs =
     let h = free (none s) in
     let b = brings t (a .client) (a .target) h (link s .link-at .ensures) (s .before .before .before .content .given .1) in
     let g = b .got (sym (s .client-word .ensures) ∙ at-if5 .if5 .taken) in
-    (h .ready .fillable, ((h .ready .linked, g .0), g .1))
+    (h .ready .fillable, ((h .ready .linked, h .ready .kinds, g .0), g .1))
 
 returns-6 : tie.Need-returns-6
 returns-6 c =
