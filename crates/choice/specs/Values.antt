@@ -4,7 +4,7 @@ use mathlib.Core.Path.{_≡_, ap, _∙_}
 use mathlib.Core.Bool.{true, false}
 use mathlib.Core.List.{List}
 use native.Mathlib.Omega.{arith}
-use lib.ListN.{length, getD, set, length-set}
+use lib.ListN.{length, getD, set, length-set, replicate}
 use lib.Seq.{getD-set-same, getD-set-other}
 use Rattle.ranges.specs.Tests.{by-equal, not-both}
 use Rattle.ranges.specs.All.{allBelow}
@@ -18,11 +18,11 @@ pub record HasWords (mask k : ℕ) (word : ℕ → ℕ) (row : List ℕ) : Type 
   pub long : length row ≡ 16
   pub there : (i : ℕ) → i < k → hasServer mask i ≡ true → getD row i 0 ≡ word i
 
--- the rows that are lent for the values at a tag, each of 16 words
+-- the rows of 16 words that are lent for the values at a tag; the one for the tags has zeros
 pub record Rows (setpoints badges tags : List ℕ) : Type 0 where
   pub setpoint : length setpoints ≡ 16
   pub badge : length badges ≡ 16
-  pub tag : length tags ≡ 16
+  pub tag : tags ≡ replicate 16 0
 
 -- a loop that puts the word of one server after another: it has passed n of them
 module _ (mask : ℕ) (word : ℕ → ℕ) {row : List ℕ} where

@@ -2,7 +2,7 @@
 ghost use mathlib.Core.Path.{_≡_};
 ghost use Prim.Native.Nat.{ℕ, _+_, _*_, _≤_, _<_};
 ghost use lib.Dec.{eqb};
-ghost use lib.ListN.{length};
+ghost use lib.ListN.{length, replicate};
 ghost use Rattle.tables.specs.Rows.{HasRow};
 ghost use mathlib.Core.Bool.{true, cond};
 ghost use Rattle.ranges.specs.Picked.{picked};
@@ -292,7 +292,7 @@ fn greatest_tag(
 }
 
 // The rows get the setpoints and the badges of the masked servers at a tag, and the tags that they come from, if all of them were received.
-// The answer is whether they were: the first server that lacks its key ends the search. What `tags` has for the other servers stays.
+// The answer is whether they were: the first server that lacks its key ends the search. The row of tags is lent with zeros.
 fn values_at(
     clients: &[u32],
     keys: &[u32],
@@ -336,8 +336,21 @@ fn values_at(
     true
 }
 
+// A row of 16 gets zeros.
+fn clear_tags(tags: &mut [u32; 16])
+    requires { ⌜ length (now tags) ≡ 16 ⌝ }
+    ensures { λ _. ⌜ now (tags .exit) ≡ replicate 16 0 ⌝ }
+{
+    let mut server = 0;
+    while server < 16 {
+        tags[server] = 0;
+        server += 1;
+    }
+}
+
 // The greatest tag among the first entries of the log that qualifies, with the values at it. It does not stop at the first tag whose key is
 // missing. The newest is tried first: it qualifies unless a WRITE came between the replies, and then log and versions are searched once.
+// Where it does not, the greatest that does is found, and its values are taken: the second turn is the last.
 fn choose(
     clients: &[u32],
     keys: &[u32],
@@ -361,25 +374,8 @@ fn choose(
     ensures rows { λ r. ⌜ Taken (now (keys .entry)) (now (values .entry)) (now (log .entry)) mask (receivedIn (now (clients .entry)) client)
         r servers (now (setpoints .exit)) (now (badges .exit)) ⌝ }
 {
-    let newest = entries - 1;
-    if values_at(
-        clients,
-        keys,
-        values,
-        log,
-        client,
-        mask,
-        servers,
-        newest,
-        setpoints,
-        badges,
-        tags,
-    ) {
-        return newest;
-    }
-    let wanted = keys::first_servers(mask, servers);
-    let tag = greatest_tag(clients, keys, log, client, wanted, servers, entries);
-    values_at(
+    let mut tag = entries - 1;
+    while !values_at(
         clients,
         keys,
         values,
@@ -391,7 +387,11 @@ fn choose(
         setpoints,
         badges,
         tags,
-    );
+    ) {
+        clear_tags(tags);
+        let wanted = keys::first_servers(mask, servers);
+        tag = greatest_tag(clients, keys, log, client, wanted, servers, entries);
+    }
     tag
 }
 
@@ -425,7 +425,7 @@ pub fn conclude(
     tags: &mut [u32; 16],
 ) -> u32
     requires { ⌜ ChoiceReady (now clients) (now keys) (now values) client servers ⌝ }
-    requires { ⌜ (HasRow clientWidth (now clients) client) × (length (now tags) ≡ 16) ⌝ }
+    requires { ⌜ (HasRow clientWidth (now clients) client) × (now tags ≡ replicate 16 0) ⌝ }
     requires { ⌜ Choosable (now clients) (now keys) (now log) client mask servers entries ⌝ }
     ensures { λ r. ⌜ r
         ≡ chosenTag (now (keys .entry)) (now (log .entry)) mask (receivedIn (now (clients .entry)) client) servers entries ⌝ }

@@ -6,13 +6,13 @@ use mathlib.Core.List.{List}
 use native.Mathlib.Omega.{arith}
 use lib.Bits.{bitAnd}
 use lib.Dec.{eqb}
-use lib.ListN.{set, length, getD, length-set}
-use lib.Seq.{set-set, set-comm, getD-set-same, getD-set-other}
+use lib.ListN.{set, length, getD, length-set, replicate, getD-replicate}
+use lib.Seq.{set-set, set-comm, set-getD, getD-set-same, getD-set-other}
 use borrow.Author.Tests.{eqb-true, eq-eqb, ne-eqb, not-false}
 use Rattle.ranges.specs.Tests.{either, by-equal, by-test, both, both-left, both-right, not-both}
 use Rattle.ranges.specs.Last.{lastBelow}
 use Rattle.ranges.specs.LastLaws.{last-here, last-before, last-below, last-behind}
-use Rattle.ranges.specs.Turns.{turns, turns-keep}
+use Rattle.ranges.specs.Turns.{turns, turns-keep-below}
 use Rattle.ranges.specs.PickedLaws.{is-picked}
 use Rattle.keys.specs.Masks.{hasServer}
 use Rattle.keys.specs.Bits.{without, and-bit, without-bit, no-bit}
@@ -44,8 +44,8 @@ module _ (log : List ℕ) (left t : ℕ) where
         let n : t - 1 + 1 ≡ t = omega arith in
         rw n (sym (last-before (wroteAny log left) t (rw (← m, eq-eqb _ _ e))))
 
--- Tags laid twice: the servers of both, and where a server is of both it has the tag that came second.
-module _ (u v w : ℕ → ℕ) (first second all : ℕ → Bool) where
+-- Tags laid twice: the servers of both. Where a server is of both, the tag that came second is the same.
+module _ (v w : ℕ → ℕ) (first second all : ℕ → Bool) where
   put-turn : (b : Bool) (i j x y : ℕ) (xs : List ℕ) {ys : List ℕ} → (j ≡ i → ⊥) → ys ≡ set xs j x →
       cond b (set ys i y) ys ≡ set (cond b (set xs i y) xs) j x
   put-turn true i j x y xs d e = rw e (set-comm xs j i x y d)
@@ -63,46 +63,50 @@ module _ (u v w : ℕ → ℕ) (first second all : ℕ → Bool) where
   one-turn true k x xs e = laid-put k k x xs (omega arith) ∙ rw e
   one-turn false k x xs e = e
 
-  both-turn : (a b c : Bool) (i : ℕ) (z : List ℕ) {ys : List ℕ} → c ≡ (a || b) → (b ≡ true → w i ≡ u i) →
-      (b ≡ false → a ≡ true → v i ≡ u i) → ys ≡ cond a (set z i (v i)) z → cond b (set ys i (w i)) ys ≡ cond c (set z i (u i)) z
-  both-turn true true c i z d f g e = rw (e, d, f refl) (set-set z i (v i) (u i))
-  both-turn true false c i z d f g e = rw (e, d, g refl refl)
-  both-turn false true c i z d f g e = rw (e, d, f refl)
-  both-turn false false c i z d f g e = rw (e, d)
+  both-turn : (a b c : Bool) (i : ℕ) (z : List ℕ) {ys : List ℕ} → c ≡ (a || b) → (b ≡ true → w i ≡ v i) →
+      ys ≡ cond a (set z i (v i)) z → cond b (set ys i (w i)) ys ≡ cond c (set z i (v i)) z
+  both-turn true true c i z d f e = rw (e, d, f refl) (set-set z i (v i) (v i))
+  both-turn true false c i z d f e = rw (e, d)
+  both-turn false true c i z d f e = rw (e, d, f refl)
+  both-turn false false c i z d f e = rw (e, d)
 
-  laid-both : (k : ℕ) (row : List ℕ) → ((i : ℕ) → all i ≡ (first i || second i)) → ((i : ℕ) → second i ≡ true → w i ≡ u i) →
-      ((i : ℕ) → second i ≡ false → first i ≡ true → v i ≡ u i) → laidTags second w k (laidTags first v k row) ≡ laidTags all u k row
+  laid-both : (k : ℕ) (row : List ℕ) → ((i : ℕ) → all i ≡ (first i || second i)) → ((i : ℕ) → second i ≡ true → w i ≡ v i) →
+      laidTags second w k (laidTags first v k row) ≡ laidTags all v k row
   unfolding turns
-  laid-both zero row d f g = refl
-  laid-both (suc k) row d f g =
-      both-turn (first k) (second k) (all k) k (laidTags all u k row) (d k) (f k) (g k)
-      (one-turn (first k) k (v k) (laidTags first v k row) (laid-both k row d f g))
+  laid-both zero row d f = refl
+  laid-both (suc k) row d f =
+      both-turn (first k) (second k) (all k) k (laidTags all v k row) (d k) (f k)
+      (one-turn (first k) k (v k) (laidTags first v k row) (laid-both k row d f))
 
-or-self : (b : Bool) → (b || b) ≡ b
-or-self true = refl
-or-self false = refl
+-- tags laid for nobody
+laid-nobody : (v : ℕ → ℕ) (p : ℕ → Bool) (k : ℕ) (row : List ℕ) → ((i : ℕ) → p i ≡ false) → row ≡ laidTags p v k row
+unfolding turns
+laid-nobody v p zero row e = refl
+laid-nobody v p (suc k) row e = rw (e k) (laid-nobody v p k row e)
 
--- the same servers wanted, or none
-module _ (v : ℕ → ℕ) (p : ℕ → Bool) where
-  laid-alike : (q : ℕ → Bool) (k : ℕ) (row : List ℕ) → ((i : ℕ) → p i ≡ q i) → laidTags p v k row ≡ laidTags q v k row
+-- a server may be spared whose tag stands there already
+module _ (v : ℕ → ℕ) (p q : ℕ → Bool) (row : List ℕ) where
+  laid-ahead : (k j : ℕ) → k ≤ j → getD (laidTags p v k row) j 0 ≡ getD row j 0
+  laid-ahead k j h =
+      let Stays : List ℕ → Type 0 = λ xs. getD xs j 0 ≡ getD row j 0 in
+      turns-keep-below _ Stays k
+      (λ i l xs e. either Stays (p i) (getD-set-other xs i j (v i) 0 (λ d. omega arith) ∙ e) e)
+      row refl
+
+  spared-turn : (a b : Bool) (i : ℕ) (z : List ℕ) {ys : List ℕ} → ys ≡ z → (a ≡ true → b ≡ true) →
+      (b ≡ true → a ≡ false → v i ≡ getD ys i 0) → cond a (set ys i (v i)) ys ≡ cond b (set z i (v i)) z
+  spared-turn true true i z e f g = rw e
+  spared-turn true false i z e f g = absurd (not-both (f refl) refl)
+  spared-turn false true i z {ys} e f g = rw (g refl refl, ← e) (sym (set-getD ys i 0))
+  spared-turn false false i z e f g = e
+
+  laid-spared : (k : ℕ) → ((i : ℕ) → p i ≡ true → q i ≡ true) → ((i : ℕ) → i < k → q i ≡ true → p i ≡ false → v i ≡ getD row i 0) →
+      laidTags p v k row ≡ laidTags q v k row
   unfolding turns
-  laid-alike q zero row e = refl
-  laid-alike q (suc k) row e = rw (e k, laid-alike q k row e)
-
-  laid-nobody : (k : ℕ) (row : List ℕ) → ((i : ℕ) → p i ≡ false) → row ≡ laidTags p v k row
-  unfolding turns
-  laid-nobody zero row e = refl
-  laid-nobody (suc k) row e = rw (e k) (laid-nobody k row e)
-
--- tags laid again are the only ones that count
-pub laid-again : (p : ℕ → Bool) (v w : ℕ → ℕ) (k : ℕ) (row : List ℕ) → laidTags p w k (laidTags p v k row) ≡ laidTags p w k row
-laid-again p v w k row =
-    laid-both w v w p p p k row (λ i. sym (or-self (p i))) (λ i e. refl) (λ i n e. absurd (not-both e n))
-
-pub laid-length : (p : ℕ → Bool) (v : ℕ → ℕ) (k : ℕ) (row : List ℕ) → length (laidTags p v k row) ≡ length row
-laid-length p v k row =
-    let Long : List ℕ → Type 0 = λ xs. length xs ≡ length row in
-    turns-keep _ Long (λ i xs e. either Long (p i) (length-set xs i (v i) ∙ e) e) k row refl
+  laid-spared zero f g = refl
+  laid-spared (suc k) f g =
+      spared-turn (p k) (q k) k (laidTags q v k row) (laid-spared k f (λ i l. g i (omega arith))) (f k)
+      (λ b n. g k (omega arith) b n ∙ sym (laid-ahead k k (omega arith)))
 
 -- the tag of a wanted server, in a row of 16 that they were laid into
 pub laid-there : (p : ℕ → Bool) (v : ℕ → ℕ) (k i : ℕ) (row : List ℕ) {row′ : List ℕ} → row′ ≡ laidTags p v k row → 16 ≤ length row →
@@ -130,10 +134,6 @@ none-found : (w : Bool) → (w && not w) ≡ false
 none-found true = refl
 none-found false = refl
 
-all-found : (w : Bool) → (w && not false) ≡ w
-all-found true = refl
-all-found false = refl
-
 more-found : (w l m : Bool) → (l ≡ true → w ≡ true) → (w && not (l && not (m && l))) ≡ ((w && not l) || (m && l))
 more-found true true true h = refl
 more-found true true false h = refl
@@ -143,11 +143,9 @@ more-found false true m h = absurd (not-both (h refl) refl)
 more-found false false true h = refl
 more-found false false false h = refl
 
-last-found : (w l : Bool) → (l ≡ true → w ≡ true) → w ≡ ((w && not l) || l)
-last-found true true h = refl
-last-found true false h = refl
-last-found false true h = absurd (not-both (h refl) refl)
-last-found false false h = refl
+not-found : (w l : Bool) → w ≡ true → (w && not l) ≡ false → l ≡ true
+not-found w true e n = refl
+not-found w false e n = absurd (not-both (both w true e refl) n)
 
 module _ (log : List ℕ) (tag wanted k : ℕ) (row : List ℕ) where
   pub walk-begins : Walked log tag wanted k row wanted tag row
@@ -196,27 +194,27 @@ module _ (log : List ℕ) (tag wanted k : ℕ) (row : List ℕ) where
             (λ c. c) in
             latest-before log i at m refl some not-here ∙ w .same i still;
         laid = e ∙ rw (w .laid)
-            (laid-both (latestTagAt log tag) (latestTagAt log tag) (λ i. at)
+            (laid-both (latestTagAt log tag) (λ i. at)
             (found wanted left) (hasServer (bitAnd mask left)) (found wanted left′) k row
             (λ i. rw (left-bit i, and-bit mask left i) (more-found (hasServer wanted i) (hasServer left i) (hasServer mask i) (w .among i)))
             (λ i b.
             let here = rw (and-bit mask left i) at b in
-            latest-here log i at m refl (both-left _ _ here) ∙ w .same i (both-right (hasServer mask i) _ here))
-            (λ i n b. refl));
+            latest-here log i at m refl (both-left _ _ here) ∙ w .same i (both-right (hasServer mask i) _ here)));
       }
 
-    -- where none is left all wanted have their tags; at tag 0 those left get that
+    -- where none is left all wanted have their tags; at tag 0 those left have it too, in a row of zeros
     pub walk-done : left ≡ 0 → row′ ≡ laidTags (hasServer wanted) (latestTagAt log tag) k row
     walk-done z =
         w .laid
-        ∙ laid-alike (latestTagAt log tag) (found wanted left) (hasServer wanted) k row
-        (λ i. rw (z, no-bit i) (all-found (hasServer wanted i)))
+        ∙ laid-spared (latestTagAt log tag) (found wanted left) (hasServer wanted) row k
+        (λ i b. both-left _ _ b)
+        (λ i l b n. absurd (not-both (not-found (hasServer wanted i) (hasServer left i) b n) (rw z (no-bit i))))
 
-    pub walk-ends : {row″ : List ℕ} → at ≡ 0 → row″ ≡ laidTags (hasServer left) (λ i. 0) k row′ →
-        row″ ≡ laidTags (hasServer wanted) (latestTagAt log tag) k row
-    walk-ends z e =
-        e ∙ rw (w .laid)
-        (laid-both (latestTagAt log tag) (latestTagAt log tag) (λ i. 0) (found wanted left) (hasServer left) (hasServer wanted) k row
-        (λ i. last-found (hasServer wanted i) (hasServer left i) (w .among i))
-        (λ i b. latest-first log i at z ∙ w .same i b)
-        (λ i n b. refl))
+    pub walk-ends : at ≡ 0 → k ≤ 16 → row ≡ replicate 16 0 → row′ ≡ laidTags (hasServer wanted) (latestTagAt log tag) k row
+    walk-ends z few zeros =
+        w .laid
+        ∙ laid-spared (latestTagAt log tag) (found wanted left) (hasServer wanted) row k
+        (λ i b. both-left _ _ b)
+        (λ i l b n.
+        let still = not-found (hasServer wanted i) (hasServer left i) b n in
+        sym (w .same i still) ∙ sym (latest-first log i at z) ∙ rw zeros (sym (getD-replicate 16 i 0 0 (omega arith))))

@@ -1,7 +1,7 @@
 // The head's part: the log, and the key of a station at a tag. The head is the coordinator here, a station a server.
 ghost use mathlib.Core.Path.{_≡_};
 ghost use Prim.Native.Nat.{_+_, _*_, _≤_, _<_};
-ghost use lib.ListN.{length};
+ghost use lib.ListN.{length, replicate};
 ghost use Rattle.ranges.specs.All.{anyBelow};
 ghost use Rattle.ranges.specs.First.{firstBelow};
 ghost use Rattle.ranges.specs.FirstLaws.{Sought};
@@ -143,11 +143,11 @@ fn put_tag(tags: &mut [u32; 16], servers: usize, mask: u32, tag: u32)
     }
 }
 
-// For each wanted server, of the first so many, the tag of the latest entry, at a tag or before it, that has it, into a row of 16: what the
-// search back finds for each, by one walk down the log, from one entry that has any of the servers left to the next. What the row has for
-// the other servers stays.
+// For each wanted server, of the first so many, the tag of the latest entry, at a tag or before it, that has it, into a row of 16 zeros:
+// what the search back finds for each, by one walk down the log, from one entry that has any of the servers left to the next. Those left
+// at tag 0 have it already.
 pub fn latest_tags(log: &[u32], servers: usize, tag: usize, wanted: u32, tags: &mut [u32; 16])
-    requires { ⌜ (servers ≤ 16) × HasEntry (now log) tag ⌝ }
+    requires { ⌜ (servers ≤ 16) × (HasEntry (now log) tag × (now tags ≡ replicate 16 0)) ⌝ }
     ensures { λ _. ⌜ now (tags .exit) ≡ laidTags (hasServer wanted) (latestTagAt (now (log .entry)) tag) servers (now (tags .entry)) ⌝ }
 {
     let mut left = wanted;
@@ -155,7 +155,7 @@ pub fn latest_tags(log: &[u32], servers: usize, tag: usize, wanted: u32, tags: &
     while left != 0 {
         at = latest_of_any(log, at, left);
         if at == 0 {
-            return put_tag(tags, servers, left, 0);
+            return;
         }
         let found = log::entry_mask(log, at) & left;
         put_tag(tags, servers, found, at as u32);

@@ -1,7 +1,7 @@
 -- `begins::send_gets` meets its contract: the walk found the tags, and the loop has asked the masked servers it has passed, each for
 -- the key at its tag, and kept tags and keys.
 use Prim.Native.Nat.{ℕ, _≤_, _-_}
-use mathlib.Core.Path.{_≡_, _∙_}
+use mathlib.Core.Path.{_≡_, refl, _∙_}
 use mathlib.Core.List.{List}
 use native.Mathlib.Omega.{arith}
 use lib.ListN.{length}
@@ -42,6 +42,9 @@ Inv-loop clients₀ links₀ log client mask tag servers tags server₀ clients 
 
 abbrev μ-loop : tie.MeasureT-loop
 μ-loop clients₀ links₀ log client mask tag servers tags server₀ clients links server = servers - server
+
+latest-tags-requires : tie.Need-latest-tags-requires Inv-loop μ-loop
+latest-tags-requires c κs = let p = c .before .before .before .before .pre .1 in (p .0, (p .1, refl))
 
 loop-holds : tie.Need-loop-holds Inv-loop μ-loop
 loop-holds c =
@@ -107,6 +110,6 @@ returns c =
 pub send-gets-spec : {M : Type 1} → statement M
 send-gets-spec =
     tie.close
-    (tie.spec Inv-loop μ-loop (λ c κs. search needs) loop-holds (λ c. search needs) (λ c. search needs) send-get-requires
+    (tie.spec Inv-loop μ-loop latest-tags-requires loop-holds (λ c. search needs) (λ c. search needs) send-get-requires
     (λ c. search needs) (λ c. search needs) loop-again (λ c. search needs) (λ c. search needs)
     returns)

@@ -20,7 +20,7 @@ cast-tag c =
     let a = start .args in
     let o = start .pre .1 .1 in
     let received = receivedIn (a .clients .now) (a .client) in
-    let l = chosen-below (a .keys .now) (a .log .now) (a .mask) received (a .servers) (a .entries) (o .some) in
+    let l = chosen-below (a .keys .now) (a .log .now) (a .mask) received (a .servers) (a .entries) (o .some) (o .opening) in
     omega (arith, c .choose .ensures .0, l, o .few)
 
 forget-received-requires : tie.Need-forget-received-requires

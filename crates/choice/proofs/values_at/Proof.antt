@@ -25,6 +25,10 @@ Inv-loop clients keys values log client mask servers tag setpoints₀ badges₀ 
 abbrev μ-loop : tie.MeasureT-loop
 μ-loop clients keys values log client mask servers tag setpoints₀ badges₀ tags server₀ setpoints badges server = servers - server
 
+latest-tags-requires : tie.Need-latest-tags-requires Inv-loop μ-loop
+latest-tags-requires c κs =
+    let p = c .before .before .before .before .before .pre in (p .0 .servers, (p .1 .0, p .1 .1 .tag))
+
 loop-holds : tie.Need-loop-holds Inv-loop μ-loop
 loop-holds c =
     let start = c .before .before .before .before .before .before in
@@ -54,7 +58,7 @@ cast-entry-key c =
     let n = at-loop .loop .server in
     let found =
     laid-there (hasServer (a .mask)) (latestTagAt (a .log .now) (a .tag)) (a .servers) n _ (at-latest-tags .latest-tags .ensures)
-    (omega (arith, start .pre .1 .1 .tag)) (start .pre .0 .servers) (at-test .loop-test .taken)
+    (rw (start .pre .1 .1 .tag) (omega arith)) (start .pre .0 .servers) (at-test .loop-test .taken)
     (sym (at-has-server .has-server .ensures) ∙ c .before .before .if1 .taken) in
     omega (arith, found, latest-within (a .log .now) n (a .tag), start .pre .1 .0 .place)
 
@@ -69,7 +73,7 @@ entry-key-requires c κs =
     let n = at-loop .loop .server in
     let found =
     laid-there (hasServer (a .mask)) (latestTagAt (a .log .now) (a .tag)) (a .servers) n _ (at-latest-tags .latest-tags .ensures)
-    (omega (arith, start .pre .1 .1 .tag)) (start .pre .0 .servers) (at-test .loop-test .taken)
+    (rw (start .pre .1 .1 .tag) (omega arith)) (start .pre .0 .servers) (at-test .loop-test .taken)
     (sym (at-has-server .has-server .ensures) ∙ c .before .before .if1 .taken) in
     omega (arith, found, latest-within (a .log .now) n (a .tag), start .pre .1 .0 .there)
 
@@ -98,12 +102,12 @@ returns c =
     let has = at-has-server .has-server .ensures in
     let found =
     laid-there (hasServer (a .mask)) (latestTagAt (a .log .now) (a .tag)) (a .servers) n _ (at-latest-tags .latest-tags .ensures)
-    (omega (arith, start .pre .1 .1 .tag)) (start .pre .0 .servers) (at-test .loop-test .taken) (sym has ∙ at-if1 .if1 .taken) in
+    (rw (start .pre .1 .1 .tag) (omega arith)) (start .pre .0 .servers) (at-test .loop-test .taken) (sym has ∙ at-if1 .if1 .taken) in
     let key = at-entry-key .entry-key .ensures ∙ ap (entryKey (a .log .now)) found in
     let v = at-loop .loop .inv .1 in (
       sym (all-not (serves (a .keys .now) (a .log .now) (a .mask) received (a .tag)) (a .servers) n (at-test .loop-test .taken)
           (lacks (a .keys .now) (a .log .now) (a .mask) received (a .tag) n has (at-if1 .if1 .taken)
-          (at-client-word .client-word .ensures) key (at-find .find .ensures) (c .if2 .taken))),
+          (at-client-word .client-word .ensures) key (at-find .find .ensures) (omega (arith, c .if2 .taken)))),
       (
         at-latest-tags .latest-tags .ensures,
         taken-none (a .keys .now) (a .values .now) (a .log .now) (a .mask) received (a .tag) (v .setpoint .long) (v .badge .long),
@@ -150,7 +154,7 @@ loop-again c =
     (λ w.
     let found =
     laid-there (hasServer (a .mask)) (latestTagAt (a .log .now) (a .tag)) (a .servers) n _ (at-latest-tags .latest-tags .ensures)
-    (omega (arith, start .pre .1 .1 .tag)) (start .pre .0 .servers) (at-test .loop-test .taken) (sym has ∙ w .0 .taken) in
+    (rw (start .pre .1 .1 .tag) (omega arith)) (start .pre .0 .servers) (at-test .loop-test .taken) (sym has ∙ w .0 .taken) in
     let key = w .3 .ensures ∙ ap (entryKey (a .log .now)) found in (
       search needs,
       taken-more (a .keys .now) (a .values .now) (a .log .now) (a .mask) received (a .tag) few v
@@ -177,7 +181,7 @@ returns-2 c =
 pub values-at-spec : {M : Type 1} → statement M
 values-at-spec =
     tie.close
-    (tie.spec Inv-loop μ-loop (λ c κs. search needs) loop-holds (λ c κs. search needs) (λ c. search needs) client-word-requires
+    (tie.spec Inv-loop μ-loop latest-tags-requires loop-holds (λ c κs. search needs) (λ c. search needs) client-word-requires
     (λ c. search needs) (λ c. search needs) (λ c. search needs) cast-entry-key entry-key-requires find-requires returns
     version-setpoint-requires (λ c. search needs) (λ c. search needs) version-badge-requires (λ c. search needs) (λ c. search needs)
     (λ c. search needs) (λ c. search needs) loop-again returns-2)

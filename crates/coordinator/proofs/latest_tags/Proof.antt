@@ -21,18 +21,20 @@ latest-of-any-requires : tie.Need-latest-of-any-requires Inv-loop μ-loop
 latest-of-any-requires c κs =
     let start = c .before .before .before in
     let w = c .before .loop .inv .within in
-    let p = start .pre .1 in
+    let p = start .pre .1 .0 in
     record { place = omega (arith, p .place); there = omega (arith, p .there) }
 
 returns : tie.Need-returns Inv-loop μ-loop
 returns c =
-    let at-latest-of-any = c .before .before .before in
+    let at-latest-of-any = c .before in
     let at-loop = at-latest-of-any .before .before in
-    let a = at-loop .before .before .args in
+    let start = at-loop .before .before in
+    let a = start .args in
     let come =
     walk-passes (a .log .now) (a .tag) (a .wanted) (a .servers) (a .tags .now) (at-loop .loop .inv)
     (at-latest-of-any .latest-of-any .ensures) in
-    walk-ends (a .log .now) (a .tag) (a .wanted) (a .servers) (a .tags .now) come (c .before .before .if1 .taken) (c .put-tag .ensures)
+    walk-ends (a .log .now) (a .tag) (a .wanted) (a .servers) (a .tags .now) come (c .if1 .taken)
+    (start .pre .0) (start .pre .1 .1)
 
 -- the entry come to is there
 entry-mask-requires : tie.Need-entry-mask-requires Inv-loop μ-loop
@@ -42,7 +44,7 @@ entry-mask-requires c κs =
     let start = at-loop .before .before in
     let a = start .args in
     let h = any-within (a .log .now) (at-loop .loop .left) (at-loop .loop .at) in
-    omega (arith, at-latest-of-any .latest-of-any .ensures, at-loop .loop .inv .within, start .pre .1 .there)
+    omega (arith, at-latest-of-any .latest-of-any .ensures, at-loop .loop .inv .within, start .pre .1 .0 .there)
 
 cast-put-tag : tie.Need-cast-put-tag Inv-loop μ-loop
 cast-put-tag c =
@@ -51,7 +53,7 @@ cast-put-tag c =
     let start = at-loop .before .before in
     let a = start .args in
     let h = any-within (a .log .now) (at-loop .loop .left) (at-loop .loop .at) in
-    omega (arith, at-latest-of-any .latest-of-any .ensures, at-loop .loop .inv .within, start .pre .1 .place)
+    omega (arith, at-latest-of-any .latest-of-any .ensures, at-loop .loop .inv .within, start .pre .1 .0 .place)
 
 loop-less : tie.Need-loop-less Inv-loop μ-loop
 loop-less c =
@@ -64,8 +66,8 @@ loop-less c =
 
 loop-again : tie.Need-loop-again Inv-loop μ-loop
 loop-again c =
-    let at-put-tag2 = c .before in
-    let at-entry-mask = at-put-tag2 .before .before in
+    let at-put-tag = c .before in
+    let at-entry-mask = at-put-tag .before .before in
     let at-if1 = at-entry-mask .before in
     let at-latest-of-any = at-if1 .before in
     let at-loop = at-latest-of-any .before .before in
@@ -74,7 +76,7 @@ loop-again c =
     walk-passes (a .log .now) (a .tag) (a .wanted) (a .servers) (a .tags .now) (at-loop .loop .inv)
     (at-latest-of-any .latest-of-any .ensures) in
     walk-finds (a .log .now) (a .tag) (a .wanted) (a .servers) (a .tags .now) come
-    (at-if1 .if1 .left) (at-entry-mask .entry-mask .ensures) (c .without .ensures) (at-put-tag2 .put-tag2 .ensures)
+    (at-if1 .if1 .left) (at-entry-mask .entry-mask .ensures) (c .without .ensures) (at-put-tag .put-tag .ensures)
 
 returns-2 : tie.Need-returns-2 Inv-loop μ-loop
 returns-2 c =
@@ -85,5 +87,5 @@ returns-2 c =
 pub latest-tags-spec : {M : Type 1} → statement M
 latest-tags-spec =
     tie.close
-    (tie.spec Inv-loop μ-loop loop-holds latest-of-any-requires (λ c κs. search needs) returns entry-mask-requires cast-put-tag
+    (tie.spec Inv-loop μ-loop loop-holds latest-of-any-requires returns entry-mask-requires cast-put-tag
     (λ c κs. search needs) (λ c κs. search needs) (λ c. search needs) loop-less loop-again returns-2)
