@@ -13,13 +13,14 @@ use Rattle.ranges.specs.Tests.{either, by-equal, by-test, both, both-left, both
 use Rattle.ranges.specs.Last.{lastBelow}
 use Rattle.ranges.specs.LastLaws.{last-here, last-before, last-below, last-behind}
 use Rattle.ranges.specs.Turns.{turns, turns-keep-below}
-use Rattle.ranges.specs.PickedLaws.{is-picked}
+use Rattle.ranges.specs.Picked.{laidOver}
+use Rattle.ranges.specs.PickedLaws.{layWord, is-picked}
 use Rattle.keys.specs.Masks.{hasServer}
 use Rattle.keys.specs.Bits.{without, and-bit, without-bit, no-bit}
 use Rattle.tables.specs.Layout.{entryMask}
 use Rattle.coordinator.specs.Latest.{wrote, latestTag, latestTagAt}
 use Rattle.coordinator.specs.LatestLaws.{latest-first, latest-here, latest-before}
-use Rattle.coordinator.specs.Tags.{wroteAny, latestOfAny, layTag, laidTags}
+use Rattle.coordinator.specs.Tags.{wroteAny, latestOfAny}
 
 -- numbers that fail are passed over
 last-past : (p : ℕ → Bool) (m n : ℕ) → m ≤ n → ((u : ℕ) → m ≤ u → u < n → p u ≡ false) → lastBelow p n ≡ lastBelow p m
@@ -52,14 +53,14 @@ module _ (v w : ℕ → ℕ) (first second all : ℕ → Bool) where
   put-turn false i j x y xs d e = e
 
   -- a place behind those that are laid may be set before or after
-  laid-put : (k j x : ℕ) (row : List ℕ) → k ≤ j → laidTags second w k (set row j x) ≡ set (laidTags second w k row) j x
+  laid-put : (k j x : ℕ) (row : List ℕ) → k ≤ j → laidOver second w k (set row j x) ≡ set (laidOver second w k row) j x
   unfolding turns
   laid-put zero j x row h = refl
   laid-put (suc k) j x row h =
-      put-turn (second k) k j x (w k) (laidTags second w k row) (λ e. omega arith) (laid-put k j x row (omega arith))
+      put-turn (second k) k j x (w k) (laidOver second w k row) (λ e. omega arith) (laid-put k j x row (omega arith))
 
-  one-turn : (a : Bool) (k x : ℕ) (xs : List ℕ) {z : List ℕ} → laidTags second w k xs ≡ z →
-      laidTags second w k (cond a (set xs k x) xs) ≡ cond a (set z k x) z
+  one-turn : (a : Bool) (k x : ℕ) (xs : List ℕ) {z : List ℕ} → laidOver second w k xs ≡ z →
+      laidOver second w k (cond a (set xs k x) xs) ≡ cond a (set z k x) z
   one-turn true k x xs e = laid-put k k x xs (omega arith) ∙ rw e
   one-turn false k x xs e = e
 
@@ -71,22 +72,22 @@ module _ (v w : ℕ → ℕ) (first second all : ℕ → Bool) where
   both-turn false false c i z d f e = rw (e, d)
 
   laid-both : (k : ℕ) (row : List ℕ) → ((i : ℕ) → all i ≡ (first i || second i)) → ((i : ℕ) → second i ≡ true → w i ≡ v i) →
-      laidTags second w k (laidTags first v k row) ≡ laidTags all v k row
+      laidOver second w k (laidOver first v k row) ≡ laidOver all v k row
   unfolding turns
   laid-both zero row d f = refl
   laid-both (suc k) row d f =
-      both-turn (first k) (second k) (all k) k (laidTags all v k row) (d k) (f k)
-      (one-turn (first k) k (v k) (laidTags first v k row) (laid-both k row d f))
+      both-turn (first k) (second k) (all k) k (laidOver all v k row) (d k) (f k)
+      (one-turn (first k) k (v k) (laidOver first v k row) (laid-both k row d f))
 
 -- tags laid for nobody
-laid-nobody : (v : ℕ → ℕ) (p : ℕ → Bool) (k : ℕ) (row : List ℕ) → ((i : ℕ) → p i ≡ false) → row ≡ laidTags p v k row
+laid-nobody : (v : ℕ → ℕ) (p : ℕ → Bool) (k : ℕ) (row : List ℕ) → ((i : ℕ) → p i ≡ false) → row ≡ laidOver p v k row
 unfolding turns
 laid-nobody v p zero row e = refl
 laid-nobody v p (suc k) row e = rw (e k) (laid-nobody v p k row e)
 
 -- a server may be spared whose tag stands there already
 module _ (v : ℕ → ℕ) (p q : ℕ → Bool) (row : List ℕ) where
-  laid-ahead : (k j : ℕ) → k ≤ j → getD (laidTags p v k row) j 0 ≡ getD row j 0
+  laid-ahead : (k j : ℕ) → k ≤ j → getD (laidOver p v k row) j 0 ≡ getD row j 0
   laid-ahead k j h =
       let Stays : List ℕ → Type 0 = λ xs. getD xs j 0 ≡ getD row j 0 in
       turns-keep-below _ Stays k
@@ -101,19 +102,19 @@ module _ (v : ℕ → ℕ) (p q : ℕ → Bool) (row : List ℕ) where
   spared-turn false false i z e f g = e
 
   laid-spared : (k : ℕ) → ((i : ℕ) → p i ≡ true → q i ≡ true) → ((i : ℕ) → i < k → q i ≡ true → p i ≡ false → v i ≡ getD row i 0) →
-      laidTags p v k row ≡ laidTags q v k row
+      laidOver p v k row ≡ laidOver q v k row
   unfolding turns
   laid-spared zero f g = refl
   laid-spared (suc k) f g =
-      spared-turn (p k) (q k) k (laidTags q v k row) (laid-spared k f (λ i l. g i (omega arith))) (f k)
+      spared-turn (p k) (q k) k (laidOver q v k row) (laid-spared k f (λ i l. g i (omega arith))) (f k)
       (λ b n. g k (omega arith) b n ∙ sym (laid-ahead k k (omega arith)))
 
 -- the tag of a wanted server, in a row of 16 that they were laid into
-pub laid-there : (p : ℕ → Bool) (v : ℕ → ℕ) (k i : ℕ) (row : List ℕ) {row′ : List ℕ} → row′ ≡ laidTags p v k row → 16 ≤ length row →
+pub laid-there : (p : ℕ → Bool) (v : ℕ → ℕ) (k i : ℕ) (row : List ℕ) {row′ : List ℕ} → row′ ≡ laidOver p v k row → 16 ≤ length row →
     k ≤ 16 → i < k → p i ≡ true → getD row′ i 0 ≡ v i
 laid-there p v k i row s long few l e =
     rw s
-    (is-picked (λ xs j. getD xs j 0) (layTag v) v (λ xs. 16 ≤ length xs) 16
+    (is-picked (λ xs j. getD xs j 0) (layWord v) v (λ xs. 16 ≤ length xs) 16
     (λ j xs r. rw (length-set xs j (v j)) r)
     (λ j xs m r. getD-set-same xs j (v j) 0 (omega arith))
     (λ j n xs m d. getD-set-other xs j n (v j) 0 d)
@@ -127,7 +128,7 @@ pub record Walked (log : List ℕ) (tag wanted k : ℕ) (row : List ℕ) (left a
   pub within : at ≤ tag
   pub among : (i : ℕ) → hasServer left i ≡ true → hasServer wanted i ≡ true
   pub same : (i : ℕ) → hasServer left i ≡ true → latestTag log i at ≡ latestTag log i tag
-  pub laid : row′ ≡ laidTags (found wanted left) (latestTagAt log tag) k row
+  pub laid : row′ ≡ laidOver (found wanted left) (latestTagAt log tag) k row
 
 -- bits: w wanted, l left, m in the entry's mask
 none-found : (w : Bool) → (w && not w) ≡ false
@@ -182,7 +183,7 @@ module _ (log : List ℕ) (tag wanted k : ℕ) (row : List ℕ) where
       left-bit : (i : ℕ) → hasServer left′ i ≡ (hasServer left i && not (hasServer mask i && hasServer left i))
       left-bit i = rw l (without-bit left (bitAnd mask left) i ∙ rw (and-bit mask left i))
 
-      pub walk-finds : {row″ : List ℕ} → row″ ≡ laidTags (hasServer (bitAnd mask left)) (λ i. at) k row′ →
+      pub walk-finds : {row″ : List ℕ} → row″ ≡ laidOver (hasServer (bitAnd mask left)) (λ i. at) k row′ →
           Walked log tag wanted k row left′ (at - 1) row″
       walk-finds {row″} e = record {
         within = omega (arith, w .within);
@@ -203,14 +204,14 @@ module _ (log : List ℕ) (tag wanted k : ℕ) (row : List ℕ) where
       }
 
     -- where none is left all wanted have their tags; at tag 0 those left have it too, in a row of zeros
-    pub walk-done : left ≡ 0 → row′ ≡ laidTags (hasServer wanted) (latestTagAt log tag) k row
+    pub walk-done : left ≡ 0 → row′ ≡ laidOver (hasServer wanted) (latestTagAt log tag) k row
     walk-done z =
         w .laid
         ∙ laid-spared (latestTagAt log tag) (found wanted left) (hasServer wanted) row k
         (λ i b. both-left _ _ b)
         (λ i l b n. absurd (not-both (not-found (hasServer wanted i) (hasServer left i) b n) (rw z (no-bit i))))
 
-    pub walk-ends : at ≡ 0 → k ≤ 16 → row ≡ replicate 16 0 → row′ ≡ laidTags (hasServer wanted) (latestTagAt log tag) k row
+    pub walk-ends : at ≡ 0 → k ≤ 16 → row ≡ replicate 16 0 → row′ ≡ laidOver (hasServer wanted) (latestTagAt log tag) k row
     walk-ends z few zeros =
         w .laid
         ∙ laid-spared (latestTagAt log tag) (found wanted left) (hasServer wanted) row k

@@ -6,12 +6,13 @@ ghost use Rattle.ranges.specs.All.{anyBelow};
 ghost use Rattle.ranges.specs.First.{firstBelow};
 ghost use Rattle.ranges.specs.FirstLaws.{Sought};
 ghost use Rattle.ranges.specs.Laid.{laid};
+ghost use Rattle.ranges.specs.Picked.{laidOver};
 ghost use Rattle.tables.specs.Layout.{entryWidth};
 ghost use Rattle.coordinator.specs.Log.{LogRoom, HasEntry, enterLeft, entered, firstEntry};
 ghost use Rattle.coordinator.specs.LogLaws.{bearer, bearerFrom};
 ghost use Rattle.keys.specs.Masks.{hasServer};
 ghost use Rattle.coordinator.specs.Latest.{entryAt, latestOf, latestWord, latestTagAt};
-ghost use Rattle.coordinator.specs.Tags.{latestOfAny, laidTags};
+ghost use Rattle.coordinator.specs.Tags.{latestOfAny};
 use keys::Key;
 use tables::counts;
 use tables::log;
@@ -132,7 +133,7 @@ fn latest_of_any(log: &[u32], tag: usize, left: u32) -> usize
 // The servers of a mask, of the first so many, get a tag.
 fn put_tag(tags: &mut [u32; 16], servers: usize, mask: u32, tag: u32)
     requires { ⌜ servers ≤ 16 ⌝ }
-    ensures { λ _. ⌜ now (tags .exit) ≡ laidTags (hasServer mask) (λ i. tag) servers (now (tags .entry)) ⌝ }
+    ensures { λ _. ⌜ now (tags .exit) ≡ laidOver (hasServer mask) (λ i. tag) servers (now (tags .entry)) ⌝ }
 {
     let mut server = 0;
     while server < servers {
@@ -148,7 +149,7 @@ fn put_tag(tags: &mut [u32; 16], servers: usize, mask: u32, tag: u32)
 // at tag 0 have it already.
 pub fn latest_tags(log: &[u32], servers: usize, tag: usize, wanted: u32, tags: &mut [u32; 16])
     requires { ⌜ (servers ≤ 16) × (HasEntry (now log) tag × (now tags ≡ replicate 16 0)) ⌝ }
-    ensures { λ _. ⌜ now (tags .exit) ≡ laidTags (hasServer wanted) (latestTagAt (now (log .entry)) tag) servers (now (tags .entry)) ⌝ }
+    ensures { λ _. ⌜ now (tags .exit) ≡ laidOver (hasServer wanted) (latestTagAt (now (log .entry)) tag) servers (now (tags .entry)) ⌝ }
 {
     let mut left = wanted;
     let mut at = tag;

@@ -13,11 +13,11 @@ use Rattle.ranges.specs.AllLaws.{all-at}
 use Rattle.ranges.specs.Turns.{turns, turns-keep-below}
 use Rattle.ranges.specs.Laid.{laid}
 use Rattle.ranges.specs.LaidLaws as laying
-use Rattle.ranges.specs.PickedLaws.{is-picked, not-picked}
+use Rattle.ranges.specs.PickedLaws.{layWord, is-picked, not-picked}
 use Rattle.keys.specs.Masks.{hasServer}
 use Rattle.tables.specs.Rows.{HasRow, word-same, word-other}
 use Rattle.tables.specs.Layout.{clientWidth, clientWord, putClientWord}
-use Rattle.rules.specs.Words.{every, keepWord, keptWords, layWord, laidWords, shownWords}
+use Rattle.rules.specs.Words.{every, keepWord, keptWords, laidWords, shownWords}
 
 -- Words kept for some of k servers, from a field on.
 module _ (field : ℕ) (wanted : ℕ → Bool) (word : ℕ → ℕ) (q k : ℕ) (within : field + k ≤ clientWidth) where

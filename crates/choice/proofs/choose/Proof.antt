@@ -8,7 +8,7 @@ use lib.ListN.{length}
 use borrow.Author.Tests.{not-true, not-false}
 use Rattle.keys.specs.Masks.{hasServer}
 use Rattle.coordinator.specs.Latest.{latestTagAt}
-use Rattle.rules.specs.Words.{laidOver}
+use Rattle.ranges.specs.Picked.{laidOver}
 use Rattle.rules.specs.WordsLaws.{laid-length}
 use Rattle.rules.specs.Reply.{receivedIn}
 use Rattle.choice.specs.Values.{Rows}

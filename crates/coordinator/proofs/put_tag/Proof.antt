@@ -6,18 +6,18 @@ use mathlib.Core.List.{List}
 use native.Mathlib.Omega.{arith}
 use borrow.Author.Needs.{needs}
 use Rattle.ranges.specs.Turns.{turns-none, turns-more}
-use Rattle.ranges.specs.Picked.{picked}
+use Rattle.ranges.specs.Picked.{picked, laidOver}
+use Rattle.ranges.specs.PickedLaws.{layWord}
 use Rattle.keys.specs.Masks.{hasServer}
-use Rattle.coordinator.specs.Tags.{layTag, laidTags}
 use Rattle.coordinator.proofs.put_tag.Statement.{statement}
 use Rattle.coordinator.proofs.put_tag.Tie as tie
 
 -- a turn of the loop
 abbrev put : ℕ → ℕ → ℕ → List ℕ → List ℕ
-put mask tag = picked (hasServer mask) (layTag (λ i. tag))
+put mask tag = picked (hasServer mask) (layWord (λ i. tag))
 
 abbrev Inv-loop : tie.InvT-loop
-Inv-loop tags₀ servers mask tag server₀ tags server = (server ≤ servers) × (tags ≡ laidTags (hasServer mask) (λ i. tag) server tags₀)
+Inv-loop tags₀ servers mask tag server₀ tags server = (server ≤ servers) × (tags ≡ laidOver (hasServer mask) (λ i. tag) server tags₀)
 
 abbrev μ-loop : tie.MeasureT-loop
 μ-loop tags₀ servers mask tag server₀ tags server = servers - server
