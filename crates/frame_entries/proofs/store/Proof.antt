@@ -11,9 +11,9 @@ use Rattle.frame_table.specs.Entry.{behindOf, is-slim, badge-none}
 use Rattle.frame_table.specs.TableLaws.{sort-known}
 use Rattle.formats.specs.Judging.{behind-limits}
 use Rattle.formats.specs.Found.{entriesBit, keyAt, badgeAt, numberAt}
-use Rattle.frames.specs.Answers.{badges-alone, badges-stored}
-use Rattle.frames.proofs.entries.store.Statement.{statement}
-use Rattle.frames.proofs.entries.store.Tie as tie
+use Rattle.frame_entries.specs.Storable.{badges-alone, badges-stored}
+use Rattle.frame_entries.proofs.store.Statement.{statement}
+use Rattle.frame_entries.proofs.store.Tie as tie
 
 row-of-requires : tie.Need-row-of-requires
 row-of-requires c κs = ap (λ (s : Shape). s .target) (c .shape-of .ensures)

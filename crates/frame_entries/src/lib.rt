@@ -8,8 +8,8 @@ ghost use Rattle.frame_table.specs.Table.{hasBadges};
 ghost use Rattle.frame_table.specs.Entry.{behindOf};
 ghost use Rattle.formats.specs.Found.{entriesBit, keyAt, badgeAt, numberAt};
 ghost use Rattle.ranges.specs.Laid.{laid};
-ghost use Rattle.frames.specs.Frames.{enough};
-ghost use Rattle.frames.specs.Answers.{Storable};
+ghost use Rattle.formats.specs.Entries.{enough};
+ghost use Rattle.frame_entries.specs.Storable.{Storable};
 
 // Whether slices have places for the entries of a kind; badges need places only where the kind's entries have them.
 pub fn enough_places(kind: u32, entries: usize, keys: usize, badges: usize, numbers: usize) -> bool

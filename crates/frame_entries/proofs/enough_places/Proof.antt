@@ -1,9 +1,9 @@
 -- Places for keys and numbers are always needed, those for badges only where the kind's entries have them.
 use borrow.Author.Needs.{needs}
 use Rattle.ranges.specs.Tests.{fails, holds}
-use Rattle.frames.specs.Answers.{enough-keys, enough-numbers, enough-plain, enough-badges}
-use Rattle.frames.proofs.entries.enough_places.Statement.{statement}
-use Rattle.frames.proofs.entries.enough_places.Tie as tie
+use Rattle.frame_entries.specs.Storable.{enough-keys, enough-numbers, enough-plain, enough-badges}
+use Rattle.frame_entries.proofs.enough_places.Statement.{statement}
+use Rattle.frame_entries.proofs.enough_places.Tie as tie
 
 returns : tie.Need-returns
 returns c = let a = c .before .args in enough-keys (a .kind) (a .entries) (a .keys) (a .badges) (a .numbers) (c .if1 .taken)
