@@ -1,4 +1,4 @@
--- `wire::write_keys` meets its contract: the fronts of the rows have the keys of all servers at the tag, and the tags that they come from.
+-- `link_frames::write_keys` meets its contract: the fronts of the rows have all servers' keys at the tag, and the tags that they come from.
 use borrow.Author.Needs.{needs}
 use mathlib.Core.Path.{refl, sym, ap, _∙_}
 use native.Mathlib.Omega.{arith}
@@ -6,9 +6,9 @@ use lib.ListN.{length}
 use Rattle.ranges.specs.LaidLaws.{built-length, laid-front}
 use Rattle.coordinator.specs.Latest.{latestWord, latestTagAt}
 use Rattle.frames.specs.declared.Message.the-variants.{Keys}
 use Rattle.wire.specs.Cases.{wrote, last-keys}
-use Rattle.wire.proofs.write_keys.Statement.{statement}
-use Rattle.wire.proofs.write_keys.Tie as tie
+use Rattle.link_frames.proofs.write_keys.Statement.{statement}
+use Rattle.link_frames.proofs.write_keys.Tie as tie
 
 latest-entries-requires : tie.Need-latest-entries-requires
 latest-entries-requires c κs =

@@ -1,10 +1,10 @@
--- `wire::write_reply` meets its contract: one case law for each state.
+-- `link_frames::write_reply` meets its contract: one case law for each state.
 use native.Mathlib.Omega.{arith}
 use Rattle.tables.specs.Tables.{tablesOf}
 use Rattle.wire.specs.Cases.{reply-done, reply-entered, reply-keys, reply-got, reply-everything}
 use borrow.Author.Needs.{needs}
-use Rattle.wire.proofs.write_reply.Statement.{statement}
-use Rattle.wire.proofs.write_reply.Tie as tie
+use Rattle.link_frames.proofs.write_reply.Statement.{statement}
+use Rattle.link_frames.proofs.write_reply.Tie as tie
 
 returns : tie.Need-returns
 returns c clients links writes reads =

@@ -1,7 +1,7 @@
--- `wire::request_message` meets its contract: one case law for each state.
+-- `link_frames::request_message` meets its contract: one case law for each state.
 use Rattle.wire.specs.Cases.{request-set, request-enter, request-keys, request-get, request-log, request-all}
-use Rattle.wire.proofs.request_message.Statement.{statement}
-use Rattle.wire.proofs.request_message.Tie as tie
+use Rattle.link_frames.proofs.request_message.Statement.{statement}
+use Rattle.link_frames.proofs.request_message.Tie as tie
 
 cast-t8 : tie.Need-cast-t8
 cast-t8 c = record { fits = c .before .before .before .pre .set (c .before .if1 .taken) }

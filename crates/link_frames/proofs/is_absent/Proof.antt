@@ -1,12 +1,12 @@
--- `wire::is_absent` meets its contract: no such client, or no such target.
+-- `link_frames::is_absent` meets its contract: no such client, or no such target.
 use Prim.Native.Nat.{ℕ}
 use mathlib.Core.Path.{ap, _∙_}
 use Rattle.refusals.specs.Refusals.{isTargetOf}
 use Rattle.tables.specs.Tables.{tablesOf}
 use Rattle.wire.specs.Cases.{absent-client, absent-target}
 use borrow.Author.Needs.{needs}
-use Rattle.wire.proofs.is_absent.Statement.{statement}
-use Rattle.wire.proofs.is_absent.Tie as tie
+use Rattle.link_frames.proofs.is_absent.Statement.{statement}
+use Rattle.link_frames.proofs.is_absent.Tie as tie
 
 returns : tie.Need-returns
 returns c clients links keys values log writes reads = let a = c .before .before .before .args in absent-client (a .client) (a .target) (tablesOf (a .counts .now) clients links keys values log writes reads) (c .before .count-at .ensures) (c .if1 .taken)

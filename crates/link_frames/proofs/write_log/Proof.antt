@@ -1,4 +1,4 @@
--- `wire::write_log` meets its contract: the fronts of the rows have the keys and the masks of the first entries.
+-- `link_frames::write_log` meets its contract: the fronts of the rows have the keys and the masks of the first entries.
 use borrow.Author.Needs.{needs}
 use mathlib.Core.Path.{refl, sym, ap, _∙_}
 use Prim.Native.Nat.{ℕ}
@@ -7,9 +7,9 @@ use Rattle.ranges.specs.LaidLaws.{built-length, laid-front}
 use Rattle.tables.specs.Rows.{wordAt}
 use Rattle.tables.specs.Layout.{entryWidth, entryMask}
 use Rattle.frames.specs.declared.Message.the-variants.{Log}
 use Rattle.wire.specs.Cases.{wrote}
-use Rattle.wire.proofs.write_log.Statement.{statement}
-use Rattle.wire.proofs.write_log.Tie as tie
+use Rattle.link_frames.proofs.write_log.Statement.{statement}
+use Rattle.link_frames.proofs.write_log.Tie as tie
 
 slice-aggregate-write-frame : tie.Need-slice-aggregate-write-frame
 slice-aggregate-write-frame c =

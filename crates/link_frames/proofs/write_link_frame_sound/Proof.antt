@@ -1,11 +1,11 @@
--- `wire::write_link_frame_sound` meets its contract: number 3, or what the link holds, which can always be written.
+-- `link_frames::write_link_frame_sound` meets its contract: number 3, or what the link holds, which can always be written.
 use native.Mathlib.Omega.{arith}
 use Rattle.tables.specs.Tables.{tablesOf}
 use Rattle.wire.specs.Always.{Words}
 use Rattle.wire.specs.Answers.{frame-absent, is-present, frame-written, link-ready}
 use borrow.Author.Needs.{needs}
-use Rattle.wire.proofs.write_link_frame_sound.Statement.{statement}
-use Rattle.wire.proofs.write_link_frame_sound.Tie as tie
+use Rattle.link_frames.proofs.write_link_frame_sound.Statement.{statement}
+use Rattle.link_frames.proofs.write_link_frame_sound.Tie as tie
 
 returns : tie.Need-returns
 returns c = let a = c .before .before .before .before .before .before .before .before .before .before .before .args in frame-absent (a .client) (a .target) (tablesOf (a .counts .now) (a .clients .now) (a .links .now) (a .keys .now) (a .values .now) (a .log .now) (a .writes .now) (a .reads .now)) (c .before .before .before .before .before .before .before .before .before .before .before .pre) (a .bytes .now) (c .before .is-absent .ensures (a .clients .now) (a .links .now) (a .keys .now) (a .values .now) (a .log .now) (a .writes .now) (a .reads .now)) (c .if1 .taken)

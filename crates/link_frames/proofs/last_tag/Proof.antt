@@ -1,8 +1,8 @@
--- `wire::last_tag` meets its contract: tags are counted from 0.
+-- `link_frames::last_tag` meets its contract: tags are counted from 0.
 use native.Mathlib.Omega.{arith}
 use borrow.Author.Needs.{needs}
-use Rattle.wire.proofs.last_tag.Statement.{statement}
-use Rattle.wire.proofs.last_tag.Tie as tie
+use Rattle.link_frames.proofs.last_tag.Statement.{statement}
+use Rattle.link_frames.proofs.last_tag.Tie as tie
 
 returns : tie.Need-returns
 returns c = omega arith

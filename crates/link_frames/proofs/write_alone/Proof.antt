@@ -1,9 +1,9 @@
--- `wire::write_alone` meets its contract: no entries are lent.
+-- `link_frames::write_alone` meets its contract: no entries are lent.
 use borrow.Author.Needs.{needs}
 use mathlib.Core.Path.{refl}
 use Rattle.wire.specs.Cases.{wrote}
-use Rattle.wire.proofs.write_alone.Statement.{statement}
-use Rattle.wire.proofs.write_alone.Tie as tie
+use Rattle.link_frames.proofs.write_alone.Statement.{statement}
+use Rattle.link_frames.proofs.write_alone.Tie as tie
 
 returns : tie.Need-returns
 returns c =

@@ -1,12 +1,12 @@
--- `wire::write_link` meets its contract: each content of the link is a case law.
+-- `link_frames::write_link` meets its contract: each content of the link is a case law.
 use mathlib.Core.List.{[]}
 use native.Mathlib.Omega.{arith}
 use Rattle.tables.specs.Tables.{tablesOf}
 use Rattle.wire.specs.Ready.{request-ready, reply-ready}
 use Rattle.wire.specs.Cases.{link-empty, link-lost, link-request, link-reply}
 use borrow.Author.Needs.{needs}
-use Rattle.wire.proofs.write_link.Statement.{statement}
-use Rattle.wire.proofs.write_link.Tie as tie
+use Rattle.link_frames.proofs.write_link.Statement.{statement}
+use Rattle.link_frames.proofs.write_link.Tie as tie
 
 client-word-requires : tie.Need-client-word-requires
 client-word-requires c κs = (c .before .before .before .before .before .before .before .pre [] [] .row, omega arith)

@@ -1,8 +1,8 @@
--- `wire::write_everything` meets its contract: the coordinator, or a server.
+-- `link_frames::write_everything` meets its contract: the coordinator, or a server.
 use Rattle.wire.specs.Cases.{from-head, from-server}
 use borrow.Author.Needs.{needs}
-use Rattle.wire.proofs.write_everything.Statement.{statement}
-use Rattle.wire.proofs.write_everything.Tie as tie
+use Rattle.link_frames.proofs.write_everything.Statement.{statement}
+use Rattle.link_frames.proofs.write_everything.Tie as tie
 
 write-log-requires : tie.Need-write-log-requires
 write-log-requires c κs = c .before .before .before .before .before .before .pre .head (c .before .if1 .taken)

@@ -1,11 +1,11 @@
--- `wire::write_link_frame` meets its contract: number 2, or the frame from tables that were found sound.
+-- `link_frames::write_link_frame` meets its contract: number 2, or the frame from tables that were found sound.
 use Rattle.ranges.specs.Tests.{holds}
 use Rattle.tables.specs.Tables.{tablesOf}
 use Rattle.soundness.specs.Facts.{sound-facts}
 use Rattle.wire.specs.Answers.{frame-unsound}
 use borrow.Author.Needs.{needs}
-use Rattle.wire.proofs.write_link_frame.Statement.{statement}
-use Rattle.wire.proofs.write_link_frame.Tie as tie
+use Rattle.link_frames.proofs.write_link_frame.Statement.{statement}
+use Rattle.link_frames.proofs.write_link_frame.Tie as tie
 
 returns : tie.Need-returns
 returns c = let a = c .before .before .before .before .before .before .before .before .before .before .before .args in frame-unsound (a .client) (a .target) (tablesOf (a .counts .now) (a .clients .now) (a .links .now) (a .keys .now) (a .values .now) (a .log .now) (a .writes .now) (a .reads .now)) (a .bytes .now) (c .before .sound .ensures) (c .if1 .taken)

@@ -1,4 +1,4 @@
--- `wire::write_all` meets its contract: the part of the keys and the fronts of the rows are those of the first versions of the server.
+-- `link_frames::write_all` meets its contract: the part of the keys and the fronts of the rows are those of the server's first versions.
 use borrow.Author.Needs.{needs}
 use mathlib.Core.Path.{_≡_, sym, ap, _∙_}
 use Prim.Native.Nat.{_+_, _-_}
@@ -7,9 +7,9 @@ use lib.ListN.{length}
 use Rattle.ranges.specs.LaidLaws.{built-length, laid-front}
 use Rattle.tables.specs.Layout.{versionBadge, versionSetpoint}
 use Rattle.frames.specs.declared.Message.the-variants.{All}
 use Rattle.wire.specs.Cases.{wrote, versions-part}
-use Rattle.wire.proofs.write_all.Statement.{statement}
-use Rattle.wire.proofs.write_all.Tie as tie
+use Rattle.link_frames.proofs.write_all.Statement.{statement}
+use Rattle.link_frames.proofs.write_all.Tie as tie
 
 slice-aggregate-write-frame : tie.Need-slice-aggregate-write-frame
 slice-aggregate-write-frame c =
