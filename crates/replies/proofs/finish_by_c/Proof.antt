@@ -10,7 +10,7 @@ cast-tag : tie.Need-cast-tag
 cast-tag c =
     let start = c .before .before .before .before .before .before .before .before .before in
     let a = start .args in
-    let p = start .pre .1 in
+    let p = start .pre .1 .0 in
     let e =
     tag-is (a .clients .now) (a .keys .now) (a .log .now) (a .client) (a .mask) (a .servers) (p .some)
     (c .before .before .client-word .ensures) (c .chosen-tag .ensures) in
@@ -23,7 +23,7 @@ conclude-requires c κs =
     let at-client-word = at-chosen-tag .before .before in
     let start = at-client-word .before .before .before .before .before .before .before in
     let a = start .args in
-    let p = start .pre .1 in
+    let p = start .pre .1 .0 in
     let e =
     tag-is (a .clients .now) (a .keys .now) (a .log .now) (a .client) (a .mask) (a .servers) (p .some)
     (at-client-word .client-word .ensures) (at-chosen-tag .chosen-tag .ensures) in
@@ -33,30 +33,29 @@ conclude-requires c κs =
 
 finish-requires : tie.Need-finish-requires
 finish-requires c κs =
-    let at-conclude = c .before .before .before .before .before .before .before .before .before .before in
+    let at-conclude = c .before .before .before .before in
     let start = at-conclude .before .before .before .before .before .before .before .before .before .before .before .before in
-    let h = start .pre .1 .row in
-    let r = start .pre .1 .recorded in
+    let h = start .pre .1 .0 .row in
+    let r = start .pre .1 .0 .recorded in
     search needs
 
 returns : tie.Need-returns
 returns c =
     let at-finish = c .before .before .before .before in
-    let at-show-words2 = at-finish .before .before .before in
-    let at-show-words = at-show-words2 .before .before .before in
-    let at-conclude = at-show-words .before .before .before .before .before in
+    let at-conclude = at-finish .before .before .before .before .before in
     let at-chosen-tag = at-conclude .before .before .before in
     let at-client-word = at-chosen-tag .before .before in
     let start = at-client-word .before .before .before .before .before .before .before in
     let a = start .args in
-    let p = start .pre .1 in
+    let p = start .pre .1 .0 in
     let e =
     tag-is (a .clients .now) (a .keys .now) (a .log .now) (a .client) (a .mask) (a .servers) (p .some)
     (at-client-word .client-word .ensures) (at-chosen-tag .chosen-tag .ensures) in
     let f = at-finish .finish .ensures in
     let k = at-conclude .conclude .ensures in
     record {
-      shown = rw (at-show-words .show-words .ensures, at-show-words2 .show-words2 .ensures, k .0, k .1, e);
+      chosen = e;
+      shown = k .1 ∙ rw (start .pre .1 .1, e);
       idled = f .0 ∙ rw (k .0, e);
       recorded = f .1 ∙ rw e;
     }
@@ -65,4 +64,4 @@ pub finish-by-c-spec : {M : Type 1} → statement M
 finish-by-c-spec =
     tie.close
     (tie.spec (λ c. search needs) (λ c κs. search needs) (λ c. search needs) (λ c κs. search needs) cast-tag conclude-requires
-    (λ c κs. search needs) (λ c κs. search needs) finish-requires (λ c. search needs) (λ c. search needs) returns)
+    finish-requires (λ c. search needs) (λ c. search needs) returns)
