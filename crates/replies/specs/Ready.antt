@@ -46,10 +46,11 @@ pub record GotReady (clients records : List ℕ) (q : ℕ) : Type 0 where
 abbrev pub rowShown : ℕ → List ℕ → ℕ → ℕ → Delivered
 rowShown tag clients q mask = readShown tag (shownTags clients q mask) clients q mask
 
--- what the end of a READ leaves whose client has the row and shows the tags
+-- what the end of a READ leaves whose client has the row: the tag chosen, the tags beside what is shown, the client idle, the record ended
 pub record Finished
-    (row reads : List ℕ) (q mask place tag : ℕ) (tags : List ℕ) (step : ℕ) (d : Delivered) (clients′ reads′ : List ℕ) : Type 0 where
-  pub shown : d ≡ readShown tag tags row q mask
+    (row reads : List ℕ) (q place tag : ℕ) (tags : List ℕ) (step tag′ : ℕ) (tags′ clients′ reads′ : List ℕ) : Type 0 where
+  pub chosen : tag′ ≡ tag
+  pub shown : tags′ ≡ tags
   pub idled : clients′ ≡ putClientWord row q stateField idle
   pub recorded : reads′ ≡ endedRecord place step (taggedRecord place tag reads)
 
@@ -63,13 +64,14 @@ pub record Concludable (clients keys log reads : List ℕ) (q mask k place : ℕ
   pub opening : qualifies keys log mask (receivedIn clients q) k 0 ≡ true
 
 -- what `finish_by_c` leaves
-abbrev pub FinishedByC : List ℕ → List ℕ → List ℕ → List ℕ → List ℕ → ℕ → ℕ → ℕ → ℕ → ℕ → Delivered → List ℕ → List ℕ → Type 0
-FinishedByC clients keys values log reads q mask k place step d clients′ reads′ =
+abbrev pub FinishedByC :
+    List ℕ → List ℕ → List ℕ → List ℕ → List ℕ → ℕ → ℕ → ℕ → ℕ → ℕ → ℕ → List ℕ → List ℕ → List ℕ → Type 0
+FinishedByC clients keys values log reads q mask k place step tag′ tags′ clients′ reads′ =
     let tag = tagFrom clients keys log q mask k in
     let setpoint = chosenSetpoint keys values log (receivedIn clients q) tag in
     let badge = chosenBadge keys values log (receivedIn clients q) tag in
     let row = concludedRow setpoint badge tag q mask k clients in
-    Finished row reads q mask place tag (chosenTags log mask k tag) step d clients′ reads′
+    Finished row reads q place tag (chosenTags log mask k tag) step tag′ tags′ clients′ reads′
 
 -- what C's choice relies on, and the tag that it finds; n is what was read of the row
 module _ (clients keys log : List ℕ) (q mask k : ℕ) {n : ℕ} (e : n ≡ receivedIn clients q coordinator) where

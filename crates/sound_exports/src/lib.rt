@@ -3,13 +3,52 @@
 // They stand in a library of their own. Beside the public steps each step of `store` would have two callers, so that the compiler would leave
 // it a call, with each slice handed over by the address of a copy; here it has one, and is inlined.
 ghost use mathlib.Core.Path.{_≡_};
+ghost use mathlib.Core.Bool.{true};
+ghost use Rattle.tables.specs.Rows.{HasRow};
+ghost use Rattle.tables.specs.Layout.{clientWidth};
 ghost use Rattle.tables.specs.Tables.{tablesOf};
+ghost use Rattle.rules.specs.Answers.{nothingShown};
 ghost use Rattle.soundness.specs.Facts.{Sound};
 ghost use Rattle.refusals.specs.Steps.{beginWrite, beginRead, deliverRequest, deliverReply, lose, resend};
-ghost use Rattle.store_exports.specs.Numbers.{numbered, inNumbers, crossed, inCrossing};
+ghost use Rattle.replies.specs.Shown.{shownBy};
+ghost use Rattle.store_exports.specs.Numbers.{crossingOf, numbered, inNumbers, crossed, inCrossing};
+use replies::Outcome;
 use rules::Answer;
-use rules::Delivered;
+use rules::Arrival;
+use rules::words;
 use store_exports::Crossing;
+use tables::clients;
+
+// An answer that shows nothing, as it crosses.
+fn plain(arrival: Arrival) -> Crossing
+    ensures { λ r. ⌜ r ≡ crossingOf (nothingShown arrival) ⌝ }
+{
+    Crossing {
+        number: store_exports::arrival_number(arrival),
+        setpoints: [0; 16],
+        tags: [0; 16],
+        badges: [0; 16],
+    }
+}
+
+// The answer where a READ has ended, with what it shows of the client's row and the tags beside it.
+fn shown(clients: &[u32], client: usize, outcome: Outcome, tags: [u32; 16]) -> Crossing
+    requires { ⌜ HasRow clientWidth (now clients) client ⌝ }
+    ensures { λ r. ⌜ (outcome .ended ≡ true → r ≡ crossingOf (shownBy outcome tags (now (clients .entry)) client)) ⌝ }
+{
+    let arrival = outcome.arrival;
+    let mask = outcome.mask;
+    let mut setpoints = [0u32; 16];
+    let mut badges = [0u32; 16];
+    words::show_words(clients, client, clients::SETPOINTS, mask, &mut setpoints);
+    words::show_words(clients, client, clients::BADGES, mask, &mut badges);
+    Crossing {
+        number: store_exports::arrival_number(arrival),
+        setpoints: setpoints,
+        tags: tags,
+        badges: badges,
+    }
+}
 
 // Begins a WRITE on tables known to be sound.
 #[no_mangle]
@@ -152,7 +191,8 @@ pub extern "C" fn store_deliver_reply_unchecked(
         (now (values .entry)) (now (log .entry))
         (now (writes .entry)) (now (reads .entry)))) ⌝ }
 {
-    let delivered: Delivered = store::deliver_reply_sound(
+    let mut tags = [0u32; 16];
+    let outcome: Outcome = store::take_reply(
         counts,
         clients,
         links,
@@ -163,8 +203,13 @@ pub extern "C" fn store_deliver_reply_unchecked(
         reads,
         client,
         target,
+        &mut tags,
     );
-    store_exports::to_cross(delivered)
+    if outcome.ended {
+        return shown(&*clients, client as usize, outcome, tags);
+    }
+    let arrival = outcome.arrival;
+    plain(arrival)
 }
 
 // Loses what a link holds, on tables known to be sound.

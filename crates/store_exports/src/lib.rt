@@ -21,7 +21,7 @@ pub fn answer_number(answer: Answer) -> u32
 }
 
 // A delivered reply's answer as a number.
-fn arrival_number(arrival: Arrival) -> u64
+pub fn arrival_number(arrival: Arrival) -> u64
     ensures { λ r. ⌜ r ≡ arrivalNumber arrival ⌝ }
 {
     match arrival {

@@ -17,7 +17,7 @@ is-waiting-requires c κs =
     let start = begin at-settle in
     let a = start .args in
     let emptied = at-settle .settle .ensures .emptied in
-    (search needs, kinds-emptied (a .links .now) (a .client) (a .target) (start .pre .0 .linked) (start .pre .1 .kinds) emptied)
+    (search needs, kinds-emptied (a .links .now) (a .client) (a .target) (start .pre .0 .linked) (start .pre .1 .0 .kinds) emptied)
 
 returns : tie.Need-returns
 returns c =
@@ -25,15 +25,17 @@ returns c =
     let at-is-waiting = at-if1 .before in
     let at-put-client-word = at-is-waiting .before .before .before .before in
     let at-settle = at-put-client-word .before .before .before .before .before .before in
-    let a = begin at-settle .args in
+    let start = begin at-settle in
+    let a = start .args in
     λ writes. all-waits (a .client) (a .target)
     (tablesOf (a .counts .now) (a .clients .now) (a .links .now) (a .keys .now) (a .values .now) (a .log .now) writes (a .reads .now))
     (at-settle .settle .ensures) (at-is-waiting .is-waiting .ensures) (a .contents)
-    (at-put-client-word .put-client-word .ensures) (at-if1 .if1 .taken) (c .showing-nothing .ensures)
+    (at-put-client-word .put-client-word .ensures) _ (at-if1 .if1 .taken) (c .plain .ensures)
+    (start .pre .1 .1)
 
 finish-by-c-requires : tie.Need-finish-by-c-requires
 finish-by-c-requires c κs =
-    let at-if1 = c .before .before in
+    let at-if1 = c .before .before .before in
     let at-is-waiting = at-if1 .before in
     let at-put-client-word = at-is-waiting .before .before .before .before in
     let at-settle = at-put-client-word .before .before .before .before .before .before in
@@ -42,16 +44,18 @@ finish-by-c-requires c κs =
     let at-count-at = at-client-word .before .before in
     let start = at-count-at .before .before .before .before .before .before .before .before .before in
     let a = start .args in
+    let ready =
     last-ready (a .counts .now) (a .clients .now) (a .links .now) (a .keys .now) (a .values .now) (a .log .now) (a .reads .now)
-    (a .client) (a .target) (a .contents .number) (start .pre .1)
+    (a .client) (a .target) (a .contents .number) (start .pre .1 .0)
     (at-settle .settle .ensures .emptied) (at-is-waiting .is-waiting .ensures) (at-if1 .if1 .left)
     (at-put-client-word .put-client-word .ensures) (at-count-at .count-at .ensures) (at-client-word .client-word .ensures)
-    (at-client-word2 .client-word2 .ensures)
+    (at-client-word2 .client-word2 .ensures) in
+    (ready .0, (ready .1, start .pre .1 .1))
 
 returns-2 : tie.Need-returns-2
 returns-2 c =
     let at-finish-by-c = c .before .before .before .before in
-    let at-if1 = at-finish-by-c .before .before .before in
+    let at-if1 = at-finish-by-c .before .before .before .before in
     let at-is-waiting = at-if1 .before in
     let at-put-client-word = at-is-waiting .before .before .before .before in
     let at-settle = at-put-client-word .before .before .before .before .before .before in
