@@ -1,6 +1,6 @@
 /* The setpoint store as C calls it. Made from the sources by tools/c-header; docs/INTEGRATING.md says how it is used. Link
-   libstore_exports.a, libframe_exports.a, libwire_exports.a, libworkload_exports.a, librecording_exports.a, as far as their functions are
-   called. */
+   libstore_exports.a, libsound_exports.a, libframe_exports.a, libwire_exports.a, libworkload_exports.a, librecording_exports.a, as far as
+   their functions are called. */
 #ifndef SETPOINT_STORE_H
 #define SETPOINT_STORE_H
 

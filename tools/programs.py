@@ -22,7 +22,7 @@ QUICK = {"replay": ("model", "model-replay"), "rough_load": ("schedules", "model
 HOW = ("--built", "--quick")
 # What plays from saved tables, and what that links.
 SAVED = ("saved", "saved-replay")
-LIBRARIES = ["store_exports", "wire_exports"]
+LIBRARIES = ["store_exports", "sound_exports", "wire_exports"]
 
 
 class Fault(Exception):

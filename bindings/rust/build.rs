@@ -4,7 +4,7 @@ use std::path::Path;
 
 fn main() {
     let folder = Path::new(env!("CARGO_MANIFEST_DIR")).join("../../target/staticlib");
-    for library in ["store_exports", "frame_exports", "wire_exports", "workload_exports", "recording_exports"] {
+    for library in ["store_exports", "sound_exports", "frame_exports", "wire_exports", "workload_exports", "recording_exports"] {
         let archive = folder.join(format!("lib{library}.a"));
         println!("cargo::rustc-check-cfg=cfg({library})");
         println!("cargo::rerun-if-changed={}", archive.display());

@@ -1,4 +1,4 @@
-//! The setpoint store as Rust calls it, through the static libraries of `store_exports`, `frame_exports`, `wire_exports`,
+//! The setpoint store as Rust calls it, through the static libraries of `store_exports`, `sound_exports`, `frame_exports`, `wire_exports`,
 //! `workload_exports` and `recording_exports`, which `tests/rust/build-store` builds. A slice crosses as a pointer and a length in elements,
 //! an answer as a number. Where a library was not built, its handle is not to be had. docs/INTEGRATING.md says how it is used.
 

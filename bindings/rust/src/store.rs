@@ -2,14 +2,14 @@
 
 use crate::{Crossing, Lent, LentMut};
 
-/// A handle that exists only where the library is linked.
+/// A handle that exists only where both libraries are linked, that of the public steps and that of the steps on tables known to be sound.
 #[derive(Clone, Copy, Debug)]
 pub struct StoreLibrary(());
 
 /// The public steps take any tables, and the library was proved to stay within the slices that it is lent.
 impl StoreLibrary {
     pub fn linked() -> Option<StoreLibrary> {
-        cfg!(store_exports).then_some(StoreLibrary(()))
+        cfg!(all(store_exports, sound_exports)).then_some(StoreLibrary(()))
     }
 
     /// Whether the tables are sound.
@@ -103,29 +103,47 @@ mod linked {
     use crate::exported::exported;
     use crate::{Crossing, Lent, LentMut};
 
-    // tools/c-header compares these declarations with crates/store_exports/src/lib.rt.
+    // tools/c-header compares these declarations with crates/store_exports/src/lib.rt and crates/sound_exports/src/lib.rt.
     exported!(store_exports store_sound: Lent,
         [counts ptr, clients ptr, links ptr, keys ptr, values ptr, log ptr, writes ptr, reads ptr]
         () -> bool);
     exported!(store_exports store_open: LentMut,
         [counts mut, clients mut, links mut, keys mut, values mut, log mut, writes ptr, reads ptr]
         (method: u32, servers: u32, panels: u32, given: *const u32, given_length: usize) -> u32);
-    exported!(store_exports store_begin_write, store_begin_write_unchecked: LentMut,
+    exported!(store_exports store_begin_write: LentMut,
         [counts mut, clients mut, links mut, keys ptr, values ptr, log ptr, writes mut, reads ptr]
         (client: u32, mask: u32, badge: u16, given: *const u32, given_length: usize) -> u32);
-    exported!(store_exports store_begin_read, store_begin_read_unchecked: LentMut,
+    exported!(sound_exports store_begin_write_unchecked: LentMut,
+        [counts mut, clients mut, links mut, keys ptr, values ptr, log ptr, writes mut, reads ptr]
+        (client: u32, mask: u32, badge: u16, given: *const u32, given_length: usize) -> u32);
+    exported!(store_exports store_begin_read: LentMut,
         [counts mut, clients mut, links mut, keys ptr, values ptr, log ptr, writes ptr, reads mut]
         (client: u32, mask: u32) -> u32);
-    exported!(store_exports store_deliver_request, store_deliver_request_unchecked: LentMut,
+    exported!(sound_exports store_begin_read_unchecked: LentMut,
+        [counts mut, clients mut, links mut, keys ptr, values ptr, log ptr, writes ptr, reads mut]
+        (client: u32, mask: u32) -> u32);
+    exported!(store_exports store_deliver_request: LentMut,
         [counts mut, clients ptr, links mut, keys mut, values mut, log mut, writes mut, reads ptr]
         (client: u32, target: u32) -> u32);
-    exported!(store_exports store_deliver_reply, store_deliver_reply_unchecked: LentMut,
+    exported!(sound_exports store_deliver_request_unchecked: LentMut,
+        [counts mut, clients ptr, links mut, keys mut, values mut, log mut, writes mut, reads ptr]
+        (client: u32, target: u32) -> u32);
+    exported!(store_exports store_deliver_reply: LentMut,
         [counts mut, clients mut, links mut, keys ptr, values ptr, log ptr, writes mut, reads mut]
         (client: u32, target: u32) -> Crossing);
-    exported!(store_exports store_lose, store_lose_unchecked: LentMut,
+    exported!(sound_exports store_deliver_reply_unchecked: LentMut,
+        [counts mut, clients mut, links mut, keys ptr, values ptr, log ptr, writes mut, reads mut]
+        (client: u32, target: u32) -> Crossing);
+    exported!(store_exports store_lose: LentMut,
         [counts mut, clients ptr, links mut, keys ptr, values ptr, log ptr, writes ptr, reads ptr]
         (client: u32, target: u32) -> u32);
-    exported!(store_exports store_resend, store_resend_unchecked: LentMut,
+    exported!(sound_exports store_lose_unchecked: LentMut,
+        [counts mut, clients ptr, links mut, keys ptr, values ptr, log ptr, writes ptr, reads ptr]
+        (client: u32, target: u32) -> u32);
+    exported!(store_exports store_resend: LentMut,
+        [counts mut, clients ptr, links mut, keys ptr, values ptr, log ptr, writes ptr, reads ptr]
+        (client: u32, target: u32) -> u32);
+    exported!(sound_exports store_resend_unchecked: LentMut,
         [counts mut, clients ptr, links mut, keys ptr, values ptr, log ptr, writes ptr, reads ptr]
         (client: u32, target: u32) -> u32);
 }

@@ -3,21 +3,19 @@ ghost use mathlib.Core.Path.{_≡_};
 ghost use mathlib.Core.List.{List};
 ghost use Prim.Native.Nat.{ℕ, _≤_, _<_};
 ghost use lib.ListN.{length};
-ghost use mathlib.Core.Bool.{cond};
+ghost use mathlib.Core.Bool.{true, cond};
 ghost use Rattle.keys.specs.Masks.{hasServer};
 ghost use Rattle.tables.specs.Tables.{tablesOf};
 ghost use Rattle.tables.specs.Rows.{HasRow};
-ghost use Rattle.tables.specs.Layout.{clientWidth, tagsField, askedField, countWords, countAt, methodField, serversField, readsField};
+ghost use Rattle.tables.specs.Layout.{clientWidth, entryWidth, countWords, countAt, methodField, serversField, readsField};
 ghost use Rattle.tables.specs.Links.{linkWidth, linkRow, HasLinks, putLink};
 ghost use Rattle.rules.specs.Common.{startedClient, request, setRequest};
 ghost use Rattle.coordinator.specs.Log.{HasEntry};
-ghost use Rattle.coordinator.specs.Latest.{latestWord, latestTagAt};
-ghost use Rattle.rules.specs.Words.{keepWord};
-ghost use Rattle.rules.specs.Begin.{sentSets, sentGets, keptAsking, sentAsks, sendGet, begunWrite};
+ghost use Rattle.rules.specs.Begin.{sentSets, sentGets, keptAsking, sentAsks, begunWrite};
 ghost use Rattle.rules.specs.Begin.{asking, askingByB, askingByC, askingBy, begunRead};
 ghost use Rattle.history.specs.Ready.{BeginReady};
 ghost use Rattle.begins.specs.Ready.{AskReady, WriteReady};
-ghost use Rattle.begins.specs.Cases.{startedWrite};
+ghost use Rattle.begins.specs.Cases.{startedWrite, askedAt, sentAt};
 use keys::Key;
 use rules::states;
 use rules::words;
@@ -25,6 +23,7 @@ use tables::clients;
 use tables::counts;
 use tables::links;
 use tables::links::Contents;
+use tables::log;
 
 // The client is in a state, has a mask, and its record stands at a place.
 pub fn start_client(clients: &mut [u32], client: usize, state: u32, mask: u32, place: u32)
@@ -96,36 +95,33 @@ fn send_sets(links: &mut [u32], client: usize, mask: u32, key: Key, badge: u32, 
     }
 }
 
-// A get request, for its key at a tag, to a server that the mask has; the client keeps the key, and the tag that it comes from.
+// A get request, for the key of the entry at a tag, to a server that the mask has; the client keeps the key, and the tag.
 fn send_get(
     clients: &mut [u32],
     links: &mut [u32],
     log: &[u32],
     client: usize,
     mask: u32,
-    tag: usize,
     server: usize,
+    tag: u32,
 )
     requires { ⌜ (HasRow clientWidth (now clients) client) × (HasRow linkWidth (now links) (linkRow client server)) ⌝ }
-    requires { ⌜ (server < 16) × HasEntry (now log) tag ⌝ }
+    requires { ⌜ (server < 16) × (hasServer mask server ≡ true → HasRow entryWidth (now log) tag) ⌝ }
     ensures clients { λ _. ⌜ now (clients .exit)
-        ≡ cond (hasServer mask server)
-        (keepWord askedField (latestWord (now (log .entry)) tag) client server
-        (keepWord tagsField (latestTagAt (now (log .entry)) tag) client server (now (clients .entry))))
-        (now (clients .entry)) ⌝ }
+        ≡ cond (hasServer mask server) (askedAt client (now (log .entry)) server (now (clients .entry)) tag) (now (clients .entry)) ⌝ }
     ensures links { λ _. ⌜ now (links .exit)
-        ≡ cond (hasServer mask server) (sendGet client (now (log .entry)) tag server (now (links .entry))) (now (links .entry)) ⌝ }
+        ≡ cond (hasServer mask server) (sentAt client (now (log .entry)) server (now (links .entry)) tag) (now (links .entry)) ⌝ }
 {
     if keys::has_server(mask, server) {
-        let latest = coordinator::latest_entry(log, server, tag);
-        let key = latest.key;
-        clients::put_client_word(clients, client, clients::TAGS + server, latest.tag);
+        let key = log::entry_key(log, tag as usize);
+        clients::put_client_word(clients, client, clients::TAGS + server, tag);
         clients::put_client_word(clients, client, clients::ASKED + server, key.word());
         send(links, client, server, key, 0);
     }
 }
 
-// A get request, for its key at a tag, to each masked server; the client keeps the keys, and the tags that they come from.
+// A get request, for its key at a tag, to each masked server; the client keeps the keys, and the tags that they come from. One walk of the
+// log finds the tags of all of them.
 pub fn send_gets(
     clients: &mut [u32],
     links: &mut [u32],
@@ -140,9 +136,11 @@ pub fn send_gets(
     ensures clients { λ _. ⌜ now (clients .exit) ≡ keptAsking client mask (now (log .entry)) tag servers (now (clients .entry)) ⌝ }
     ensures links { λ _. ⌜ now (links .exit) ≡ sentGets client mask (now (log .entry)) tag servers (now (links .entry)) ⌝ }
 {
+    let mut tags = [0u32; 16];
+    coordinator::latest_tags(log, servers, tag, mask, &mut tags);
     let mut server = 0;
     while server < servers {
-        send_get(clients, links, log, client, mask, tag, server);
+        send_get(clients, links, log, client, mask, server, tags[server]);
         server += 1;
     }
 }

@@ -11,7 +11,7 @@ use borrow.Author.Tests.{eqb-true, eqb-false, not-true, not-false, ltb-true, ltb
 use Rattle.ranges.specs.Tests.{by-equal, by-test, not-both, both-left, both-right}
 use Rattle.ranges.specs.AllLaws.{all-of, all-not, all-same}
 use Rattle.ranges.specs.Last.{lastBelow}
-use Rattle.ranges.specs.LastLaws.{last-none, last-here, last-before, last-below, last-same}
+use Rattle.ranges.specs.LastLaws.{last-here, last-before, last-below, last-passes, last-same}
 use Rattle.keys.specs.declared.Key.{Key}
 use Rattle.keys.specs.Keys.{keyWord}
 use Rattle.keys.specs.Masks.{hasServer}
@@ -141,15 +141,38 @@ module _ (keys log : List ℕ) (mask : ℕ) (received : ℕ → ℕ) (k : ℕ) {
       last-same (qualifies keys log wanted received k) (qualifies keys log mask received k) n
       (λ t l. all-same (serves keys log wanted received t) (serves keys log mask received t) k (λ i h. rw (first, first-bit mask k i h)))
 
--- what is tried before the walk: one entry at most leaves no choice, and then the newest tag
-module _ (keys log : List ℕ) (mask : ℕ) (received : ℕ → ℕ) (k n : ℕ) where
-  pub no-choice : n < 2 → 0 ≡ chosenTag keys log mask received k n
-  no-choice h =
-      by-equal n 0
-      (λ e. sym (ap (lastBelow (qualifies keys log mask received k)) e ∙ last-none (qualifies keys log mask received k)))
-      (λ d. let l = last-below (qualifies keys log mask received k) n (omega arith) in omega arith)
+-- The tag whose values are tried: the newest, or the one that the walk chose. It is the greatest where it qualifies, and else behind that.
+pub record Tried (keys log : List ℕ) (mask : ℕ) (received : ℕ → ℕ) (k n tag : ℕ) : Type 0 where
+  pub below : tag < n
+  pub greatest : qualifies keys log mask received k tag ≡ true → tag ≡ chosenTag keys log mask received k n
+  pub falls : qualifies keys log mask received k tag ≡ false → chosenTag keys log mask received k n < tag
 
-  pub newest-serves : 2 ≤ n → qualifies keys log mask received k (n - 1) ≡ true → n - 1 ≡ chosenTag keys log mask received k n
-  newest-serves d e =
+module _ (keys log : List ℕ) (mask : ℕ) (received : ℕ → ℕ) (k n : ℕ)
+    (some : 0 < n) (opening : qualifies keys log mask received k 0 ≡ true) where
+  pub chosen-below : chosenTag keys log mask received k n < n
+  chosen-below = last-below (qualifies keys log mask received k) n some
+
+  -- it qualifies, since the opening's tag does
+  chosen-serves : qualifies keys log mask received k (chosenTag keys log mask received k n) ≡ true
+  chosen-serves = last-passes (qualifies keys log mask received k) n 0 some opening
+
+  pub tried-newest : Tried keys log mask received k n (n - 1)
+  tried-newest =
       let z : n - 1 + 1 ≡ n = omega arith in
-      sym (ap (lastBelow (qualifies keys log mask received k)) (sym z) ∙ last-here (qualifies keys log mask received k) (n - 1) e)
+      record {
+        below = omega arith;
+        greatest = λ e.
+            sym (ap (lastBelow (qualifies keys log mask received k)) (sym z) ∙ last-here (qualifies keys log mask received k) (n - 1) e);
+        falls = λ e.
+            by-equal (chosenTag keys log mask received k n) (n - 1)
+            (λ d. absurd (not-both (rw d at chosen-serves) e))
+            (λ d. omega (arith, chosen-below));
+      }
+
+  pub tried-chosen : {tag : ℕ} → tag ≡ chosenTag keys log mask received k n → Tried keys log mask received k n tag
+  tried-chosen e =
+      record {
+        below = rw e chosen-below;
+        greatest = λ d. e;
+        falls = λ d. absurd (not-both chosen-serves (rw e at d));
+      }

@@ -2,19 +2,18 @@
 ghost use mathlib.Core.Path.{_≡_};
 ghost use Prim.Native.Nat.{ℕ, _+_, _*_, _≤_, _<_};
 ghost use lib.Dec.{eqb};
-ghost use lib.ListN.{length};
+ghost use lib.ListN.{length, replicate};
 ghost use Rattle.tables.specs.Rows.{HasRow};
 ghost use mathlib.Core.Bool.{true, cond};
-ghost use Rattle.ranges.specs.Picked.{picked};
+ghost use Rattle.ranges.specs.Picked.{picked, laidOver};
 ghost use Rattle.keys.specs.Masks.{hasServer};
-ghost use Rattle.tables.specs.Layout.{clientWidth, logPlaces, entryWidth, serverPlaces, HasValues, entryKey, entryMask};
+ghost use Rattle.tables.specs.Layout.{clientWidth, entryWidth, serverPlaces, entryKey, entryMask};
 ghost use Rattle.coordinator.specs.Log.{HasEntry};
 ghost use Rattle.coordinator.specs.Latest.{latestTagAt};
-ghost use Rattle.rules.specs.Words.{laidOver};
-ghost use Rattle.rules.specs.Choice.{holdsKey, hasVersion, serves, qualifies, chosenTag, chosenSetpoint, chosenBadge};
+ghost use Rattle.rules.specs.Choice.{holdsKey, qualifies, chosenTag, chosenSetpoint, chosenBadge};
 ghost use Rattle.rules.specs.Reply.{receivedIn, forgotten, concludedRow};
-ghost use Rattle.choice.specs.Values.{chosenValue};
-ghost use Rattle.choice.specs.Ready.{Received, ChoiceReady};
+ghost use Rattle.choice.specs.Values.{Rows, Taken};
+ghost use Rattle.choice.specs.Ready.{Received, ChoiceReady, Choosable};
 ghost use Rattle.keys.specs.Bits.{without, addServer, gathered};
 ghost use Rattle.choice.specs.Holders.{slots, tabled, slotOf, marked, markVersions, markServers, Marked};
 ghost use Rattle.choice.specs.Walk.{holdersOf, lackingAfter};
@@ -24,70 +23,6 @@ use tables::clients;
 use tables::links;
 use tables::log;
 use tables::versions;
-
-// Whether the key of a server at a tag is among the versions received from it.
-fn has_version(
-    clients: &[u32],
-    keys: &[u32],
-    log: &[u32],
-    client: usize,
-    server: usize,
-    tag: usize,
-) -> bool
-    requires { ⌜ Received (now clients) (now keys) client server ⌝ }
-    requires { ⌜ HasEntry (now log) tag ⌝ }
-    ensures { λ r. ⌜ r ≡ hasVersion (now (keys .entry)) (now (log .entry)) (receivedIn (now (clients .entry)) client) tag server ⌝ }
-{
-    let received = clients::client_word(clients, client, clients::RECEIVED + server) as usize;
-    let latest = coordinator::latest_entry(log, server, tag);
-    let key = latest.key;
-    let place = server::find(keys, server, received, key);
-    place < received
-}
-
-// Whether a server does not stand in a tag's way: the mask does not have it, or its key at the tag is among the versions received.
-fn serves(
-    clients: &[u32],
-    keys: &[u32],
-    log: &[u32],
-    client: usize,
-    mask: u32,
-    server: usize,
-    tag: usize,
-) -> bool
-    requires { ⌜ Received (now clients) (now keys) client server ⌝ }
-    requires { ⌜ HasEntry (now log) tag ⌝ }
-    ensures { λ r. ⌜ r ≡ serves (now (keys .entry)) (now (log .entry)) mask (receivedIn (now (clients .entry)) client) tag server ⌝ }
-{
-    if keys::has_server(mask, server) {
-        return has_version(clients, keys, log, client, server, tag);
-    }
-    true
-}
-
-// Whether all servers serve at a tag.
-fn all_serve(
-    clients: &[u32],
-    keys: &[u32],
-    log: &[u32],
-    client: usize,
-    mask: u32,
-    servers: usize,
-    tag: usize,
-) -> bool
-    requires { ⌜ (servers ≤ 16) × (((i : ℕ) → i < servers → Received (now clients) (now keys) client i)) ⌝ }
-    requires { ⌜ HasEntry (now log) tag ⌝ }
-    ensures { λ r. ⌜ r ≡ qualifies (now (keys .entry)) (now (log .entry)) mask (receivedIn (now (clients .entry)) client) servers tag ⌝ }
-{
-    let mut server = 0;
-    while server < servers {
-        if !serves(clients, keys, log, client, mask, server, tag) {
-            return false;
-        }
-        server += 1;
-    }
-    true
-}
 
 // The table of holders has for each key of a client below 16, so for every key of sound tables, the mask of the servers that hold it.
 const SLOTS: usize = 4096;
@@ -355,67 +290,9 @@ fn greatest_tag(
     )
 }
 
-// The greatest tag among the first entries of the log that qualifies. It does not stop at the first tag whose key is missing. The newest is tried first:
-// it qualifies unless a WRITE came between the replies.
-pub fn chosen_tag(
-    clients: &[u32],
-    keys: &[u32],
-    log: &[u32],
-    client: usize,
-    mask: u32,
-    servers: usize,
-    entries: usize,
-) -> usize
-    requires { ⌜ (servers ≤ 16) × (((i : ℕ) → i < servers → Received (now clients) (now keys) client i)) ⌝ }
-    requires { ⌜ (entries ≤ logPlaces) × (entryWidth * entries ≤ length (now log)) ⌝ }
-    ensures { λ r. ⌜ r ≡ chosenTag (now (keys .entry)) (now (log .entry)) mask (receivedIn (now (clients .entry)) client) servers entries ⌝ }
-{
-    if entries < 2 {
-        return 0;
-    }
-    if all_serve(clients, keys, log, client, mask, servers, entries - 1) {
-        return entries - 1;
-    }
-    let wanted = keys::first_servers(mask, servers);
-    greatest_tag(clients, keys, log, client, wanted, servers, entries)
-}
-
-// What a READ shows of a server: its setpoint, and the badge and the tag of the WRITE that put it there.
-pub struct Value {
-    pub setpoint: u32,
-    pub badge: u32,
-    pub tag: u32,
-}
-
-// A server's value at a tag, as the versions received have it.
-fn chosen_value(
-    clients: &[u32],
-    keys: &[u32],
-    values: &[u32],
-    log: &[u32],
-    client: usize,
-    tag: usize,
-    server: usize,
-) -> Value
-    requires { ⌜ Received (now clients) (now keys) client server ⌝ }
-    requires { ⌜ HasEntry (now log) tag × HasValues (now values) server ⌝ }
-    requires { ⌜ hasVersion (now keys) (now log) (receivedIn (now clients) client) tag server ≡ true ⌝ }
-    ensures { λ r. ⌜ r ≡ chosenValue (now (keys .entry)) (now (values .entry)) (now (log .entry))
-        (receivedIn (now (clients .entry)) client) tag server ⌝ }
-{
-    let received = clients::client_word(clients, client, clients::RECEIVED + server) as usize;
-    let latest = coordinator::latest_entry(log, server, tag);
-    let key = latest.key;
-    let place = server::find(keys, server, received, key);
-    Value {
-        setpoint: versions::version_setpoint(values, server, place),
-        badge: versions::version_badge(values, server, place),
-        tag: latest.tag,
-    }
-}
-
-// The rows get the values of the masked servers at a tag that qualifies. What they have for the other servers stays.
-fn chosen_values(
+// The rows get the setpoints and the badges of the masked servers at a tag, and the tags that they come from, if all of them were received.
+// The answer is whether they were: the first server that lacks its key ends the search. The row of tags is lent with zeros.
+fn values_at(
     clients: &[u32],
     keys: &[u32],
     values: &[u32],
@@ -427,29 +304,94 @@ fn chosen_values(
     setpoints: &mut [u32; 16],
     badges: &mut [u32; 16],
     tags: &mut [u32; 16],
-)
+) -> bool
     requires { ⌜ ChoiceReady (now clients) (now keys) (now values) client servers ⌝ }
-    requires { ⌜ HasEntry (now log) tag ⌝ }
-    requires { ⌜ qualifies (now keys) (now log) mask (receivedIn (now clients) client) servers tag ≡ true ⌝ }
-    ensures setpoints { λ _. ⌜ now (setpoints .exit)
-        ≡ laidOver (hasServer mask) (chosenSetpoint (now (keys .entry)) (now (values .entry)) (now (log .entry))
-        (receivedIn (now (clients .entry)) client) tag) servers (now (setpoints .entry)) ⌝ }
-    ensures badges { λ _. ⌜ now (badges .exit)
-        ≡ laidOver (hasServer mask) (chosenBadge (now (keys .entry)) (now (values .entry)) (now (log .entry))
-        (receivedIn (now (clients .entry)) client) tag) servers (now (badges .entry)) ⌝ }
+    requires { ⌜ (HasEntry (now log) tag) × Rows (now setpoints) (now badges) (now tags) ⌝ }
+    ensures { λ r. ⌜ r ≡ qualifies (now (keys .entry)) (now (log .entry)) mask (receivedIn (now (clients .entry)) client) servers tag ⌝ }
     ensures tags { λ _. ⌜ now (tags .exit)
         ≡ laidOver (hasServer mask) (latestTagAt (now (log .entry)) tag) servers (now (tags .entry)) ⌝ }
+    ensures rows { λ r. ⌜ Taken (now (keys .entry)) (now (values .entry)) (now (log .entry)) mask (receivedIn (now (clients .entry)) client)
+        tag (cond r servers 0) (now (setpoints .exit)) (now (badges .exit)) ⌝ }
 {
+    coordinator::latest_tags(log, servers, tag, mask, tags);
     let mut server = 0;
     while server < servers {
         if keys::has_server(mask, server) {
-            let value = chosen_value(clients, keys, values, log, client, tag, server);
-            setpoints[server] = value.setpoint;
-            badges[server] = value.badge;
-            tags[server] = value.tag;
+            let received = clients::client_word(
+                clients,
+                client,
+                clients::RECEIVED + server,
+            ) as usize;
+            let key = log::entry_key(log, tags[server] as usize);
+            let place = server::find(keys, server, received, key);
+            if received <= place {
+                return false;
+            }
+            setpoints[server] = versions::version_setpoint(values, server, place);
+            badges[server] = versions::version_badge(values, server, place);
         }
         server += 1;
     }
+    true
+}
+
+// A row of 16 gets zeros.
+fn clear_tags(tags: &mut [u32; 16])
+    requires { ⌜ length (now tags) ≡ 16 ⌝ }
+    ensures { λ _. ⌜ now (tags .exit) ≡ replicate 16 0 ⌝ }
+{
+    let mut server = 0;
+    while server < 16 {
+        tags[server] = 0;
+        server += 1;
+    }
+}
+
+// The greatest tag among the first entries of the log that qualifies, with the values at it. It does not stop at the first tag whose key is
+// missing. The newest is tried first: it qualifies unless a WRITE came between the replies, and then log and versions are searched once.
+// Where it does not, the greatest that does is found, and its values are taken: the second turn is the last.
+fn choose(
+    clients: &[u32],
+    keys: &[u32],
+    values: &[u32],
+    log: &[u32],
+    client: usize,
+    mask: u32,
+    servers: usize,
+    entries: usize,
+    setpoints: &mut [u32; 16],
+    badges: &mut [u32; 16],
+    tags: &mut [u32; 16],
+) -> usize
+    requires { ⌜ ChoiceReady (now clients) (now keys) (now values) client servers ⌝ }
+    requires { ⌜ Choosable (now clients) (now keys) (now log) client mask servers entries ⌝ }
+    requires { ⌜ Rows (now setpoints) (now badges) (now tags) ⌝ }
+    ensures { λ r. ⌜ r
+        ≡ chosenTag (now (keys .entry)) (now (log .entry)) mask (receivedIn (now (clients .entry)) client) servers entries ⌝ }
+    ensures tags { λ r. ⌜ now (tags .exit)
+        ≡ laidOver (hasServer mask) (latestTagAt (now (log .entry)) r) servers (now (tags .entry)) ⌝ }
+    ensures rows { λ r. ⌜ Taken (now (keys .entry)) (now (values .entry)) (now (log .entry)) mask (receivedIn (now (clients .entry)) client)
+        r servers (now (setpoints .exit)) (now (badges .exit)) ⌝ }
+{
+    let mut tag = entries - 1;
+    while !values_at(
+        clients,
+        keys,
+        values,
+        log,
+        client,
+        mask,
+        servers,
+        tag,
+        setpoints,
+        badges,
+        tags,
+    ) {
+        clear_tags(tags);
+        let wanted = keys::first_servers(mask, servers);
+        tag = greatest_tag(clients, keys, log, client, wanted, servers, entries);
+    }
+    tag
 }
 
 // The n received are forgotten.
@@ -468,8 +410,8 @@ fn forget_received(clients: &mut [u32], client: usize)
     );
 }
 
-// The client's row at the end of a READ under C: setpoints and badges at the tag, the n forgotten, the tag. A row of 16 gets the tags that
-// they come from.
+// The client's row at the end of a READ under C: setpoints and badges at the tag that is chosen among the first entries of the log, the n
+// forgotten, the tag. A row of 16 gets the tags that they come from. The answer is the tag.
 pub fn conclude(
     clients: &mut [u32],
     keys: &[u32],
@@ -478,23 +420,25 @@ pub fn conclude(
     client: usize,
     mask: u32,
     servers: usize,
-    tag: u32,
+    entries: usize,
     tags: &mut [u32; 16],
-)
+) -> u32
     requires { ⌜ ChoiceReady (now clients) (now keys) (now values) client servers ⌝ }
-    requires { ⌜ (HasRow clientWidth (now clients) client) × HasEntry (now log) tag ⌝ }
-    requires { ⌜ qualifies (now keys) (now log) mask (receivedIn (now clients) client) servers tag ≡ true ⌝ }
-    ensures clients { λ _. ⌜ now (clients .exit)
+    requires { ⌜ (HasRow clientWidth (now clients) client) × (now tags ≡ replicate 16 0) ⌝ }
+    requires { ⌜ Choosable (now clients) (now keys) (now log) client mask servers entries ⌝ }
+    ensures { λ r. ⌜ r
+        ≡ chosenTag (now (keys .entry)) (now (log .entry)) mask (receivedIn (now (clients .entry)) client) servers entries ⌝ }
+    ensures clients { λ r. ⌜ now (clients .exit)
         ≡ concludedRow
-        (chosenSetpoint (now (keys .entry)) (now (values .entry)) (now (log .entry)) (receivedIn (now (clients .entry)) client) tag)
-        (chosenBadge (now (keys .entry)) (now (values .entry)) (now (log .entry)) (receivedIn (now (clients .entry)) client) tag)
-        tag client mask servers (now (clients .entry)) ⌝ }
-    ensures tags { λ _. ⌜ now (tags .exit)
-        ≡ laidOver (hasServer mask) (latestTagAt (now (log .entry)) tag) servers (now (tags .entry)) ⌝ }
+        (chosenSetpoint (now (keys .entry)) (now (values .entry)) (now (log .entry)) (receivedIn (now (clients .entry)) client) r)
+        (chosenBadge (now (keys .entry)) (now (values .entry)) (now (log .entry)) (receivedIn (now (clients .entry)) client) r)
+        r client mask servers (now (clients .entry)) ⌝ }
+    ensures tags { λ r. ⌜ now (tags .exit)
+        ≡ laidOver (hasServer mask) (latestTagAt (now (log .entry)) r) servers (now (tags .entry)) ⌝ }
 {
     let mut setpoints = [0u32; 16];
     let mut badges = [0u32; 16];
-    chosen_values(
+    let tag = choose(
         &*clients,
         keys,
         values,
@@ -502,11 +446,11 @@ pub fn conclude(
         client,
         mask,
         servers,
-        tag as usize,
+        entries,
         &mut setpoints,
         &mut badges,
         tags,
-    );
+    ) as u32;
     words::keep_words(
         clients,
         client,
@@ -518,4 +462,5 @@ pub fn conclude(
     words::keep_words(clients, client, clients::BADGES, mask, servers, &badges);
     forget_received(clients, client);
     clients::put_client_word(clients, client, clients::TAG, tag);
+    tag
 }

@@ -23,7 +23,7 @@ use Rattle.keeping.specs.Links.{link-asks, request-kind}
 use Rattle.keeping.specs.States.{set-server, get-server, entering-target}
 use Rattle.keeping.specs.States as states
 use Rattle.keeping.specs.Steps.{deliverRequest-sound}
-use Rattle.serial.specs.Steps.{request, requested, run, play}
+use Rattle.claim.specs.Steps.{request, requested, run, play}
 use Rattle.commutation.specs.Claim.{Swapped}
 use Rattle.commutation.specs.Equal.{differ}
 use Rattle.commutation.specs.Local.{Asking, AtTarget}

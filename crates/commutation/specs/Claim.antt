@@ -5,8 +5,8 @@ use mathlib.Core.Path.{_≡_}
 use mathlib.Core.List.{List}
 use Rattle.tables.specs.Tables.{Tables}
 use Rattle.rules.specs.declared.Answer.the-variants.{Ok}
-use Rattle.serial.specs.Steps.{Event, requested, Machine, run, leftBy}
-use Rattle.serial.specs.History.{BehindOpenings}
+use Rattle.claim.specs.Steps.{Event, requested, Machine, run, leftBy}
+use Rattle.claim.specs.History.{BehindOpenings}
 
 -- "accepted steps … that deliver requests at different targets": of one client or of two
 pub record AtDifferentTargets (x y : Event) : Type 0 where

@@ -27,9 +27,9 @@ use Rattle.soundness.specs.Sound.{requestSound, replySound, contentSound, linkS
 use Rattle.soundness.specs.Sound.{openSound, recordsSound, sound}
 use Rattle.refusals.specs.Refusals.{openRefusal, writeRefusal, readRefusal, deliveryRefusal}
 use Rattle.refusals.specs.Steps as store
-use Rattle.serial.specs.Steps.{Step, opening, beginning-write, beginning-read, request, reply, losing, resending}
-use Rattle.serial.specs.Steps.{opened, requested, replied, play, run, leftBy}
-use Rattle.serial.specs.Sample.{zeros}
+use Rattle.claim.specs.Steps.{Step, opening, beginning-write, beginning-read, request, reply, losing, resending}
+use Rattle.claim.specs.Steps.{opened, requested, replied, play, run, leftBy}
+use Rattle.claim.specs.Sample.{zeros}
 use Rattle.commutation.specs.Claim.{inOrder}
 use Rattle.commutation.specs.Equal.{sameTables, same-tables}
 

@@ -6,7 +6,7 @@ use Rattle.tables.specs.Tables.{Tables}
 use Rattle.rules.specs.declared.Answer.{Answer}
 use Rattle.rules.specs.declared.Answer.the-variants.{Ok}
 use Rattle.soundness.specs.Facts.{Sound}
-use Rattle.serial.specs.Steps.{request, Event, requested, Machine, play, run, leftBy}
+use Rattle.claim.specs.Steps.{request, Event, requested, Machine, play, run, leftBy}
 use Rattle.serial.proofs.Openings.{Starts}
 use Rattle.commutation.specs.Claim.{Swapped, Swaps}
 use Rattle.commutation.specs.Accepted.{requests-swap}

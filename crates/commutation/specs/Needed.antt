@@ -10,19 +10,27 @@ use Rattle.rules.specs.declared.Answer.the-variants.{Ok, Refused}
 use Rattle.rules.specs.declared.Arrival.the-variants as arrival
 use Rattle.rules.specs.declared.Delivered.{Delivered}
 use Rattle.rules.specs.Answers.{nothingShown}
-use Rattle.serial.specs.Steps.{Step, request, reply, Event, requested, replied, play}
-use Rattle.serial.specs.Sample.{zeros}
-use Rattle.commutation.specs.Claim.{Swapped, SwapsWhere, Swaps}
+use Rattle.claim.specs.Steps.{Step, request, reply, Event, requested, replied, play, run}
+use Rattle.claim.specs.Sample.{zeros}
+use Rattle.commutation.specs.Claim.{SwapsWhere, Swaps}
 use Rattle.commutation.specs.Equal.{differ}
 use Rattle.commutation.specs.Examples.{opens, Opened, behind, BothAccepted, enterAndSet, getLogAndSet, twoSets}
 use Rattle.commutation.specs.Examples.{twoEnters, setAndReply, replyAndEnter, endOf, examples, differing}
 
--- Of each example it says that the orders are alike: of two clients and of one, at the coordinator, by both methods, behind losses.
+-- what must be said of steps a and b in either order: the answers, the tables, and whatever comes behind
+abbrev Told : Tables → Step → Step → Type 0
+Told t a b =
+    let ab = play b (play a t .tables) in
+    let ba = play a (play b t .tables) in
+    ((play b t .event ≡ ab .event) × (ba .event ≡ play a t .event)) ×
+    ((ba .tables ≡ ab .tables) × ((rest : List Step) → run play rest (ba .tables) ≡ run play rest (ab .tables)))
+
+-- Of each example it says so: of two clients and of one, at the coordinator, by both methods, behind losses.
 module _ (claim : Swaps play) where
   told : (method : ℕ) → Opened method → (steps : List Step) (q i r j : ℕ) → BothAccepted (behind method steps) q i r j → (i ≡ j → ⊥) →
-      Swapped play (behind method steps) (request q i) (request r j)
+      Told (behind method steps) (request q i) (request r j)
   told method e steps q i r j x apart =
-      claim (opens method) zeros method 2 2 (1200 ∷ 30 ∷ []) e steps (request q i) (request r j) (record {
+      let y = claim (opens method) zeros method 2 2 (1200 ∷ 30 ∷ []) e steps (request q i) (request r j) (record {
         client = q;
         target = i;
         client′ = r;
@@ -30,15 +38,16 @@ module _ (claim : Swaps play) where
         one = x .one;
         other = x .other;
         apart = apart;
-      })
+      }) in
+      ((y .sooner, y .later), (y .tables, y .behind))
 
-  pub told-set-enter : Swapped play (behind 2 enterAndSet) (request 1 1) (request 0 16)
+  pub told-set-enter : Told (behind 2 enterAndSet) (request 1 1) (request 0 16)
   told-set-enter = told 2 (examples .by-B) enterAndSet 1 1 0 16 (examples .set-enter .accepted) (λ e. omega arith)
 
-  pub told-get-log-set : Swapped play (behind 3 getLogAndSet) (request 0 16) (request 1 0)
+  pub told-get-log-set : Told (behind 3 getLogAndSet) (request 0 16) (request 1 0)
   told-get-log-set = told 3 (examples .by-C) getLogAndSet 0 16 1 0 (examples .get-log-set .accepted) (λ e. omega arith)
 
-  pub told-two-sets : Swapped play (behind 2 twoSets) (request 1 0) (request 1 1)
+  pub told-two-sets : Told (behind 2 twoSets) (request 1 0) (request 1 1)
   told-two-sets = told 2 (examples .by-B) twoSets 1 0 1 1 (examples .two-sets .accepted) (λ e. omega arith)
 
 -- two accepted requests of different clients, at any targets

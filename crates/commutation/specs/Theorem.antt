@@ -6,8 +6,8 @@ use Rattle.tables.specs.Tables.{Tables}
 use Rattle.rules.specs.declared.Answer.the-variants.{Ok}
 use Rattle.keeping.specs.Opening.{opened-sound}
 use Rattle.soundness.specs.Facts.{Sound}
-use Rattle.serial.specs.Steps.{Step, opening, beginning-write, beginning-read, request, reply, losing, resending, requested, play}
-use Rattle.serial.specs.Former.{MixedStep, today, former-opening, former-write, former-read, mixed}
+use Rattle.claim.specs.Steps.{Step, opening, beginning-write, beginning-read, request, reply, losing, resending, requested, play}
+use Rattle.claim.specs.Former.{MixedStep, today, former-opening, former-write, former-read, mixed}
 use Rattle.serial.proofs.Openings.{play-starts, mixed-starts}
 use Rattle.serial.proofs.Theorem.{play-fair, mixed-fair}
 use Rattle.commutation.specs.Claim.{Swaps}

@@ -2,4 +2,6 @@ pub mod Log
 pub mod LogLaws
 pub mod Latest
 pub mod LatestLaws
+pub mod Tags
+pub mod TagsLaws
 pub mod Cards

@@ -2,8 +2,8 @@
 -- entry.
 use Prim.Native.Nat.{ℕ, _+_, _*_, _/_, _%_}
 use mathlib.Core.List.{List, _++_}
-use mathlib.Core.Bool.{Bool, cond}
-use lib.Dec.{eqb}
+use mathlib.Core.Bool.{Bool, cond, not, _&&_, _||_}
+use lib.Dec.{eqb, leb}
 use lib.ListN.{getD}
 use Rattle.ranges.specs.Laid.{built}
 use Rattle.frame_table.specs.Table.{hasBadges, entryPlace, ownerPlace, badgePlace, numberPlace, entryFields}
@@ -29,3 +29,7 @@ entryValue badged keys badges numbers j =
 abbrev pub valuesBy : List ℕ → List ℕ → List ℕ → List ℕ → ℕ → List ℕ
 valuesBy fixed keys badges numbers entries =
     fixed ++ built (entryValue (hasBadges (getD fixed 0 0)) keys badges numbers) (entryFields * entries)
+
+-- as many places for keys and for numbers as there are entries, and for badges where the kind's entries have them, which is kind 10
+abbrev pub enough : ℕ → ℕ → ℕ → ℕ → ℕ → Bool
+enough kind entries keys badges numbers = leb entries keys && (leb entries numbers && (not (hasBadges kind) || leb entries badges))

@@ -1,6 +1,5 @@
 -- The format of frames. Grammar, Format and Entries say what is right, in document 01's words; the rest follows from them.
 pub mod Grammar
-pub mod Table
 pub mod Format
 pub mod Entries
 pub mod RoundTrip

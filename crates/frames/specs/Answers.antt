@@ -7,7 +7,7 @@ use native.Mathlib.Omega.{arith}
 use lib.Dec.{eqb, leb}
 use lib.ListN.{length, getD, drop}
 use lib.Seq.{getD-take}
-use borrow.Author.Tests.{lt-leb, le-leb, eq-eqb, ne-eqb}
+use borrow.Author.Tests.{le-leb, eq-eqb, ne-eqb}
 use Rattle.ranges.specs.Tests.{by-test, both-right}
 use Rattle.ranges.specs.Laid.{laid}
 use Rattle.ranges.specs.LaidLaws.{built-same, laid-none}
@@ -17,13 +17,13 @@ use Rattle.formats.specs.Grammar.{Outcome, got, fault, good, frame}
 use Rattle.formats.specs.RoundTrip.{read-good}
 use Rattle.frame_table.specs.Table.{mostEntries, fixedFields, entriesSaid, hasBadges}
 use Rattle.formats.specs.Format.{format}
-use Rattle.formats.specs.Entries.{keyIn, badgeIn, numberIn, valuesBy}
-use Rattle.frame_table.specs.Columns.{Places, Packable}
-use Rattle.frame_table.specs.Entry.{Keyed, behindOf, badge-none, badge-some}
+use Rattle.formats.specs.Entries.{keyIn, badgeIn, numberIn, valuesBy, enough}
+use Rattle.frame_table.specs.Columns.{Packable}
+use Rattle.frame_table.specs.Entry.{Keyed, behindOf}
 use Rattle.formats.specs.Reading.{scanOf, Got, scan-got, fault-some}
 use Rattle.format_writing.specs.Writing.{wroteOf, bytesAfter}
 use Rattle.formats.specs.Walk.{entries-few}
-use Rattle.formats.specs.Found.{entriesBit, keyAt, badgeAt, numberAt, Unpackable, key-found, badge-found, number-found, found-keyed}
+use Rattle.formats.specs.Found.{entriesBit, keyAt, badgeAt, numberAt, key-found, badge-found, number-found, found-keyed}
 use Rattle.formats.specs.Found.{found-unpackable}
 use Rattle.frames.specs.declared.Message.{Message}
 use Rattle.frames.specs.declared.Reading.{Reading}
@@ -34,36 +34,17 @@ use Rattle.frames.specs.Messages.{entriesOf, fixedOf, messageOf}
 use Rattle.frames.specs.MessageLaws.{Narrow, messageBy}
 use Rattle.frames.specs.Entries.{valuesOf}
 use Rattle.frames.specs.Good.{is-narrow, message-kept, kind-back, entries-back}
-use Rattle.frames.specs.Frames.{enough, hasPlaces, writable, frameOf, fits, writtenOf, bytesWritten, readingOf, keysRead}
+use Rattle.frame_entries.specs.Storable.{Storable, are-enough}
+use Rattle.frames.specs.Frames.{hasPlaces, writable, frameOf, fits, writtenOf, bytesWritten, readingOf, keysRead}
 use Rattle.frames.specs.Frames.{badgesRead, numbersRead, found}
-use Rattle.frames.specs.RoundTrip.{fixed-length, said, are-enough}
+use Rattle.frames.specs.RoundTrip.{fixed-length, said}
 
 -- ---- definitions
 
 abbrev pub writtenBy : Wrote → Written
 writtenBy w = cond (eqb (w .fault) 0) (Length (w .length)) (Refused (w .fault))
 
--- What storing asks: a kind that has entries, so many of them in the bytes, and places for them.
-pub record Storable (kind : ℕ) (bytes : List ℕ) (entries keys badges numbers : ℕ) : Type 0 where
-  pub held : Unpackable bytes (entriesBit kind) (behindOf kind) entries
-  pub places : Places kind entries keys badges numbers
-
 -- ---- the cases, as the code meets them
-
-module _ (kind entries keys badges numbers : ℕ) where
-  pub enough-keys : keys < entries → false ≡ enough kind entries keys badges numbers
-  enough-keys h = rw (lt-leb entries keys h)
-
-  module _ (h : entries ≤ keys) where
-    pub enough-numbers : numbers < entries → false ≡ enough kind entries keys badges numbers
-    enough-numbers l = rw (le-leb entries keys h, lt-leb entries numbers l)
-
-    module _ (l : entries ≤ numbers) where
-      pub enough-plain : hasBadges kind ≡ false → true ≡ enough kind entries keys badges numbers
-      enough-plain e = rw (le-leb entries keys h, le-leb entries numbers l, e)
-
-      pub enough-badges : hasBadges kind ≡ true → leb entries badges ≡ enough kind entries keys badges numbers
-      enough-badges e = rw (le-leb entries keys h, le-leb entries numbers l, e)
 
 -- no entries need no places
 enough-none : (kind keys badges numbers : ℕ) → enough kind 0 keys badges numbers ≡ true
@@ -73,17 +54,6 @@ enough-none kind keys badges numbers =
     go : (b : Bool) → (not b || true) ≡ true
     go true = refl
     go false = refl
-
--- what storing leaves of the badges: a kind that has none has no bits for them
-module _ (kind : ℕ) {width : ℕ} (e : width ≡ behindOf kind .badge) (new old : List ℕ) where
-  pub badges-alone : width ≡ 0 → old ≡ cond (hasBadges kind) new old
-  badges-alone z =
-      by-test (hasBadges kind)
-      (λ t. let f : ⊥ = omega (arith, badge-some kind t) in absurd f)
-      (λ t. rw t)
-
-  pub badges-stored : (width ≡ 0 → ⊥) → new ≡ cond (hasBadges kind) new old
-  badges-stored d = by-test (hasBadges kind) (λ t. rw t) (λ t. absurd (d (e ∙ badge-none kind t)))
 
 -- ---- the writer's answer
 

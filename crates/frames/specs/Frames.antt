@@ -1,13 +1,13 @@
 -- What the reader and the writer of frames answer and leave. This is what their promises cite.
 use Prim.Native.Nat.{ℕ}
 use mathlib.Core.List.{List, _++_}
-use mathlib.Core.Bool.{Bool, cond, not, _&&_, _||_}
+use mathlib.Core.Bool.{Bool, cond, _&&_}
 use lib.Dec.{leb}
 use lib.ListN.{length, drop}
 use Rattle.formats.specs.Grammar.{Outcome, got, fault, read, good, frame}
 use Rattle.frame_table.specs.Table.{hasBadges}
 use Rattle.formats.specs.Format.{format}
-use Rattle.formats.specs.Entries.{keyIn, badgeIn, numberIn}
+use Rattle.formats.specs.Entries.{keyIn, badgeIn, numberIn, enough}
 use Rattle.frames.specs.declared.Message.{Message}
 use Rattle.frames.specs.declared.Reading.{Reading}
 use Rattle.frames.specs.declared.Reading.the-variants as reading
@@ -16,10 +16,6 @@ use Rattle.frames.specs.declared.Written.the-variants as written
 use Rattle.ranges.specs.Laid.{laid}
 use Rattle.frames.specs.Messages.{entriesOf, messageOf}
 use Rattle.frames.specs.Entries.{kindOf, valuesOf}
-
--- as many places for keys and for numbers as there are entries, and for badges where the kind's entries have them, which is kind 10
-abbrev pub enough : ℕ → ℕ → ℕ → ℕ → ℕ → Bool
-enough kind entries keys badges numbers = leb entries keys && (leb entries numbers && (not (hasBadges kind) || leb entries badges))
 
 -- the lent slices have a place for each entry of a message
 unfoldable pub hasPlaces : Message → List ℕ → List ℕ → List ℕ → Bool

@@ -5,10 +5,10 @@ use mathlib.Core.Path.{_≡_, refl, sym, ap, ap₂, _∙_}
 use mathlib.Core.Bool.{Bool, true, cond}
 use mathlib.Core.List.{List, _++_}
 use native.Mathlib.Omega.{arith}
-use lib.Dec.{leb, ltb}
+use lib.Dec.{ltb}
 use lib.ListN.{length, getD, take, drop, length-append, List·getD-append}
 use lib.Seq.{ext-getD, getD-append-add, getD-take}
-use borrow.Author.Tests.{leb-true, ltb-true, ltb-false}
+use borrow.Author.Tests.{ltb-true, ltb-false}
 use Rattle.ranges.specs.Tests.{by-test, both, both-left, both-right}
 use Rattle.fields.specs.BitLaws.{Bytes}
 use Rattle.formats.specs.Grammar.{Outcome, got, fault, good, frame}
@@ -16,7 +16,7 @@ use Rattle.formats.specs.RoundTrip as formats
 use Rattle.frame_table.specs.Table.{entriesIn, entriesSaid, sortAt, hasBadges, entryPlace, ownerPlace, badgePlace, numberPlace, fixedFields}
 use Rattle.frame_table.specs.Table.{entryFields, valuesFor}
 use Rattle.formats.specs.Format.{format}
-use Rattle.formats.specs.Entries.{keyIn, badgeIn, numberIn, entryValue}
+use Rattle.formats.specs.Entries.{keyIn, badgeIn, numberIn, entryValue, enough}
 use Rattle.formats.specs.EntryLaws.{part-count, part-client, part-badge, part-number}
 use Rattle.frame_table.specs.Columns.{Places}
 use Rattle.formats.specs.Walk.{values-length}
@@ -28,7 +28,8 @@ use Rattle.ranges.specs.LaidLaws.{built-length, built-at, built-same, built-tak
 use Rattle.frames.specs.Messages.{entriesOf, fixedOf, messageAt, messageOf}
 use Rattle.frames.specs.Entries.{kindOf, valuesOf}
 use Rattle.frames.specs.Good.{fixed-back, entries-back, kind-back, client-byte, no-badge}
-use Rattle.frames.specs.Frames.{enough, hasPlaces, writable, frameOf, readingOf, keysRead, badgesRead, numbersRead, found}
+use Rattle.frame_entries.specs.Storable.{are-enough}
+use Rattle.frames.specs.Frames.{hasPlaces, writable, frameOf, readingOf, keysRead, badgesRead, numbersRead, found}
 
 -- ---- from a message to its values and back
 
@@ -81,16 +82,6 @@ unfolding valuesOf
 values-many m keys badges numbers =
     length-append (fixedOf m) _
     ∙ ap₂ (λ (a b : ℕ). a + b) (fixed-length m) (built-length (valueOf m keys badges numbers) (entryFields * entriesOf m))
-
-pub are-enough : (kind entries keys badges numbers : ℕ) → enough kind entries keys badges numbers ≡ true
-    → Places kind entries keys badges numbers
-are-enough kind entries keys badges numbers e =
-    let r = both-right (leb entries keys) _ e in
-    record {
-      for-keys = leb-true _ _ (both-left _ _ e);
-      for-badges = λ h. leb-true _ _ (rw h at (both-right (leb entries numbers) _ r));
-      for-numbers = leb-true _ _ (both-left _ _ r);
-    }
 
 are-places : (m : Message) (keys badges numbers : List ℕ) → hasPlaces m keys badges numbers ≡ true
     → Places (kindOf m) (entriesOf m) (length keys) (length badges) (length numbers)

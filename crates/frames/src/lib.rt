@@ -5,9 +5,6 @@ use frame_table::ENTRY_FIELDS;
 use frame_table::FIXED_FIELDS;
 use frame_table::MOST_ENTRIES;
 use keys::Key;
-
-pub mod entries; // entries.rt: places for the entries, and from bytes to these
-
 ghost use mathlib.Core.Path.{_≡_};
 ghost use Prim.Native.Nat.{_-_};
 ghost use Rattle.formats.specs.Entries.{valuesBy};
@@ -352,10 +349,10 @@ fn deliver(
         return Reading::Read(message);
     }
     let kind = fixed[0];
-    if !entries::enough_places(kind, entries, keys.len(), badges.len(), numbers.len()) {
+    if !frame_entries::enough_places(kind, entries, keys.len(), badges.len(), numbers.len()) {
         return Reading::Refused(12);
     }
-    entries::store(kind, bytes, keys, badges, numbers, entries);
+    frame_entries::store(kind, bytes, keys, badges, numbers, entries);
     Reading::Read(message)
 }
 
@@ -429,7 +426,7 @@ pub fn write_frame(
         return send(&fixed, keys, badges, numbers, entries, bytes);
     }
     let kind = fixed[0];
-    if !entries::enough_places(kind, entries, keys.len(), badges.len(), numbers.len()) {
+    if !frame_entries::enough_places(kind, entries, keys.len(), badges.len(), numbers.len()) {
         return Written::Refused(11);
     }
     if MOST_ENTRIES < entries {

@@ -12,8 +12,8 @@ use Rattle.tables.specs.Tables.{Tables, clientsOf, writesOf, readsOf, stateOf, 
 use Rattle.rules.specs.declared.Answer.the-variants.{Ok, Refused}
 use Rattle.soundness.specs.Sound.{isWriting, isReading}
 use Rattle.listing.specs.Register.{isFinished, read, lineWords}
-use Rattle.serial.specs.Steps.{Event, opened, begun-write, begun-read, requested, replied, lost, resent, Played, Machine, leftBy}
-use Rattle.serial.specs.History.{BehindOpenings}
+use Rattle.claim.specs.Steps.{Event, opened, begun-write, begun-read, requested, replied, lost, resent, Played, Machine, leftBy}
+use Rattle.claim.specs.History.{BehindOpenings}
 
 -- A transaction, by the place of its record, is in progress where a client is at it: its state is of that kind, and that is its record.
 abbrev pub atWork : (ℕ → Bool) → Tables → ℕ → Bool

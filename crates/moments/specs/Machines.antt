@@ -8,8 +8,8 @@ use Rattle.ranges.specs.Each.{Each, each-map}
 use Rattle.tables.specs.Tables.{Tables, stepOf, writesOf, readsOf}
 use Rattle.rules.specs.declared.Answer.the-variants.{Ok, Refused}
 use Rattle.soundness.specs.Facts.{Sound}
-use Rattle.serial.specs.Steps.{Event, opened, begun-write, begun-read, requested, replied, lost, resent, Machine, run, leftBy}
-use Rattle.serial.specs.History.{History, openedWith}
+use Rattle.claim.specs.Steps.{Event, opened, begun-write, begun-read, requested, replied, lost, resent, Machine, run, leftBy}
+use Rattle.claim.specs.History.{History, openedWith}
 use Rattle.serial.proofs.Openings.{Starts}
 use Rattle.moments.specs.Claim.{with′, momentsOf, ByMoments}
 use Rattle.moments.specs.Sorts.{Sort, writes, reads}

@@ -18,11 +18,11 @@ use Rattle.refusals.specs.Either.{by-refusal, by-refusal-arrived}
 use Rattle.soundness.specs.Facts.{Sound}
 use Rattle.keeping.specs.Accepted.{Openable, writable, readable, as-formerly, deliverable, target-below}
 use Rattle.keeping.specs.Opening.{opened-words, opened-sound}
-use Rattle.serial.specs.Steps.{Step, opening, beginning-write, beginning-read, request, reply, losing, resending, Event, play}
-use Rattle.serial.specs.Steps.{begun-write, begun-read, requested, replied, lost, resent}
-use Rattle.serial.specs.Steps as event
-use Rattle.serial.specs.History.{openedWith}
-use Rattle.serial.specs.Former.{mixed}
+use Rattle.claim.specs.Steps.{Step, opening, beginning-write, beginning-read, request, reply, losing, resending, Event, play}
+use Rattle.claim.specs.Steps.{begun-write, begun-read, requested, replied, lost, resent}
+use Rattle.claim.specs.Steps as event
+use Rattle.claim.specs.History.{openedWith}
+use Rattle.claim.specs.Former.{mixed}
 use Rattle.serial.proofs.Openings.{play-starts, mixed-starts}
 use Rattle.serial.proofs.Mixed.{by-rules}
 use Rattle.serial.proofs.Theorem.{play-fair, mixed-fair}

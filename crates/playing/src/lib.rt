@@ -7,6 +7,7 @@ ghost use Rattle.tables.specs.Tables.{Tables, tablesOf, methodOf};
 ghost use Rattle.rules.specs.Answers.{left, arrived};
 ghost use Rattle.soundness.specs.Facts.{Sound};
 ghost use Rattle.refusals.specs.Steps.{deliverReply};
+ghost use Rattle.schedule.specs.Steps.{setpointsMost, stepOf, stored};
 ghost use Rattle.printing.specs.Printed.{Printed};
 ghost use Rattle.printing.specs.Sizes.{answerMost};
 ghost use Rattle.playing.specs.Played.{answerWord, arrivalWord, showing, noted, plainly, leftPlayed, arrivedPlayed, maskOrZero, played, playedLine, shownText, LinePlayed};
@@ -342,7 +343,7 @@ pub fn play_step(
     )
 }
 
-// One line of a schedule: the step that it names.
+// One line of a schedule: the step that it names. The place that is lent for its setpoints holds them then.
 fn play_named(
     counts: &mut [u32],
     clients: &mut [u32],
@@ -353,13 +354,15 @@ fn play_named(
     writes: &mut [u32],
     reads: &mut [u32],
     line: &[u8],
+    setpoints: &mut [u32],
 ) -> Shown
     requires { ⌜ Playable (tablesOf (now counts) (now clients) (now links) (now keys) (now values) (now log) (now writes) (now reads)) ⌝ }
+    requires { ⌜ setpointsMost ≤ length (now setpoints) ⌝ }
     ensures { λ r. ⌜ showing r (tablesOf (now (counts .exit)) (now (clients .exit)) (now (links .exit)) (now (keys .exit)) (now (values .exit)) (now (log .exit)) (now (writes .exit)) (now (reads .exit)))
         ≡ playedLine (now (line .entry)) (tablesOf (now (counts .entry)) (now (clients .entry)) (now (links .entry)) (now (keys .entry)) (now (values .entry)) (now (log .entry)) (now (writes .entry)) (now (reads .entry))) ⌝ }
+    ensures { λ _. ⌜ now (setpoints .exit) ≡ stored (stepOf (now (line .entry)) .setpoints) (now (setpoints .entry)) ⌝ }
 {
-    let mut setpoints = [0u32; schedule::SETPOINTS];
-    let reading = schedule::read_step(line, &mut setpoints);
+    let reading = schedule::read_step(line, setpoints);
     let step = reading.step;
     let given = reading.setpoints;
     play_step(
@@ -376,15 +379,18 @@ fn play_named(
     )
 }
 
-// The answer of a line, in print.
+// The answer of a line, in print. Only where servers are shown are their rows looked at.
 fn print_shown(number: u64, shown: Shown, out: &mut [u8], at: usize) -> usize
     requires { ⌜ at + answerMost ≤ length (now out) ⌝ }
     ensures { λ r. ⌜ Printed (now (out .entry)) at (shownText number shown) r (now (out .exit)) × (r ≤ at + answerMost) ⌝ }
 {
+    let word = shown.word;
+    if !printing::shows_servers(word) {
+        return printing::print_plain_answer(number, word, out, at);
+    }
     let setpoints = shown.setpoints;
     let tags = shown.tags;
     let badges = shown.badges;
-    let word = shown.word;
     printing::print_answer(
         number,
         word,
@@ -397,7 +403,8 @@ fn print_shown(number: u64, shown: Shown, out: &mut [u8], at: usize) -> usize
     )
 }
 
-// One line of a schedule: its step, and its answer behind what is printed so far. It answers where the print ends then.
+// One line of a schedule: its step, and its answer behind what is printed so far. It answers where the print ends then. The place that is
+// lent for the line's setpoints holds them then; what it held before is of no account.
 pub fn play_line(
     counts: &mut [u32],
     clients: &mut [u32],
@@ -409,12 +416,15 @@ pub fn play_line(
     reads: &mut [u32],
     number: u64,
     line: &[u8],
+    setpoints: &mut [u32],
     out: &mut [u8],
     at: usize,
 ) -> usize
     requires { ⌜ Playable (tablesOf (now counts) (now clients) (now links) (now keys) (now values) (now log) (now writes) (now reads)) ⌝ }
+    requires { ⌜ setpointsMost ≤ length (now setpoints) ⌝ }
     requires { ⌜ at + answerMost ≤ length (now out) ⌝ }
     ensures { λ r. ⌜ LinePlayed number (now (line .entry)) (tablesOf (now (counts .entry)) (now (clients .entry)) (now (links .entry)) (now (keys .entry)) (now (values .entry)) (now (log .entry)) (now (writes .entry)) (now (reads .entry))) (now (out .entry)) at r (now (out .exit)) (tablesOf (now (counts .exit)) (now (clients .exit)) (now (links .exit)) (now (keys .exit)) (now (values .exit)) (now (log .exit)) (now (writes .exit)) (now (reads .exit))) ⌝ }
+    ensures { λ _. ⌜ now (setpoints .exit) ≡ stored (stepOf (now (line .entry)) .setpoints) (now (setpoints .entry)) ⌝ }
 {
     let shown = play_named(
         counts,
@@ -426,6 +436,7 @@ pub fn play_line(
         writes,
         reads,
         line,
+        setpoints,
     );
     print_shown(number, shown, out, at)
 }

@@ -1,4 +1,5 @@
 // What the programs print: answers, the register's lines, and steps as the lines of a schedule, into lent space.
+ghost use mathlib.Core.Path.{_≡_};
 ghost use Prim.Native.Nat.{_+_, _*_, _≤_, _<_};
 ghost use mathlib.Core.List.{[], _∷_, _++_};
 ghost use lib.ListN.{length};
@@ -6,6 +7,8 @@ ghost use Rattle.schedule.specs.Decimal.{decimal, spacedAll};
 ghost use Rattle.printing.specs.Texts.{marked, spaced, serverText, maskedText, serversBelow, wordText, answerText};
 ghost use Rattle.printing.specs.Texts.{endText, writeText, readText, rowText};
 ghost use Rattle.printing.specs.Printed.{Printed};
+ghost use Rattle.printing.specs.Digits.{lastDigits};
+ghost use Rattle.printing.specs.Plain.{showsServers, plainText, plainAnswer, plainRoom, plainMost};
 ghost use Rattle.printing.specs.Sizes.{markedMost, serverMost, shownMost, wordMost, answerMost};
 ghost use Rattle.printing.specs.Sizes.{rowMost, recordMost};
 ghost use Rattle.printing.specs.StepTexts.{stepLine, refusalText, stepMost, refusalMost};
@@ -28,16 +31,75 @@ fn put_byte(byte: u8, out: &mut [u8], at: usize) -> usize
     at + 1
 }
 
-// A number in decimal: the digits before the last one are printed first.
-pub fn print_decimal(number: u64, out: &mut [u8], at: usize) -> usize
-    requires { ⌜ at + length (decimal number) ≤ length (now out) ⌝ }
+// Two digits.
+fn put_two(number: u64, out: &mut [u8], at: usize) -> usize
+    requires { ⌜ (number < 100) × (at + 2 ≤ length (now out)) ⌝ }
+    ensures { λ r. ⌜ Printed (now (out .entry)) at (lastDigits 2 number) r (now (out .exit)) ⌝ }
+{
+    let next = put_byte(48 + (number / 10) as u8, out, at);
+    put_byte(48 + (number % 10) as u8, out, next)
+}
+
+// Four digits, with zeros in front.
+fn put_four(number: u64, out: &mut [u8], at: usize) -> usize
+    requires { ⌜ (number < 10000) × (at + 4 ≤ length (now out)) ⌝ }
+    ensures { λ r. ⌜ Printed (now (out .entry)) at (lastDigits 4 number) r (now (out .exit)) ⌝ }
+{
+    let next = put_two(number / 100, out, at);
+    put_two(number % 100, out, next)
+}
+
+// A number of at most four digits.
+fn print_short(number: u64, out: &mut [u8], at: usize) -> usize
+    requires { ⌜ (number < 10000) × (at + length (decimal number) ≤ length (now out)) ⌝ }
     ensures { λ r. ⌜ Printed (now (out .entry)) at (decimal number) r (now (out .exit)) ⌝ }
 {
     if number < 10 {
         return put_byte(48 + number as u8, out, at);
     }
-    let next = print_decimal(number / 10, out, at);
-    put_byte(48 + (number % 10) as u8, out, next)
+    if number < 100 {
+        return put_two(number, out, at);
+    }
+    if number < 1000 {
+        let next = put_byte(48 + (number / 100) as u8, out, at);
+        return put_two(number % 100, out, next);
+    }
+    put_four(number, out, at)
+}
+
+// A number of any length: the digits before the last four are printed first.
+fn print_long(number: u64, out: &mut [u8], at: usize) -> usize
+    requires { ⌜ at + length (decimal number) ≤ length (now out) ⌝ }
+    ensures { λ r. ⌜ Printed (now (out .entry)) at (decimal number) r (now (out .exit)) ⌝ }
+{
+    if number < 10000 {
+        return print_short(number, out, at);
+    }
+    let next = print_long(number / 10000, out, at);
+    put_four(number % 10000, out, next)
+}
+
+// A number of at most eight digits, with no call of itself: most numbers are such, and so take one call.
+fn print_middle(number: u64, out: &mut [u8], at: usize) -> usize
+    requires { ⌜ (number < 100000000) × (at + length (decimal number) ≤ length (now out)) ⌝ }
+    ensures { λ r. ⌜ Printed (now (out .entry)) at (decimal number) r (now (out .exit)) ⌝ }
+{
+    if number < 10000 {
+        return print_short(number, out, at);
+    }
+    let next = print_short(number / 10000, out, at);
+    put_four(number % 10000, out, next)
+}
+
+// A number in decimal.
+pub fn print_decimal(number: u64, out: &mut [u8], at: usize) -> usize
+    requires { ⌜ at + length (decimal number) ≤ length (now out) ⌝ }
+    ensures { λ r. ⌜ Printed (now (out .entry)) at (decimal number) r (now (out .exit)) ⌝ }
+{
+    if number < 100000000 {
+        return print_middle(number, out, at);
+    }
+    print_long(number, out, at)
 }
 
 // Some bytes.
@@ -166,26 +228,6 @@ fn print_tagged(text: &[u8], tag: u32, out: &mut [u8], at: usize) -> usize
     print_spaced(tag, out, next)
 }
 
-// A READ's tag, and what it shows.
-fn print_read(
-    tag: u32,
-    mask: u32,
-    setpoints: &[u32],
-    tags: &[u32],
-    badges: &[u32],
-    out: &mut [u8],
-    at: usize,
-) -> usize
-    requires { ⌜ (16 ≤ length (now setpoints)) × ((16 ≤ length (now tags)) × (16 ≤ length (now badges))) ⌝ }
-    requires { ⌜ at + wordMost ≤ length (now out) ⌝ }
-    ensures { λ r. ⌜ Printed (now (out .entry)) at
-        (wordText (Word.Read tag) mask (now (setpoints .entry)) (now (tags .entry)) (now (badges .entry))) r (now (out .exit))
-        × (r ≤ at + wordMost) ⌝ }
-{
-    let next = print_tagged(b" read", tag, out, at);
-    print_servers(mask, setpoints, tags, badges, out, next)
-}
-
 // What a step answers, in the words that are printed.
 pub enum Word {
     Ok,
@@ -197,6 +239,35 @@ pub enum Word {
     Read(u32),
     // refused, with the number
     No(u32),
+}
+
+// Whether an answer shows servers: a READ's alone does.
+pub fn shows_servers(word: Word) -> bool
+    ensures { λ r. ⌜ r ≡ showsServers word ⌝ }
+{
+    match word {
+        Word::Ok => false,
+        Word::Wait => false,
+        Word::Next => false,
+        Word::Write(_) => false,
+        Word::Read(_) => true,
+        Word::No(_) => false,
+    }
+}
+
+// The answer behind the line's number, without the servers that it shows.
+fn print_plain(word: Word, out: &mut [u8], at: usize) -> usize
+    requires { ⌜ at + plainRoom ≤ length (now out) ⌝ }
+    ensures { λ r. ⌜ Printed (now (out .entry)) at (plainText word) r (now (out .exit)) × (r ≤ at + plainMost word) ⌝ }
+{
+    match word {
+        Word::Ok => print_bytes(b" ok", out, at),
+        Word::Wait => print_bytes(b" wait", out, at),
+        Word::Next => print_bytes(b" next", out, at),
+        Word::Write(tag) => print_tagged(b" write", tag, out, at),
+        Word::Read(tag) => print_tagged(b" read", tag, out, at),
+        Word::No(number) => print_tagged(b" no", number, out, at),
+    }
 }
 
 // The answer behind the line's number.
@@ -215,14 +286,11 @@ fn print_word(
         (wordText word mask (now (setpoints .entry)) (now (tags .entry)) (now (badges .entry))) r (now (out .exit))
         × (r ≤ at + wordMost) ⌝ }
 {
-    match word {
-        Word::Ok => print_bytes(b" ok", out, at),
-        Word::Wait => print_bytes(b" wait", out, at),
-        Word::Next => print_bytes(b" next", out, at),
-        Word::Write(tag) => print_tagged(b" write", tag, out, at),
-        Word::Read(tag) => print_read(tag, mask, setpoints, tags, badges, out, at),
-        Word::No(number) => print_tagged(b" no", number, out, at),
+    let next = print_plain(word, out, at);
+    if shows_servers(word) {
+        return print_servers(mask, setpoints, tags, badges, out, next);
     }
+    next
 }
 
 // The line that answers the line of a number. Mask, setpoints, tags and badges count for a READ alone.
@@ -244,6 +312,16 @@ pub fn print_answer(
 {
     let behind = print_decimal(number, out, at);
     let next = print_word(word, mask, setpoints, tags, badges, out, behind);
+    put_byte(b'\n', out, next)
+}
+
+// The same where the answer shows no servers: mask and rows are not asked for.
+pub fn print_plain_answer(number: u64, word: Word, out: &mut [u8], at: usize) -> usize
+    requires { ⌜ at + answerMost ≤ length (now out) ⌝ }
+    ensures { λ r. ⌜ Printed (now (out .entry)) at (plainAnswer number word) r (now (out .exit)) × (r ≤ at + answerMost) ⌝ }
+{
+    let behind = print_decimal(number, out, at);
+    let next = print_plain(word, out, behind);
     put_byte(b'\n', out, next)
 }
 

@@ -1,7 +1,7 @@
 -- Laws of all and any.
 use Prim.Native.Nat.{ℕ, zero, suc, _+_, _≤_, _<_}
-use mathlib.Core.Path.{_≡_, refl, sym}
-use mathlib.Core.Bool.{Bool, true, false, not, true≢false, and-true, or-true, or-false}
+use mathlib.Core.Path.{_≡_, refl, sym, _∙_}
+use mathlib.Core.Bool.{Bool, true, false, not, _&&_, true≢false, and-true, or-true, or-false}
 use native.Mathlib.Omega.{arith}
 use native.Mathlib.Numerals.{add-one}
 use Rattle.ranges.specs.Tests.{by-equal, by-test, not-both, both, both-left, both-right, fails, holds}
@@ -92,6 +92,28 @@ module _ (p : ℕ → Bool) (i : ℕ) where
   -- and one that looks for a number that passes found none
   pub any-end : {n : ℕ} → i ≤ n → n ≤ i → anyBelow p i ≡ false → false ≡ anyBelow p n
   any-end {n} h g a = let e : i ≡ n = omega arith in rw (← e) (sym a)
+
+-- A loop without an exit: what it has noted so far is whether the numbers below i pass, r what the test answered at i, and fit′ what is noted
+-- behind it.
+module _ (p : ℕ → Bool) (i : ℕ) {r fit′ : Bool} where
+  pub noted-fails : r ≡ p i → not r ≡ true → fit′ ≡ false → fit′ ≡ allBelow p (i + 1)
+  noted-fails d e f = f ∙ sym (all-not p (i + 1) i (omega arith) (fails d e))
+
+  pub noted-passes : {fit : Bool} → fit ≡ allBelow p i → r ≡ p i → not r ≡ false → fit′ ≡ fit → fit′ ≡ allBelow p (i + 1)
+  noted-passes a d e f = f ∙ a ∙ sym (all-past p i (holds d e))
+
+-- two tests in one
+and-swap : (a b c d : Bool) → ((a && b) && (c && d)) ≡ ((a && c) && (b && d))
+and-swap true true c d = refl
+and-swap true false true d = refl
+and-swap true false false d = refl
+and-swap false b c d = refl
+
+module _ (p q : ℕ → Bool) where
+  pub all-both : (n : ℕ) → allBelow (λ i. p i && q i) n ≡ (allBelow p n && allBelow q n)
+  unfolding allBelow
+  all-both zero = refl
+  all-both (suc n) = rw (all-both n) (and-swap (allBelow p n) (allBelow q n) (p n) (q n))
 
 -- two tests that agree below n
 module _ (p q : ℕ → Bool) where

@@ -2,10 +2,16 @@
 use Prim.Native.Nat.{ℕ, zero, suc, _≤_, _<_}
 use mathlib.Core.Path.{_≡_, refl, _∙_}
 use mathlib.Core.Bool.{Bool, true, false, cond}
+use mathlib.Core.List.{List}
 use native.Mathlib.Omega.{arith}
+use lib.ListN.{set}
 use Rattle.ranges.specs.Tests.{either, by-equal, not-both}
 use Rattle.ranges.specs.Turns.{turns}
 use Rattle.ranges.specs.Picked.{picked}
+
+-- a turn that `laidOver` takes
+abbrev pub layWord : (ℕ → ℕ) → ℕ → List ℕ → List ℕ
+layWord word i row = set row i (word i)
 
 -- A state is read at a place by `get`. Turn i changes place i alone, to v i, where i is below `size` and the state has room; and it keeps the room.
 module _ {A B : Type 0} (get : A → ℕ → B) (put : ℕ → A → A) (v : ℕ → B) (Room : A → Type 0) (size : ℕ)

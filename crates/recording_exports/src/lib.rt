@@ -34,5 +34,5 @@ pub extern "C" fn recordings_compare(
     ensures { λ r. ⌜ r ≡ comparedNumber (compared (now (lengths .entry)) (now (bytes .entry))
         (now (lengths2 .entry)) (now (bytes2 .entry))) ⌝ }
 {
-    compared_number(recordings::compare(lengths, bytes, lengths2, bytes2))
+    compared_number(comparing::compare(lengths, bytes, lengths2, bytes2))
 }

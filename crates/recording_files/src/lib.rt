@@ -107,7 +107,7 @@ pub fn compare_files(file: &[u8], file2: &[u8]) -> Compared
     let n2 = read_lengths(file2, &mut lengths2);
     let at = bytes_place(file);
     let at2 = bytes_place(file2);
-    recordings::compare(&lengths[..n], &file[at..], &lengths2[..n2], &file2[at2..])
+    comparing::compare(&lengths[..n], &file[at..], &lengths2[..n2], &file2[at2..])
 }
 
 // One byte of print.

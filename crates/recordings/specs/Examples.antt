@@ -6,7 +6,7 @@ use mathlib.Core.List.{List, [], _∷_}
 use Rattle.recordings.specs.declared.Compared.the-variants.{Agree, Differ, Refused}
 use Rattle.fields.specs.Bits.{bitOf, bitAt, fieldAt}
 use Rattle.formats.specs.Grammar.{ahead, judged, ended, read}
-use Rattle.formats.specs.Table.{sortAt, bitsOf, leastOf, mostOf, entriesIn}
+use Rattle.frame_table.specs.Table.{sortAt, bitsOf, leastOf, mostOf, entriesIn}
 use Rattle.formats.specs.Format.{fieldOf, within, leftAfter, placeAfter, nextOf, entries, fixed, format}
 use Rattle.recordings.specs.Recording.{framesOf, total, broken, allReadable, wellMade, isOn}
 use Rattle.recordings.specs.Comparing.{framesOn, same, further, firstDifference, differenceOn, orElse, fromLink, compared}

@@ -13,7 +13,7 @@ use Rattle.ranges.specs.AllLaws.{all-at}
 use Rattle.fields.specs.Bits.{fieldAt}
 use Rattle.fields.specs.FieldLaws.{field-below}
 use Rattle.formats.specs.Grammar.{got, read}
-use Rattle.formats.specs.Table.{kinds, sortAt, bitsOf, mostOf, shapeOf}
+use Rattle.frame_table.specs.Table.{kinds, sortAt, bitsOf, mostOf, shapeOf}
 use Rattle.formats.specs.Format.{nextOf, start, placeAfter, fixed, format}
 use Rattle.formats.specs.FormatLaws.{at-most}
 use Rattle.formats.specs.RoundTrip.{field-got, read-good}

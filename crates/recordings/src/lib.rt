@@ -1,12 +1,12 @@
-// Two recordings of one wire, compared link by link. A recording is the lengths of its frames, and their bytes end to end.
-// Both are judged wholly first; then each link is followed through both at once, by two cursors, with no memory beyond these.
+// A recording of a wire: the lengths of its frames, and their bytes end to end. Whether it is well made, and its frames by link.
+// `comparing` compares two.
 ghost use mathlib.Core.Path.{_≡_};
 ghost use Prim.Native.Nat.{_+_, _≤_, _<_};
 ghost use lib.ListN.{length, getD};
-ghost use Rattle.recordings.specs.Recording.{framesOf, readable, wellMade};
-ghost use Rattle.recordings.specs.Comparing.{same, differenceOn, fromLink, links, compared};
+ghost use Rattle.recordings.specs.Recording.{readable, wellMade};
+ghost use Rattle.recordings.specs.Comparing.{same};
 ghost use Rattle.recordings.specs.ReadableLaws.{onBytes};
-ghost use Rattle.recordings.specs.Whole.{whole, frameAt, Standing, Reached, Here, Paired};
+ghost use Rattle.recordings.specs.Whole.{whole, frameAt, Standing, Reached, Here};
 
 // "up to 4,096 frames"
 pub const MOST_FRAMES: usize = 4096;
@@ -91,7 +91,14 @@ fn is_on(bytes: &[u8], at: usize, client: u8, target: u8) -> bool
 }
 
 // The next frame of a link, from a cursor on, or the recording's end.
-fn next_on(lengths: &[u32], bytes: &[u8], client: u8, target: u8, frame: usize, at: usize) -> Cursor
+pub fn next_on(
+    lengths: &[u32],
+    bytes: &[u8],
+    client: u8,
+    target: u8,
+    frame: usize,
+    at: usize,
+) -> Cursor
     requires { ⌜ Standing (now lengths) (now bytes) frame at ⌝ }
     ensures { λ r. ⌜ Reached (now (lengths .entry)) (now (bytes .entry)) client target frame at r ⌝ }
 {
@@ -131,7 +138,7 @@ fn is_same(a: &[u8], b: &[u8]) -> bool
 }
 
 // The frames at two cursors are equal.
-fn is_same_frame(
+pub fn is_same_frame(
     lengths: &[u32],
     bytes: &[u8],
     i: usize,
@@ -151,89 +158,18 @@ fn is_same_frame(
 }
 
 // The next frame of a link behind the one at a cursor.
-fn next_behind(lengths: &[u32], bytes: &[u8], client: u8, target: u8, i: usize, at: usize) -> Cursor
+pub fn next_behind(
+    lengths: &[u32],
+    bytes: &[u8],
+    client: u8,
+    target: u8,
+    i: usize,
+    at: usize,
+) -> Cursor
     requires { ⌜ Here (now lengths) (now bytes) i at ⌝ }
     ensures { λ r. ⌜ Reached (now (lengths .entry)) (now (bytes .entry)) client target (i + 1)
         (at + getD (now (lengths .entry)) i 0) r ⌝ }
 {
     let end = at + wide(lengths[i]);
     next_on(lengths, bytes, client, target, i + 1, end)
-}
-
-// The place of the first difference on a link: two cursors go from frame to frame of it, each in its recording.
-fn difference_on(
-    lengths: &[u32],
-    bytes: &[u8],
-    lengths2: &[u32],
-    bytes2: &[u8],
-    client: u8,
-    target: u8,
-) -> Place
-    requires { ⌜ Paired (now lengths) (now bytes) (now lengths2) (now bytes2) ⌝ }
-    ensures { λ r. ⌜ r ≡ differenceOn client target (framesOf (now (lengths .entry)) (now (bytes .entry)))
-        (framesOf (now (lengths2 .entry)) (now (bytes2 .entry))) ⌝ }
-{
-    let first = next_on(lengths, bytes, client, target, 0, 0);
-    let first2 = next_on(lengths2, bytes2, client, target, 0, 0);
-    let mut i = first.frame;
-    let mut at = first.at;
-    let mut i2 = first2.frame;
-    let mut at2 = first2.at;
-    let mut place: u32 = 0;
-    while i < lengths.len() {
-        if lengths2.len() <= i2 {
-            return Place::At(place);
-        }
-        if !is_same_frame(lengths, bytes, i, at, lengths2, bytes2, i2, at2) {
-            return Place::At(place);
-        }
-        let next = next_behind(lengths, bytes, client, target, i, at);
-        let next2 = next_behind(lengths2, bytes2, client, target, i2, at2);
-        i = next.frame;
-        at = next.at;
-        i2 = next2.frame;
-        at2 = next2.at;
-        place += 1;
-    }
-    if i2 < lengths2.len() {
-        return Place::At(place);
-    }
-    Place::Nowhere
-}
-
-// The first link that has a difference, by client, then by target.
-fn first_difference(lengths: &[u32], bytes: &[u8], lengths2: &[u32], bytes2: &[u8]) -> Compared
-    requires { ⌜ Paired (now lengths) (now bytes) (now lengths2) (now bytes2) ⌝ }
-    ensures { λ r. ⌜ r ≡ fromLink (framesOf (now (lengths .entry)) (now (bytes .entry)))
-        (framesOf (now (lengths2 .entry)) (now (bytes2 .entry))) links 0 ⌝ }
-{
-    let mut link: u32 = 0;
-    while link < LINKS {
-        let client = (link / TARGETS) as u8;
-        let target = (link % TARGETS) as u8;
-        let found = difference_on(lengths, bytes, lengths2, bytes2, client, target);
-        match found {
-            Place::At(place) => {
-                return Compared::Differ(client, target, place);
-            }
-            Place::Nowhere => {
-                link += 1;
-            }
-        }
-    }
-    Compared::Agree
-}
-
-// Two recordings compared. Nothing is written.
-pub fn compare(lengths: &[u32], bytes: &[u8], lengths2: &[u32], bytes2: &[u8]) -> Compared
-    ensures { λ r. ⌜ r ≡ compared (now (lengths .entry)) (now (bytes .entry))
-        (now (lengths2 .entry)) (now (bytes2 .entry)) ⌝ }
-{
-    if !is_well_made(lengths, bytes) {
-        return Compared::Refused(16);
-    }
-    if !is_well_made(lengths2, bytes2) {
-        return Compared::Refused(16);
-    }
-    first_difference(lengths, bytes, lengths2, bytes2)
 }

@@ -17,9 +17,9 @@ use Rattle.soundness.specs.Sound.{isWriting, isReading}
 use Rattle.soundness.specs.Facts.{Sound}
 use Rattle.listing.specs.Register.{hasTag, finishedBelow, write, read, readsOfTag, writesOfTag, listedTo, register}
 use Rattle.listing.specs.Changes.{places-one, ByBegin, by-begin-sorted}
-use Rattle.serial.specs.History.{Transaction, Doing, nothing, writing, tagged, reading, History}
-use Rattle.serial.specs.Row.{rowTo, row}
-use Rattle.serial.specs.Row as row′
+use Rattle.claim.specs.History.{Transaction, Doing, nothing, writing, tagged, reading, History}
+use Rattle.claim.specs.Row.{rowTo, row}
+use Rattle.claim.specs.Row as row′
 use Rattle.serial.proofs.Lists.{Pairs}
 use Rattle.register_order.specs.Order.{Particulars, ofRecord, described, numberAt, told}
 use Rattle.register_order.specs.Lists.{Both, both-of-tag}

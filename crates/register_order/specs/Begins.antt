@@ -28,9 +28,9 @@ use Rattle.keeping.specs.Begins.{begun-other, begun-more, begun-step}
 use Rattle.keeping.specs.BeginWrite.{begunWrite-kept}
 use Rattle.keeping.specs.BeginRead.{begunRead-kept}
 use Rattle.keeping.specs.Rows.{Put, put, putAll, lastPut, inRow, put-read}
-use Rattle.serial.specs.Steps.{begun-write, begun-read}
+use Rattle.claim.specs.Steps.{begun-write, begun-read}
 use Rattle.refusals.specs.Steps.{badgeOf}
-use Rattle.serial.specs.History.{writing, reading, History, begun, after}
+use Rattle.claim.specs.History.{writing, reading, History, begun, after}
 use Rattle.register_order.specs.Agreement.{at-rest, Agrees}
 use Rattle.register_order.specs.Machines.{Follows}
 use Rattle.register_order.specs.Grown.{more}

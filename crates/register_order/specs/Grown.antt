@@ -21,7 +21,7 @@ use Rattle.keeping.specs.Records.{begun-word, tagged-other}
 use Rattle.listing.specs.Register.{isFinished, beginIn, finishedBelow}
 use Rattle.listing.specs.Places.{each-passes, places-more}
 use Rattle.listing.specs.Changes.{places-same, places-added, ByBegin}
-use Rattle.serial.specs.History.{Transaction, Doing, nothing, writing, tagged, reading}
+use Rattle.claim.specs.History.{Transaction, Doing, nothing, writing, tagged, reading}
 use Rattle.serial.proofs.Lists.{pairs-append, pairs-at}
 use Rattle.register_order.specs.Order.{Particulars, ofRecord, numberAt, endNumber}
 use Rattle.register_order.specs.Lists.{Both, both-map, both-inserted}

@@ -12,7 +12,7 @@ use Rattle.tables.specs.declared.links.Contents.{Contents}
 use Rattle.tables.specs.declared.links.Content.the-variants.{Request, Reply}
 use Rattle.rules.specs.Common.{entering, coordinator}
 use Rattle.soundness.specs.Room.{client-fits}
-use Rattle.serial.specs.History.{History, writing, tagged}
+use Rattle.claim.specs.History.{History, writing, tagged}
 use Rattle.serial.proofs.Press.{Client, view, world}
 use Rattle.serial.proofs.Entries.{tag-found, tag-none}
 use Rattle.serial.proofs.Invariant.{own, AtHead, to-enter, has-entered, EnterLink, Entering, Activity, at-rest, at-writing, at-entering}

@@ -24,9 +24,9 @@ use Rattle.keeping.specs.Records.{open-client, begun-here, tagged-here, tagged-
 use Rattle.keeping.specs.Frame.{Kept}
 use Rattle.listing.specs.Register.{beginIn}
 use Rattle.listing.specs.Changes.{ByBegin, begins-on, begins-more}
-use Rattle.serial.specs.History.{valueWritten, valueShown, changed, Transaction, Doing, nothing, writing, tagged, reading, History}
-use Rattle.serial.specs.History.{historyOf, passed, turned, delivered, entered, missed, lostOf, repeated, marked, writeOf, readOf, given}
-use Rattle.serial.specs.History.{wrote, showed, ended}
+use Rattle.claim.specs.History.{valueWritten, valueShown, changed, Transaction, Doing, nothing, writing, tagged, reading, History}
+use Rattle.claim.specs.History.{historyOf, passed, turned, delivered, entered, missed, lostOf, repeated, marked, writeOf, readOf, given}
+use Rattle.claim.specs.History.{wrote, showed, ended}
 use Rattle.serial.proofs.Places.{changed-other, changed-all}
 use Rattle.register_order.specs.Order.{Particulars, particulars, ofRecord, numberAt}
 use Rattle.register_order.specs.Agreement.{Numbered, Tells, OneWrite, ofRead, ReadsTold, Untagged, Tagged, Reading, Activity, Agrees}

@@ -8,8 +8,8 @@ use Rattle.ranges.specs.Tests.{by-test}
 use Rattle.ranges.specs.Each.{Each}
 use Rattle.ranges.specs.Inserted.{inserted}
 use Rattle.listing.specs.Register.{passing}
-use Rattle.serial.specs.History.{Transaction}
-use Rattle.serial.specs.Row.{readsOf}
+use Rattle.claim.specs.History.{Transaction}
+use Rattle.claim.specs.Row.{readsOf}
 use Rattle.register_order.specs.Order.{Particulars}
 
 abbrev pub Both : (ℕ → Transaction → Type 0) → List ℕ → List Transaction → Type 0

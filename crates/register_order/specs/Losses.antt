@@ -11,8 +11,8 @@ use Rattle.rules.specs.Loss.{onLoss, linkLost, sentBy, onResend, linkResent}
 use Rattle.keeping.specs.Accepted.{Deliverable}
 use Rattle.keeping.specs.Frame.{Kept}
 use Rattle.keeping.specs.Losses.{linkLost-kept, linkResent-kept}
-use Rattle.serial.specs.Steps.{lost, resent}
-use Rattle.serial.specs.History.{History}
+use Rattle.claim.specs.Steps.{lost, resent}
+use Rattle.claim.specs.History.{History}
 use Rattle.register_order.specs.Agreement.{Agrees}
 use Rattle.register_order.specs.Machines.{Follows}
 use Rattle.register_order.specs.Laws.{passed-agrees}

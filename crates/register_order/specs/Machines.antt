@@ -4,9 +4,9 @@ use mathlib.Core.Path.{_≡_, subst}
 use mathlib.Core.List.{List, [], _∷_}
 use Rattle.tables.specs.Tables.{Tables, stepOf}
 use Rattle.listing.specs.Register.{register}
-use Rattle.serial.specs.Steps.{Event, Played, Machine, run, leftBy}
-use Rattle.serial.specs.History.{History, openedWith, after, history, BehindOpenings}
-use Rattle.serial.specs.Consequences.{accepted}
+use Rattle.claim.specs.Steps.{Event, Played, Machine, run, leftBy}
+use Rattle.claim.specs.History.{History, openedWith, after, history, BehindOpenings}
+use Rattle.claim.specs.Consequences.{accepted}
 use Rattle.serial.proofs.Openings.{Starts}
 use Rattle.serial.proofs.Fair.{Standing}
 use Rattle.serial.proofs.Machines as fair

@@ -9,10 +9,10 @@ use Rattle.tables.specs.Layout.{recordWord, clientOfRecord, numberOfRecord, tag
 use Rattle.tables.specs.Tables.{Tables}
 use Rattle.rules.specs.declared.Answer.the-variants.{Ok, Refused}
 use Rattle.listing.specs.Register.{Line, write, read}
-use Rattle.serial.specs.Steps.{Event, opened, begun-write, begun-read, requested, replied, lost, resent, Played, Machine, leftBy}
-use Rattle.serial.specs.History.{Transaction, history, BehindOpenings}
-use Rattle.serial.specs.Row.{row}
-use Rattle.serial.specs.Consequences.{accepted}
+use Rattle.claim.specs.Steps.{Event, opened, begun-write, begun-read, requested, replied, lost, resent, Played, Machine, leftBy}
+use Rattle.claim.specs.History.{Transaction, history, BehindOpenings}
+use Rattle.claim.specs.Row.{row}
+use Rattle.claim.specs.Consequences.{accepted}
 
 -- "each WRITE's panel, count, tag, begin and end step; each READ's panel, mask, tag, begin, end": what the register and the row both say of a transaction.
 -- A WRITE's mask is in no line of the register and its count in no answer, so its mask is left as 0; an end that is not yet is 0.

@@ -8,14 +8,14 @@ use lib.ListN.{length, getD, drop}
 use Rattle.ranges.specs.Sum.{one}
 use Rattle.tables.specs.Tables.{Tables}
 use Rattle.listing.specs.Register.{Line}
-use Rattle.serial.specs.Steps.{Step, Played, Machine, run, leftBy}
-use Rattle.serial.specs.History.{openedWith, history}
-use Rattle.serial.specs.Row.{row}
-use Rattle.serial.specs.Sample.{zeros}
-use Rattle.serial.specs.WrongStores.{first}
-use Rattle.serial.specs.Broken.{opens, Accepted}
-use Rattle.serial.specs.Decided.{Test, always, never, meaning, both, equal, Stated, among, InPlace, all-stated, first-broken}
-use Rattle.serial.specs.Decided as decided
+use Rattle.claim.specs.Steps.{Step, Played, Machine, run, leftBy}
+use Rattle.claim.specs.History.{openedWith, history}
+use Rattle.claim.specs.Row.{row}
+use Rattle.claim.specs.Sample.{zeros}
+use Rattle.claim.specs.WrongStores.{first}
+use Rattle.claim.specs.Broken.{opens, Accepted}
+use Rattle.claim.specs.Decided.{Test, always, never, meaning, both, equal, Stated, among, InPlace, all-stated, first-broken}
+use Rattle.claim.specs.Decided as decided
 use Rattle.register_order.specs.Order.{Particulars, described, told, stepNumbers, SameOrder}
 
 -- how many there are, and of each its particulars

@@ -15,8 +15,8 @@ use Rattle.rules.specs.declared.Answer.the-variants.{Ok}
 use Rattle.rules.specs.Request.{answeredBy}
 use Rattle.keeping.specs.Frame.{Kept}
 use Rattle.keeping.specs.Moves.{counted-other, counted-step, counted-length}
-use Rattle.serial.specs.Steps.{requested, lost, resent}
-use Rattle.serial.specs.History.{History, delivered, entered, missed, repeated, marked, atCoordinator}
+use Rattle.claim.specs.Steps.{requested, lost, resent}
+use Rattle.claim.specs.History.{History, delivered, entered, missed, repeated, marked, atCoordinator}
 use Rattle.register_order.specs.Agreement.{Agrees}
 use Rattle.register_order.specs.Machines.{Follows}
 use Rattle.register_order.specs.Grown.{more, GoesOn, goes-same}

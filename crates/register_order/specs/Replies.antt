@@ -34,8 +34,8 @@ use Rattle.keeping.specs.States.{by-state, entering-target, entered-tag, masked
 use Rattle.keeping.specs.Moves.{counted-other, counted-step}
 use Rattle.keeping.specs.Came.{Came, asks, used}
 use Rattle.keeping.specs.Replies.{replyDelivered-kept}
-use Rattle.serial.specs.Steps.{replied}
-use Rattle.serial.specs.History.{Doing, nothing, writing, tagged, reading, History, delivered, wrote, showed, marked}
+use Rattle.claim.specs.Steps.{replied}
+use Rattle.claim.specs.History.{Doing, nothing, writing, tagged, reading, History, delivered, wrote, showed, marked}
 use Rattle.serial.proofs.Fair.{Standing}
 use Rattle.register_order.specs.Agreement.{Activity, Agrees}
 use Rattle.register_order.specs.Machines.{Follows}

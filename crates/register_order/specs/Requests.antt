@@ -33,8 +33,8 @@ use Rattle.keeping.specs.Links.{link-asks, request-kind}
 use Rattle.keeping.specs.States.{by-state, entering-target, masked-server, uses-writing}
 use Rattle.keeping.specs.Moves.{counted-other, counted-step, counted-length}
 use Rattle.keeping.specs.Requests.{requestDelivered-kept}
-use Rattle.serial.specs.Steps.{requested}
-use Rattle.serial.specs.History.{Doing, nothing, writing, tagged, reading, History, given, atCoordinator}
+use Rattle.claim.specs.Steps.{requested}
+use Rattle.claim.specs.History.{Doing, nothing, writing, tagged, reading, History, given, atCoordinator}
 use Rattle.serial.proofs.Fair.{Standing}
 use Rattle.register_order.specs.Agreement.{Activity, Agrees}
 use Rattle.register_order.specs.Machines.{Follows}

@@ -20,10 +20,10 @@ use Rattle.refusals.specs.Refusals.{openRefusal, writeRefusal, readRefusal, del
 use Rattle.refusals.specs.Steps as store
 use Rattle.listing.specs.Register.{placesBelow, passing, insertedAll, listedTo, register}
 use Rattle.listing.specs.Sample as listing
-use Rattle.serial.specs.Steps.{Played, play, run, leftBy}
-use Rattle.serial.specs.History.{changed, openedWith, history}
-use Rattle.serial.specs.Row.{readsOf, rowTo, row}
-use Rattle.serial.specs.Sample.{zeros, start, sample}
+use Rattle.claim.specs.Steps.{Played, play, run, leftBy}
+use Rattle.claim.specs.History.{changed, openedWith, history}
+use Rattle.claim.specs.Row.{readsOf, rowTo, row}
+use Rattle.claim.specs.Sample.{zeros, start, sample}
 use Rattle.register_order.specs.Order.{Particulars, particulars, described, told, stepNumbers}
 
 abbrev played : List Played

@@ -20,11 +20,11 @@ use Rattle.keeping.specs.Accepted.{Openable, openable, writable, readable, as-f
 use Rattle.keeping.specs.Opening.{Opened, opened-words, opened-sound}
 use Rattle.listing.specs.Register.{isFinished, register}
 use Rattle.listing.specs.Places.{places-none}
-use Rattle.serial.specs.Steps.{Step, opening, beginning-write, beginning-read, request, reply, losing, resending, Event, begun-write}
-use Rattle.serial.specs.Steps.{begun-read, play}
-use Rattle.serial.specs.Steps as event
-use Rattle.serial.specs.History.{History, openedWith}
-use Rattle.serial.specs.Former.{mixed}
+use Rattle.claim.specs.Steps.{Step, opening, beginning-write, beginning-read, request, reply, losing, resending, Event, begun-write}
+use Rattle.claim.specs.Steps.{begun-read, play}
+use Rattle.claim.specs.Steps as event
+use Rattle.claim.specs.History.{History, openedWith}
+use Rattle.claim.specs.Former.{mixed}
 use Rattle.serial.proofs.Openings.{play-starts, mixed-starts}
 use Rattle.serial.proofs.Mixed.{by-rules}
 use Rattle.serial.proofs.Fair.{Standing}

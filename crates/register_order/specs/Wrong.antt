@@ -23,13 +23,13 @@ use Rattle.soundness.specs.Sound.{readSound, openSound, recordsSound, sound}
 use Rattle.refusals.specs.Refusals.{openRefusal, writeRefusal, readRefusal, deliveryRefusal}
 use Rattle.refusals.specs.Steps.{open′, beginWrite, beginRead, deliverRequest, deliverReply, lose, resend}
 use Rattle.listing.specs.Register.{placesBelow, passing, insertedAll, listedTo, register}
-use Rattle.serial.specs.Steps.{opened, play}
-use Rattle.serial.specs.History.{changed}
-use Rattle.serial.specs.Row as row
-use Rattle.serial.specs.Sample.{zeros, laterFirst}
-use Rattle.serial.specs.WrongStores.{first, enteringTwice}
-use Rattle.serial.specs.Wrong.{thenReadByB, thenReadByC, twoReads, replyLess, requestOnly, overtaken, lossyByB}
-use Rattle.serial.specs.Wrong.{enteredAgain, enteredBetween}
+use Rattle.claim.specs.Steps.{opened, play}
+use Rattle.claim.specs.History.{changed}
+use Rattle.claim.specs.Row as row
+use Rattle.claim.specs.Sample.{zeros, laterFirst}
+use Rattle.claim.specs.WrongStores.{first, enteringTwice}
+use Rattle.claim.specs.Wrong.{thenReadByB, thenReadByC, twoReads, replyLess, requestOnly, overtaken, lossyByB}
+use Rattle.claim.specs.Wrong.{enteredAgain, enteredBetween}
 use Rattle.register_order.specs.Parts as part
 use Rattle.register_order.specs.Parts.{lines, rowed, Differs, Computed, differs}
 use Rattle.register_order.specs.Parts.{Part}

@@ -9,7 +9,7 @@ use Rattle.rules.specs.declared.Arrival.the-variants.{Wait, Next, Write, Read, 
 use Rattle.refusals.specs.Steps.{deliverReply}
 use Rattle.listing.specs.Register.{placesBelow, passing, insertedAll, isFinished, finishedBelow, hasTag, Line, write, read}
 use Rattle.listing.specs.Register.{writesOfTag, readsOfTag, register}
-use Rattle.serial.specs.Steps.{Step, opening, beginning-write, beginning-read, request, reply, losing, resending, Machine, play}
+use Rattle.claim.specs.Steps.{Step, opening, beginning-write, beginning-read, request, reply, losing, resending, Machine, play}
 
 -- ---- wrong listings
 

@@ -4,6 +4,7 @@ use mathlib.Core.Path.{_≡_, refl, sym, _∙_, ap}
 use mathlib.Core.Bool.{Bool, true, false, cond}
 use mathlib.Core.List.{List}
 use native.Mathlib.Omega.{arith}
+use lib.ListN.{replicate}
 use borrow.Author.Tests.{eq-eqb, ne-eqb}
 use Rattle.keys.specs.Keys.{keyOf}
 use Rattle.tables.specs.Layout.{putClientWord, stateField, tagField, setpointsField, tagsField, badgesField}
@@ -14,14 +15,16 @@ use Rattle.tables.specs.declared.links.Content.{Content}
 use Rattle.tables.specs.declared.links.Content.the-variants.{Nothing, Request, Reply, Lost}
 use Rattle.tables.specs.declared.links.Link.{Link}
 use Rattle.rules.specs.declared.Arrival.{Arrival}
-use Rattle.rules.specs.declared.Arrival.the-variants.{Wait, Next, Write, Refused}
+use Rattle.rules.specs.declared.Arrival.the-variants.{Wait, Next, Write, Read, Refused}
 use Rattle.rules.specs.declared.Delivered.{Delivered}
 use Rattle.rules.specs.WordsLaws.{shown-other}
 use Rattle.rules.specs.Answers.{Arrived, arrived, nothingShown}
 use Rattle.rules.specs.Common.{idle, writing, entering, askingKeys, askingSetpoints, coordinator, request, pending, endedRecord, taggedRecord}
 use Rattle.rules.specs.Begin.{sentGets, keptAsking}
-use Rattle.rules.specs.Reply.{said, emptied, onSetDone, onEntered, onKeys, gotValue, onGot, gotNumber, onAll}
+use Rattle.rules.specs.Reply.{said, emptied, onSetDone, onEntered, onKeys, gotValue, onGot, gotNumber, tagChosen, concluded, onAll}
 use Rattle.rules.specs.Reply.{onReplyIn, onReply, replyDelivered}
+use Rattle.replies.specs.declared.Outcome.{Outcome}
+use Rattle.replies.specs.Shown.{plainly, Shows, plain-shows, ended-shows}
 use Rattle.replies.specs.Ready.{Settled, rowShown, FinishedByC}
 
 -- s is what `settle` left, b whether a link is pending then
@@ -75,16 +78,36 @@ module _ (q i : ℕ) (t : Tables) {step : ℕ} {counts links : List ℕ} (s : Se
 
     -- state 5; the number is put
     module _ (w : Contents) {clients : List ℕ} (g : clients ≡ gotNumber w q i t) where
-      pub all-waits : {d : Delivered} → b ≡ true → d ≡ nothingShown Wait →
-          arrived d (tablesOf counts clients links (t .keys) (t .values) (t .log) (t .writes) (t .reads)) ≡ onAll w q i t
+      pub all-waits : (tags : List ℕ) {o : Outcome} → b ≡ true → o ≡ plainly Wait → tags ≡ replicate 16 0 →
+          Shows (onAll w q i t) o tags q (tablesOf counts clients links (t .keys) (t .values) (t .log) (t .writes) (t .reads))
       unfolding onAll
-      all-waits e f = rw (is-pending e, f, g, s .counted′, s .emptied)
+      all-waits tags e f z = plain-shows tags q f z (rw (is-pending e, g, s .counted′, s .emptied))
 
-      pub all-ends : {d : Delivered} {clients′ reads : List ℕ} {mask place k : ℕ} → b ≡ false → mask ≡ maskOf t q → place ≡ recordOf t q → k ≡ serversOf t →
-          FinishedByC clients (t .keys) (t .values) (t .log) (t .reads) q mask k place step d clients′ reads →
-          arrived d (tablesOf counts clients′ links (t .keys) (t .values) (t .log) (t .writes) reads) ≡ onAll w q i t
+      -- the state is no part of what is shown
+      pub all-ends : {tags clients′ reads : List ℕ} {mask place k tag : ℕ} → b ≡ false → mask ≡ maskOf t q → place ≡ recordOf t q →
+          k ≡ serversOf t →
+          FinishedByC clients (t .keys) (t .values) (t .log) (t .reads) q mask k place step tag tags clients′ reads →
+          Shows (onAll w q i t) (record { arrival = Read tag; ended = true; mask = mask }) tags q
+          (tablesOf counts clients′ links (t .keys) (t .values) (t .log) (t .writes) reads)
       unfolding onAll
-      all-ends e m p′ h f = rw (is-pending e, f .shown, f .idled, f .recorded, g, m, p′, h, s .stepped, s .counted′, s .emptied)
+      all-ends {tags} {mask = mask} {tag = tag} e m p′ h f =
+          let row = concluded (tagChosen (gotNumber w q i t) q t) (gotNumber w q i t) q t in
+          ended-shows tags q (Read tag) mask (rw (
+            is-pending e,
+            f .chosen,
+            f .shown,
+            f .idled,
+            f .recorded,
+            g,
+            m,
+            p′,
+            h,
+            shown-other setpointsField row q stateField idle (maskOf t q) (omega arith) (omega arith),
+            shown-other badgesField row q stateField idle (maskOf t q) (omega arith) (omega arith),
+            s .stepped,
+            s .counted′,
+            s .emptied,
+          ))
 
   -- state 2
   pub write-ends : (w : Contents) {a : Arrival} {clients writes : List ℕ} {place : ℕ} → a ≡ Write (w .number) → place ≡ recordOf t q →
@@ -149,10 +172,6 @@ module _ (q i : ℕ) (t : Tables) {l : Link} (d : l ≡ linkAt (t .links) q i) w
 
 -- the answer as the code puts it together; d is what it shows, t the tables that are left
 module _ {d : Delivered} {t : Tables} {x : Arrived} where
-  -- an answer that shows nothing
-  pub by-arrival : {a : Arrival} → d ≡ nothingShown a → said a t ≡ x → arrived d t ≡ x
-  by-arrival e f = rw e f
-
   -- state 4; b is whether the client still waits
   module _ (b : Bool) (shown : Delivered) (f : arrived (cond b (nothingShown Wait) shown) t ≡ x) where
     pub by-waiting : b ≡ true → d ≡ nothingShown Wait → arrived d t ≡ x

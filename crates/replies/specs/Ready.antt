@@ -12,9 +12,9 @@ use Rattle.rules.specs.declared.Delivered.{Delivered}
 use Rattle.rules.specs.Common.{counted, idle, writing, entering, askingKeys, askingSetpoints, pending, coordinator, endedRecord, taggedRecord}
 use Rattle.rules.specs.Choice.{qualifies, chosenTag, chosenSetpoint, chosenBadge}
 use Rattle.rules.specs.Reply.{shownTags, readShown, receivedIn, putReceived, tagFrom, concludedRow, chosenTags}
-use Rattle.choice.specs.Ready.{ChoiceReady}
+use Rattle.choice.specs.Ready.{ChoiceReady, Choosable}
 use Rattle.rules.specs.Filled.{Fillable}
-use Rattle.ranges.specs.LastLaws.{last-below, last-passes}
+use Rattle.rules.specs.Waiting.{KindsFit}
 use mathlib.Core.Bool.{Bool, true, false}
 
 -- what `settle` leaves
@@ -46,10 +46,11 @@ pub record GotReady (clients records : List ℕ) (q : ℕ) : Type 0 where
 abbrev pub rowShown : ℕ → List ℕ → ℕ → ℕ → Delivered
 rowShown tag clients q mask = readShown tag (shownTags clients q mask) clients q mask
 
--- what the end of a READ leaves whose client has the row and shows the tags
+-- what the end of a READ leaves whose client has the row: the tag chosen, the tags beside what is shown, the client idle, the record ended
 pub record Finished
-    (row reads : List ℕ) (q mask place tag : ℕ) (tags : List ℕ) (step : ℕ) (d : Delivered) (clients′ reads′ : List ℕ) : Type 0 where
-  pub shown : d ≡ readShown tag tags row q mask
+    (row reads : List ℕ) (q place tag : ℕ) (tags : List ℕ) (step tag′ : ℕ) (tags′ clients′ reads′ : List ℕ) : Type 0 where
+  pub chosen : tag′ ≡ tag
+  pub shown : tags′ ≡ tags
   pub idled : clients′ ≡ putClientWord row q stateField idle
   pub recorded : reads′ ≡ endedRecord place step (taggedRecord place tag reads)
 
@@ -63,31 +64,30 @@ pub record Concludable (clients keys log reads : List ℕ) (q mask k place : ℕ
   pub opening : qualifies keys log mask (receivedIn clients q) k 0 ≡ true
 
 -- what `finish_by_c` leaves
-abbrev pub FinishedByC : List ℕ → List ℕ → List ℕ → List ℕ → List ℕ → ℕ → ℕ → ℕ → ℕ → ℕ → Delivered → List ℕ → List ℕ → Type 0
-FinishedByC clients keys values log reads q mask k place step d clients′ reads′ =
+abbrev pub FinishedByC :
+    List ℕ → List ℕ → List ℕ → List ℕ → List ℕ → ℕ → ℕ → ℕ → ℕ → ℕ → ℕ → List ℕ → List ℕ → List ℕ → Type 0
+FinishedByC clients keys values log reads q mask k place step tag′ tags′ clients′ reads′ =
     let tag = tagFrom clients keys log q mask k in
     let setpoint = chosenSetpoint keys values log (receivedIn clients q) tag in
     let badge = chosenBadge keys values log (receivedIn clients q) tag in
     let row = concludedRow setpoint badge tag q mask k clients in
-    Finished row reads q mask place tag (chosenTags log mask k tag) step d clients′ reads′
+    Finished row reads q place tag (chosenTags log mask k tag) step tag′ tags′ clients′ reads′
 
--- the tag chosen is below the entries received, and it qualifies
-module _ (clients keys log : List ℕ) (q mask k : ℕ) (some : 0 < receivedIn clients q coordinator) where
-  pub tag-below : tagFrom clients keys log q mask k < receivedIn clients q coordinator
-  tag-below = last-below (qualifies keys log mask (receivedIn clients q) k) (receivedIn clients q coordinator) some
+-- what C's choice relies on, and the tag that it finds; n is what was read of the row
+module _ (clients keys log : List ℕ) (q mask k : ℕ) {n : ℕ} (e : n ≡ receivedIn clients q coordinator) where
+  pub choosable : {reads : List ℕ} {place : ℕ} → Concludable clients keys log reads q mask k place → Choosable clients keys log q mask k n
+  choosable c =
+      record { some = rw e (c .some); few = rw e (c .entries); logged = rw e (c .logged); opening = c .opening }
 
-  pub tag-qualifies : qualifies keys log mask (receivedIn clients q) k 0 ≡ true → qualifies keys log mask (receivedIn clients q) k (tagFrom clients keys log q mask k) ≡ true
-  tag-qualifies e = last-passes (qualifies keys log mask (receivedIn clients q) k) (receivedIn clients q coordinator) 0 some e
-
-  -- the tag as the code finds it: n is what was read of the row
-  pub tag-is : {n tag : ℕ} → n ≡ receivedIn clients q coordinator → tag ≡ chosenTag keys log mask (receivedIn clients q) k n → tag ≡ tagFrom clients keys log q mask k
-  tag-is e d = d ∙ rw e
+  pub tag-is : {tag : ℕ} → tag ≡ chosenTag keys log mask (receivedIn clients q) k n → tag ≡ tagFrom clients keys log q mask k
+  tag-is d = d ∙ rw e
 
 -- a reply to C: where it is the last, the choice is ready
 pub record AllReady (counts clients links keys values log reads : List ℕ) (q i number : ℕ) : Type 0 where
   pub row : HasRow clientWidth clients q
   pub target : i < targets
   pub linked : HasLinks links q
+  pub kinds : KindsFit links q
   pub last : pending (putLink links q i Nothing) q ≡ false →
       (ChoiceReady (putReceived clients q i number) keys values q (countAt counts serversField)
       × Concludable (putReceived clients q i number) keys log reads q (clientWord clients q maskField) (countAt counts serversField) (clientWord clients q recordField))
@@ -112,4 +112,5 @@ pub record ReplyReady (counts clients links keys values log writes reads : List 
   pub fillable : Fillable counts links q i
   pub row : HasRow clientWidth clients q
   pub linked : HasLinks links q
+  pub kinds : KindsFit links q
   pub brings : (w : Contents) → linkAt links q i .content ≡ Reply w → Brings counts clients links keys values log writes reads q i (w .number)

@@ -7,14 +7,17 @@ ghost use Rattle.tables.specs.Rows.{HasRow};
 ghost use Rattle.tables.specs.Layout.{clientWidth, recordWidth, stateField, countField, maskField, tagField, putClientWord, clientWord};
 ghost use Rattle.tables.specs.Links.{HasLinks, putLink};
 ghost use Rattle.keys.specs.Keys.{keyOf};
-ghost use mathlib.Core.Bool.{cond};
+ghost use mathlib.Core.Bool.{true, cond};
 ghost use Rattle.rules.specs.declared.Arrival.the-variants.{Wait};
 ghost use Rattle.rules.specs.Answers.{arrived, nothingShown};
 ghost use Rattle.rules.specs.Common.{idle, entering, coordinator, request, endedRecord, taggedRecord};
 ghost use Rattle.rules.specs.Reply.{onSetDone, onEntered, onKeys, onGot, onAll};
+ghost use lib.ListN.{replicate};
+ghost use Rattle.replies.specs.Shown.{plainly, shownBy, Shows};
 ghost use Rattle.replies.specs.Ready.{Settled, CountFits, GotReady, KeysReady, rowShown, Concludable, FinishedByC, AllReady};
 ghost use Rattle.choice.specs.Ready.{ChoiceReady};
 ghost use Rattle.rules.specs.Filled.{Fillable};
+ghost use Rattle.rules.specs.Waiting.{KindsFit};
 use keys::Key;
 use rules::Arrival;
 use rules::Delivered;
@@ -25,6 +28,25 @@ use tables::counts;
 use tables::links;
 use tables::links::Contents;
 use tables::records;
+
+// What a delivered reply answers. Where a READ has ended, the answer shows the words of these servers that the client's row has; the tags
+// beside them are in a row that is lent. So nothing is built for a reply that shows nothing, and what is shown is written where it goes.
+pub struct Outcome {
+    pub arrival: Arrival,
+    pub ended: bool,
+    pub mask: u32,
+}
+
+// An answer that shows nothing.
+pub fn plain(arrival: Arrival) -> Outcome
+    ensures { λ r. ⌜ r ≡ plainly arrival ⌝ }
+{
+    Outcome {
+        arrival: arrival,
+        ended: false,
+        mask: 0,
+    }
+}
 
 // The link holds nothing now, and the step counts. The answer is the step's number.
 fn settle(counts: &mut [u32], links: &mut [u32], client: usize, target: usize) -> u32
@@ -64,14 +86,14 @@ pub fn set_done(
 ) -> Arrival
     requires { ⌜ Fillable (now counts) (now links) client target ⌝ }
     requires { ⌜ CountFits (now clients) client ⌝ }
-    requires { ⌜ HasLinks (now links) client ⌝ }
+    requires { ⌜ HasLinks (now links) client × KindsFit (now links) client ⌝ }
     ensures { λ r. ⌜ ((keys values log writes reads : List ℕ) →
         arrived (nothingShown r) (tablesOf (now (counts .exit)) (now (clients .exit)) (now (links .exit)) keys values log writes reads)
         ≡ onSetDone client target
         (tablesOf (now (counts .entry)) (now (clients .entry)) (now (links .entry)) keys values log writes reads)) ⌝ }
 {
     settle(counts, links, client, target);
-    if rules::is_pending(&*links, client) {
+    if rules::is_waiting(&*links, client) {
         return Arrival::Wait;
     }
     send_entry(clients, links, client);
@@ -163,7 +185,7 @@ pub fn got(
     contents: Contents,
 ) -> bool
     requires { ⌜ Fillable (now counts) (now links) client target ⌝ }
-    requires { ⌜ (HasLinks (now links) client) × (target < 16) ⌝ }
+    requires { ⌜ (HasLinks (now links) client) × KindsFit (now links) client × (target < 16) ⌝ }
     requires { ⌜ GotReady (now clients) (now reads) client ⌝ }
     ensures { λ r. ⌜ ((keys values log writes : List ℕ) →
         arrived (cond r (nothingShown Wait)
@@ -183,14 +205,15 @@ pub fn got(
         contents.number,
     );
     clients::put_client_word(clients, client, clients::BADGES + target, contents.badge);
-    if rules::is_pending(&*links, client) {
+    if rules::is_waiting(&*links, client) {
         return true;
     }
     finish(clients, reads, client, place, tag, step);
     false
 }
 
-// A READ ends under C: the tag is chosen, setpoints and badges at it are kept, and the READ finishes, showing the tags that they come from.
+// A READ ends under C: the tag is chosen, setpoints and badges at it are kept, and the READ finishes. A row that was 0 gets the tags that
+// they come from. The answer is the tag chosen.
 fn finish_by_c(
     clients: &mut [u32],
     keys: &[u32],
@@ -202,26 +225,16 @@ fn finish_by_c(
     servers: usize,
     place: u32,
     step: u32,
-) -> Delivered
+    tags: &mut [u32; 16],
+) -> u32
     requires { ⌜ ChoiceReady (now clients) (now keys) (now values) client servers ⌝ }
     requires { ⌜ Concludable (now clients) (now keys) (now log) (now reads) client mask servers place ⌝ }
+    requires { ⌜ now tags ≡ replicate 16 0 ⌝ }
     ensures { λ r. ⌜ FinishedByC (now (clients .entry)) (now (keys .entry)) (now (values .entry)) (now (log .entry)) (now (reads .entry))
-        client mask servers place step r (now (clients .exit)) (now (reads .exit)) ⌝ }
+        client mask servers place step r (now (tags .exit)) (now (clients .exit)) (now (reads .exit)) ⌝ }
 {
     let entries = clients::client_word(clients, client, clients::RECEIVED + links::COORDINATOR);
-    let tag = choice::chosen_tag(
-        &*clients,
-        keys,
-        log,
-        client,
-        mask,
-        servers,
-        entries as usize,
-    ) as u32;
-    let mut setpoints = [0u32; 16];
-    let mut tags = [0u32; 16];
-    let mut badges = [0u32; 16];
-    choice::conclude(
+    let tag = choice::conclude(
         clients,
         keys,
         values,
@@ -229,18 +242,11 @@ fn finish_by_c(
         client,
         mask,
         servers,
-        tag,
-        &mut tags,
+        entries as usize,
+        tags,
     );
-    words::show_words(&*clients, client, clients::SETPOINTS, mask, &mut setpoints);
-    words::show_words(&*clients, client, clients::BADGES, mask, &mut badges);
     finish(clients, reads, client, place, tag, step);
-    Delivered {
-        arrival: Arrival::Read(tag),
-        setpoints: setpoints,
-        tags: tags,
-        badges: badges,
-    }
+    tag
 }
 
 // State 5: an n has come; when all replies are in, the READ ends.
@@ -255,22 +261,28 @@ pub fn all_told(
     client: usize,
     target: usize,
     contents: Contents,
-) -> Delivered
+    tags: &mut [u32; 16],
+) -> Outcome
     requires { ⌜ Fillable (now counts) (now links) client target ⌝ }
     requires { ⌜ AllReady (now counts) (now clients) (now links) (now keys) (now values) (now log) (now reads) client target (contents .number) ⌝ }
+    requires { ⌜ now tags ≡ replicate 16 0 ⌝ }
     ensures { λ r. ⌜ ((writes : List ℕ) →
-        arrived r (tablesOf (now (counts .exit)) (now (clients .exit)) (now (links .exit)) (now (keys .entry)) (now (values .entry)) (now (log .entry)) writes (now (reads .exit)))
-        ≡ onAll contents client target (tablesOf (now (counts .entry)) (now (clients .entry)) (now (links .entry)) (now (keys .entry)) (now (values .entry)) (now (log .entry)) writes (now (reads .entry)))) ⌝ }
+        Shows (onAll contents client target
+        (tablesOf (now (counts .entry)) (now (clients .entry)) (now (links .entry)) (now (keys .entry)) (now (values .entry))
+        (now (log .entry)) writes (now (reads .entry))))
+        r (now (tags .exit)) client
+        (tablesOf (now (counts .exit)) (now (clients .exit)) (now (links .exit)) (now (keys .entry)) (now (values .entry))
+        (now (log .entry)) writes (now (reads .exit)))) ⌝ }
 {
     let servers = counts::count_at(counts, counts::SERVERS);
     let mask = clients::client_word(clients, client, clients::MASK);
     let place = clients::client_word(clients, client, clients::RECORD);
     let step = settle(counts, links, client, target);
     clients::put_client_word(clients, client, clients::RECEIVED + target, contents.number);
-    if rules::is_pending(&*links, client) {
-        return rules::showing_nothing(Arrival::Wait);
+    if rules::is_waiting(&*links, client) {
+        return plain(Arrival::Wait);
     }
-    finish_by_c(
+    let tag = finish_by_c(
         clients,
         keys,
         values,
@@ -281,5 +293,38 @@ pub fn all_told(
         servers as usize,
         place,
         step,
-    )
+        tags,
+    );
+    Outcome {
+        arrival: Arrival::Read(tag),
+        ended: true,
+        mask: mask,
+    }
+}
+
+// The answer to a delivered reply, with what it shows of the client's row and the tags beside it.
+pub fn shown(clients: &[u32], client: usize, outcome: Outcome, tags: [u32; 16]) -> Delivered
+    requires { ⌜ (outcome .ended ≡ true → HasRow clientWidth (now clients) client) ⌝ }
+    ensures { λ r. ⌜ r ≡ shownBy outcome tags (now (clients .entry)) client ⌝ }
+{
+    let arrival = outcome.arrival;
+    if !outcome.ended {
+        return rules::showing_nothing(arrival);
+    }
+    let mut setpoints = [0u32; 16];
+    let mut badges = [0u32; 16];
+    words::show_words(
+        clients,
+        client,
+        clients::SETPOINTS,
+        outcome.mask,
+        &mut setpoints,
+    );
+    words::show_words(clients, client, clients::BADGES, outcome.mask, &mut badges);
+    Delivered {
+        arrival: arrival,
+        setpoints: setpoints,
+        tags: tags,
+        badges: badges,
+    }
 }

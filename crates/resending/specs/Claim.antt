@@ -10,8 +10,8 @@ use Rattle.tables.specs.declared.links.Content.{Content}
 use Rattle.tables.specs.declared.links.Content.the-variants.{Nothing}
 use Rattle.rules.specs.declared.Answer.{Answer}
 use Rattle.rules.specs.declared.Answer.the-variants.{Ok, Refused}
-use Rattle.serial.specs.Steps.{Event, opened, begun-write, begun-read, requested, replied, lost, resent, Played, Machine}
-use Rattle.serial.specs.History.{BehindOpenings}
+use Rattle.claim.specs.Steps.{Event, opened, begun-write, begun-read, requested, replied, lost, resent, Played, Machine}
+use Rattle.claim.specs.History.{BehindOpenings}
 
 -- What a link was first sent since it last held nothing: what it holds behind the step that found it empty. A transaction sends to a target
 -- once, or, of a WRITE or of a READ by B, once to its stations and once to the head, each on a link that is empty then.

@@ -12,8 +12,8 @@ use Rattle.rules.specs.declared.Answer.{Answer}
 use Rattle.rules.specs.declared.Answer.the-variants.{Ok, Refused}
 use Rattle.rules.specs.Loss.{sentBy}
 use Rattle.soundness.specs.Facts.{Sound}
-use Rattle.serial.specs.Steps.{Event, opened, begun-write, begun-read, requested, replied, lost, resent, Played, Machine, run}
-use Rattle.serial.specs.History.{History, openedWith}
+use Rattle.claim.specs.Steps.{Event, opened, begun-write, begun-read, requested, replied, lost, resent, Played, Machine, run}
+use Rattle.claim.specs.History.{History, openedWith}
 use Rattle.serial.proofs.Openings.{Starts}
 use Rattle.resending.specs.Claim.{sentAfter, Again, RepeatsAt, Repeats, SendsAgain}
 use Rattle.resending.specs.Carried.{Carried}

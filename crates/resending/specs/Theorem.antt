@@ -35,11 +35,11 @@ use Rattle.keeping.specs.BeginRead.{begunRead-kept}
 use Rattle.keeping.specs.Requests.{requestDelivered-kept}
 use Rattle.keeping.specs.Replies.{replyDelivered-kept}
 use Rattle.keeping.specs.Losses.{linkLost-kept, linkResent-kept}
-use Rattle.serial.specs.Steps.{Step, opening, beginning-write, beginning-read, request, reply, losing, resending, Event, Played, play}
-use Rattle.serial.specs.Steps.{begun-write, begun-read, requested, replied, lost, resent}
-use Rattle.serial.specs.Steps as event
-use Rattle.serial.specs.History.{openedWith}
-use Rattle.serial.specs.Former.{mixed}
+use Rattle.claim.specs.Steps.{Step, opening, beginning-write, beginning-read, request, reply, losing, resending, Event, Played, play}
+use Rattle.claim.specs.Steps.{begun-write, begun-read, requested, replied, lost, resent}
+use Rattle.claim.specs.Steps as event
+use Rattle.claim.specs.History.{openedWith}
+use Rattle.claim.specs.Former.{mixed}
 use Rattle.serial.proofs.Openings.{play-starts, mixed-starts}
 use Rattle.serial.proofs.Mixed.{by-rules}
 use Rattle.resending.specs.Claim.{SendsAgain}

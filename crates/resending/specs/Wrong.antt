@@ -28,8 +28,8 @@ use Rattle.soundness.specs.Sound.{openSound, recordsSound, sound}
 use Rattle.refusals.specs.Refusals.{openRefusal, writeRefusal, readRefusal, deliveryRefusal}
 use Rattle.refusals.specs.Steps as store
 use Rattle.refusals.specs.Former.{lastTag}
-use Rattle.serial.specs.Steps.{Step, opening, beginning-write, beginning-read, request, reply, losing, resending, resent, Machine, play}
-use Rattle.serial.specs.Sample.{zeros}
+use Rattle.claim.specs.Steps.{Step, opening, beginning-write, beginning-read, request, reply, losing, resending, resent, Machine, play}
+use Rattle.claim.specs.Sample.{zeros}
 use Rattle.resending.specs.Claim.{SendsAgain}
 
 abbrev anew : Machine Step

@@ -7,7 +7,7 @@ use Rattle.ranges.specs.Each.{Each}
 use Rattle.tables.specs.Tables.{Tables, methodOf, writesOf, readsOf, countOf}
 use Rattle.rules.specs.declared.Answer.{Answer}
 use Rattle.rules.specs.declared.Answer.the-variants.{Ok, Refused}
-use Rattle.serial.specs.Steps.{Event, opened, begun-write, begun-read, requested, replied, lost, resent, Played, Machine, run, leftBy}
+use Rattle.claim.specs.Steps.{Event, opened, begun-write, begun-read, requested, replied, lost, resent, Played, Machine, run, leftBy}
 
 abbrev pub IsRefused : Answer → Type 0
 IsRefused Ok = ⊥

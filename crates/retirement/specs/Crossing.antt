@@ -27,10 +27,10 @@ use Rattle.refusals.specs.Refusals.{openRefusal, writeRefusal, readRefusal, del
 use Rattle.refusals.specs.Steps as store
 use Rattle.refusals.specs.Former.{formerlyBegunRead, formerOpenRefusal, formerWriteRefusal, formerReadRefusal, formerOpen}
 use Rattle.refusals.specs.Former.{formerBeginWrite, formerBeginRead}
-use Rattle.serial.specs.Steps.{Step, opening, beginning-write, beginning-read, request, reply, losing, resending, Event, opened}
-use Rattle.serial.specs.Steps.{begun-write, begun-read, requested, replied, lost, resent, play, run, leftBy}
-use Rattle.serial.specs.Former.{MixedStep, today, former-write, former-read, mixed, formerly}
-use Rattle.serial.specs.Sample.{zeros, shows}
+use Rattle.claim.specs.Steps.{Step, opening, beginning-write, beginning-read, request, reply, losing, resending, Event, opened}
+use Rattle.claim.specs.Steps.{begun-write, begun-read, requested, replied, lost, resent, play, run, leftBy}
+use Rattle.claim.specs.Former.{MixedStep, today, former-write, former-read, mixed, formerly}
+use Rattle.claim.specs.Sample.{zeros, shows}
 
 abbrev old : List ℕ
 old = 1200 ∷ 30 ∷ []

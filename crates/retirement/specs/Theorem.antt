@@ -19,9 +19,9 @@ use Rattle.refusals.specs.Refusals.{isRetired, openRefusal, writeRefusal, readR
 use Rattle.refusals.specs.Steps.{badgeOf, open′, beginWrite, beginRead, deliverRequest, deliverReply, lose, resend}
 use Rattle.refusals.specs.Either.{by-refusal, by-refusal-arrived}
 use Rattle.keeping.specs.Accepted.{write-current, read-current, delivery-sound, deliverable, target-below}
-use Rattle.serial.specs.Steps.{Step, opening, beginning-write, beginning-read, request, reply, losing, resending, Event, Played, play, run}
-use Rattle.serial.specs.Steps.{begun-write, begun-read, requested, replied, lost, resent}
-use Rattle.serial.specs.Steps as event
+use Rattle.claim.specs.Steps.{Step, opening, beginning-write, beginning-read, request, reply, losing, resending, Event, Played, play, run}
+use Rattle.claim.specs.Steps.{begun-write, begun-read, requested, replied, lost, resent}
+use Rattle.claim.specs.Steps as event
 use Rattle.retirement.specs.Claim.{Unopened, Unbegun, NothingNew, Retired}
 use Rattle.retirement.specs.Unmoved.{Unmoved, unmoved-same, unmoved-then, requested-stays, lost-stays, resent-stays, replied-stays}
 

@@ -1,39 +1,37 @@
 -- A delivery, a loss and a resend leave the method, how many WRITEs and READs have begun, and every client's count as they were.
 use Prim.Native.Nat.{ℕ, _+_, _-_, _≤_, _<_}
-use mathlib.Core.Path.{_≡_, refl, sym, ap, _∙_}
-use mathlib.Core.Bool.{Bool, true}
+use mathlib.Core.Path.{_≡_, refl, sym, _∙_}
+use mathlib.Core.Bool.{Bool}
 use mathlib.Core.List.{List, []}
 use native.Mathlib.Omega.{arith}
-use lib.ListN.{set}
 use lib.Seq.{getD-set-other}
-use lib.Dec.{eqb, ltb}
+use lib.Dec.{eqb}
 use Rattle.ranges.specs.Tests.{by-test}
 use Rattle.keys.specs.Masks.{hasServer}
 use Rattle.tables.specs.Rows.{word-other}
-use Rattle.tables.specs.Layout.{countAt, methodField, stepField, entriesField, writesField, readsField, heldField, clientWidth, clientWord}
+use Rattle.tables.specs.Layout.{countAt, methodField, entriesField, writesField, readsField, heldField, clientWidth, clientWord}
 use Rattle.tables.specs.Layout.{putClientWord, countField, stateField, tagField, setpointsField, receivedField, tagsField, badgesField}
-use Rattle.tables.specs.Layout.{askedField, serverPlaces, logPlaces, putEntry}
+use Rattle.tables.specs.Layout.{askedField}
 use Rattle.tables.specs.Links.{targets}
-use Rattle.tables.specs.Tables.{Tables, withWrites, withReads, methodOf, serversOf, writesOf, readsOf, entriesOf, heldOf, stateOf}
+use Rattle.tables.specs.Tables.{Tables, withWrites, withReads, methodOf, serversOf, writesOf, readsOf, stateOf}
 use Rattle.tables.specs.Tables.{countOf, maskOf, tagOf, recordOf, contentAt}
 use Rattle.tables.specs.declared.links.Contents.{Contents}
 use Rattle.tables.specs.declared.links.Content.{Content}
 use Rattle.tables.specs.declared.links.Content.the-variants.{Nothing, Request, Reply, Lost}
-use Rattle.server.specs.Held.{stored, appended, firstBearing, holds}
-use Rattle.coordinator.specs.Log.{entered, enterLeft, firstEntry, hasKey}
 use Rattle.coordinator.specs.Latest.{latestWord, latestTagAt}
 use Rattle.rules.specs.Answers.{Left, Arrived}
 use Rattle.rules.specs.Words.{every, keptWords}
 use Rattle.rules.specs.WordsLaws.{kept-other}
-use Rattle.rules.specs.Common.{idle, writing, entering, askingKeys, askingSetpoints, reply, nextStep, pending, endedRecord, taggedRecord}
+use Rattle.rules.specs.Common.{idle, writing, entering, askingKeys, askingSetpoints, nextStep, pending, endedRecord, taggedRecord}
 use Rattle.rules.specs.Begin.{keptTags, keptAsking}
-use Rattle.rules.specs.Request.{answeredBy, storedBy, enteredBy, gotFrom, holding, onSet, onNewSet, onEnter, onNewEnter, onWhichKeys, onGet}
-use Rattle.rules.specs.Request.{onGetAll, onRequestIn, onRequest, requestDelivered}
+use Rattle.rules.specs.Request.{requestDelivered}
 use Rattle.rules.specs.Reply.{moved, emptied, gotValue, gotNumber, keptSetpoints, keptBadges, forgotten, concluded, tagChosen}
 use Rattle.rules.specs.Reply.{setpointAt, badgeAt, endedRead}
 use Rattle.rules.specs.Reply.{onSetDone, onEntered, onKeys, onGot, onAll, onReplyIn, onReply, replyDelivered}
 use Rattle.rules.specs.Loss.{onLoss, linkLost, sentBy, onResend, linkResent}
 use Rattle.keeping.specs.Moves.{counted-other}
+use Rattle.commutation.specs.Outcome.{Storing, nothing, version, entry, storedCounts, changed, Outcome, refuses, accepts, leftOf, outcome}
+use Rattle.commutation.specs.Outcome.{outcome-played}
 
 pub record Unmoved (t t′ : Tables) : Type 0 where
   pub method : methodOf t′ ≡ methodOf t
@@ -52,80 +50,41 @@ unmoved-then t t₁ t₂ a b = record {
   counts = λ q. b .counts q ∙ a .counts q;
 }
 
--- Requests, losses and resends: a link is filled, and no client's row moves.
+-- what a request stores touches none of the three numbers
+stored-other : (s : Storing) (i : ℕ) (counts : List ℕ) (f : ℕ) → f < heldField → (f ≡ entriesField → ⊥) →
+    countAt (storedCounts s i counts) f ≡ countAt counts f
+stored-other nothing i counts f l d = refl
+stored-other (version place key badge setpoint) i counts f l d =
+    getD-set-other counts (heldField + i) f (countAt counts (heldField + i) + 1) 0 (λ y. omega arith)
+stored-other (entry tag key mask write) i counts f l d = getD-set-other counts entriesField f (countAt counts entriesField + 1) 0 d
+
+-- Requests, losses and resends: a link is filled, something may be stored, and no client's row moves.
 module _ (t : Tables) (q i : ℕ) where
   abbrev Stays : Left → Type 0
   Stays x = Unmoved t (x .tables)
 
-  -- what was stored before touches neither of the three numbers
-  filled : (content : Content) (t″ : Tables) →
-      ((f : ℕ) → f < heldField → (f ≡ entriesField → ⊥) → countAt (t″ .counts) f ≡ countAt (t .counts) f) →
-      t″ .clients ≡ t .clients → Stays (answeredBy content q i t″)
-  filled content t″ same rows = record {
-    method = counted-other (t″ .counts) methodField (λ z. omega arith) ∙ same methodField (omega arith) (λ z. omega arith);
-    writes = counted-other (t″ .counts) writesField (λ z. omega arith) ∙ same writesField (omega arith) (λ z. omega arith);
-    reads = counted-other (t″ .counts) readsField (λ z. omega arith) ∙ same readsField (omega arith) (λ z. omega arith);
-    counts = λ p. ap (λ (xs : List ℕ). clientWord xs p countField) rows;
-  }
+  filled : (content : Content) (s : Storing) → Unmoved t (changed content s q i t)
+  filled content s =
+      let counts = storedCounts s i (t .counts) in
+      let still = stored-other s i (t .counts) in
+      record {
+        method = counted-other counts methodField (λ z. omega arith) ∙ still methodField (omega arith) (λ z. omega arith);
+        writes = counted-other counts writesField (λ z. omega arith) ∙ still writesField (omega arith) (λ z. omega arith);
+        reads = counted-other counts readsField (λ z. omega arith) ∙ still readsField (omega arith) (λ z. omega arith);
+        counts = λ p. refl;
+      }
 
-  plain : (content : Content) → Stays (answeredBy content q i t)
-  plain content = filled content t (λ f l d. refl) refl
-
-  module _ (w : Contents) where
-    set-stays : Stays (onSet w q i t)
-    unfolding onSet onNewSet appended
-    set-stays =
-        by-test (holds (t .keys) i (w .key) (heldOf t i))
-        (λ e. rw e (plain (reply 0)))
-        (λ e. by-test (ltb (heldOf t i) serverPlaces)
-        (λ d. rw (e, d) (filled (reply 0) (storedBy (stored (t .counts) (t .keys) (t .values) i (w .key) (w .badge) (w .number)) t)
-        (λ f l z. getD-set-other (t .counts) (heldField + i) f (heldOf t i + 1) 0 (λ y. omega arith)) refl))
-        (λ d. rw (e, d) (unmoved-same t)))
-
-    abbrev logged : Tables
-    logged =
-        enteredBy (enterLeft true (set (t .counts) entriesField (entriesOf t + 1))
-        (putEntry (t .log) (entriesOf t) (w .key) (w .number))) q t
-
-    enter-stays : Stays (onEnter w q i t)
-    unfolding onEnter onNewEnter entered
-    enter-stays =
-        by-test (hasKey (t .log) (w .key) (entriesOf t))
-        (λ e. rw e (plain (reply (firstEntry (t .log) (w .key) (entriesOf t)))))
-        (λ e. by-test (ltb (entriesOf t) logPlaces)
-        (λ d. rw (e, d) (filled (reply (entriesOf t)) logged
-        (λ f l z. getD-set-other (t .counts) entriesField f (entriesOf t + 1) 0 z) refl))
-        (λ d. rw (e, d) (unmoved-same t)))
-
-    get-stays : Stays (onGet w q i t)
-    unfolding onGet
-    get-stays =
-        let place = firstBearing (t .keys) i (w .key) (heldOf t i) in
-        by-test (ltb place (heldOf t i)) (λ e. rw e (plain (gotFrom (t .values) i place))) (λ e. rw e (unmoved-same t))
-
-    in-state : (state : ℕ) → Stays (onRequestIn state w q i t)
-    unfolding onRequestIn onWhichKeys onGetAll
-    in-state state =
-        by-test (eqb state writing) (λ e. rw e set-stays)
-        (λ a. by-test (eqb state entering) (λ e. rw (a, e) enter-stays)
-        (λ b. by-test (eqb state askingKeys) (λ e. rw (a, b, e) (plain (reply (entriesOf t))))
-        (λ c. by-test (eqb state askingSetpoints) (λ e. rw (a, b, c, e) get-stays)
-        (λ e. rw (a, b, c, e) (plain (reply (holding t i)))))))
-
-  request-by : (c : Content) → Stays (onRequest c q i t)
-  request-by Nothing = unmoved-same t
-  request-by (Request w) = in-state w (stateOf t q)
-  request-by (Reply w) = unmoved-same t
-  request-by Lost = unmoved-same t
+  by-outcome : (o : Outcome) → Unmoved t (leftOf o q i t)
+  by-outcome (refuses n) = unmoved-same t
+  by-outcome (accepts content s) = filled content s
 
   pub requested-stays : Stays (requestDelivered q i t)
-  unfolding requestDelivered
-  requested-stays = request-by (contentAt t q i)
+  requested-stays = rw (outcome-played q i t) (by-outcome (outcome q i t))
 
   lost-by : (c : Content) → Stays (onLoss c q i t)
   lost-by Nothing = unmoved-same t
-  lost-by (Request w) = plain Lost
-  lost-by (Reply w) = plain Lost
+  lost-by (Request w) = filled Lost nothing
+  lost-by (Reply w) = filled Lost nothing
   lost-by Lost = unmoved-same t
 
   pub lost-stays : Stays (linkLost q i t)
@@ -136,7 +95,7 @@ module _ (t : Tables) (q i : ℕ) where
   resent-by Nothing = unmoved-same t
   resent-by (Request w) = unmoved-same t
   resent-by (Reply w) = unmoved-same t
-  resent-by Lost = plain (sentBy q i t)
+  resent-by Lost = filled (sentBy q i t) nothing
 
   pub resent-stays : Stays (linkResent q i t)
   unfolding linkResent

@@ -8,6 +8,7 @@ pub mod Open
 pub mod Begin
 pub mod Request
 pub mod Filled
+pub mod Waiting
 pub mod Choice
 pub mod Reply
 pub mod Loss

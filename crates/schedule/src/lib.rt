@@ -1,11 +1,14 @@
 // The schedule as text: a line of it, the numbers of a line, and the step that a line names.
 ghost use mathlib.Core.Path.{_≡_};
+ghost use mathlib.Core.Bool.{false};
 ghost use Prim.Native.Nat.{_+_, _-_, _≤_, _<_};
 ghost use lib.ListN.{length, drop};
 ghost use Rattle.schedule.specs.Lines.{lineOf, endOf};
 ghost use Rattle.schedule.specs.Numbers.{digitOf, digitHead, numberOf, spacedOf, numbersOf, countOf};
 ghost use Rattle.schedule.specs.Steps.{lineMost, numbersMost, setpointsMost};
-ghost use Rattle.schedule.specs.Steps.{unreadable, named, namedOpen, namedWrite, pairNamed, stepOf, readingOf, stored, Names};
+ghost use Rattle.schedule.specs.Steps.{unreadable, named, namedOpen, namedWrite, pairNamed, namedBy, stepOf};
+ghost use Rattle.schedule.specs.Steps.{readingOf, stored, Names};
+ghost use Rattle.schedule.specs.Pairs.{mayHaveSetpoints, pairBehind};
 ghost use Rattle.schedule.specs.StepLaws.{Fits};
 
 // A line's bytes at most; so its numbers, of two bytes or more each behind its first byte; so its setpoints, behind three numbers.
@@ -278,6 +281,58 @@ fn name_step(byte: u8, numbers: &[u32], setpoints: &mut [u32]) -> Reading
     name_pair(byte, numbers[0], numbers[1])
 }
 
+// Whether a line that begins with a byte may have setpoints: an opening's or a WRITE's.
+fn has_setpoints(byte: u8) -> bool
+    ensures { λ r. ⌜ r ≡ mayHaveSetpoints byte ⌝ }
+{
+    if byte == b'O' {
+        return true;
+    }
+    byte == b'W'
+}
+
+// The step of a first byte and the part of its line behind it. The numbers go to a place for as many as a line can have.
+fn read_longer(byte: u8, part: &[u8], setpoints: &mut [u32]) -> Reading
+    requires { ⌜ (length (now part) ≤ lineMost - 1) × (setpointsMost ≤ length (now setpoints)) ⌝ }
+    ensures { λ r. ⌜ Names (namedBy byte (numbersOf (now (part .entry)))) (now (setpoints .entry)) r (now (setpoints .exit)) ⌝ }
+{
+    let mut numbers = [0u32; NUMBERS];
+    let read = numbers_in(part, &mut numbers);
+    match read {
+        Numbers::Broken => unreadable(),
+        Numbers::All(count) => name_step(byte, &numbers[..count], setpoints),
+    }
+}
+
+// The step of a first byte, a first number, and the part of its line from behind that number on.
+fn read_second(byte: u8, first: u32, part: &[u8], at: usize) -> Reading
+    requires { ⌜ at ≤ length (now part) ⌝ }
+    ensures { λ r. ⌜ r ≡ readingOf (pairBehind byte first (numbersOf (drop at (now (part .entry))))) ⌝ }
+{
+    let read = spaced_at(part, at);
+    match read {
+        Number::Not => unreadable(),
+        Number::Value(second, size) => {
+            if at + 1 + size == part.len() {
+                return name_pair(byte, first, second);
+            }
+            unreadable()
+        }
+    }
+}
+
+// The step of two numbers, of a first byte and the part of its line behind it: its numbers need no place.
+fn read_pair(byte: u8, part: &[u8]) -> Reading
+    requires { ⌜ mayHaveSetpoints byte ≡ false ⌝ }
+    ensures { λ r. ⌜ r ≡ readingOf (namedBy byte (numbersOf (now (part .entry)))) ⌝ }
+{
+    let read = spaced_at(part, 0);
+    match read {
+        Number::Not => unreadable(),
+        Number::Value(first, size) => read_second(byte, first, part, 1 + size),
+    }
+}
+
 // The step that a line names. Its setpoints stand in the lent place; behind them, and where the line has none, it holds what it held.
 // A place for as many as a line can have is enough for every line.
 pub fn read_step(line: &[u8], setpoints: &mut [u32]) -> Reading
@@ -290,10 +345,9 @@ pub fn read_step(line: &[u8], setpoints: &mut [u32]) -> Reading
     if LINE < line.len() {
         return unreadable();
     }
-    let mut numbers = [0u32; NUMBERS];
-    let read = numbers_in(&line[1..], &mut numbers);
-    match read {
-        Numbers::Broken => unreadable(),
-        Numbers::All(count) => name_step(line[0], &numbers[..count], setpoints),
+    let byte = line[0];
+    if has_setpoints(byte) {
+        return read_longer(byte, &line[1..], setpoints);
     }
+    read_pair(byte, &line[1..])
 }

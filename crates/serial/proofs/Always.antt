@@ -16,14 +16,14 @@ use Rattle.rules.specs.declared.Answer.the-variants as answer
 use Rattle.rules.specs.declared.Arrival.{Arrival}
 use Rattle.rules.specs.declared.Arrival.the-variants as arrival
 use Rattle.rules.specs.declared.Delivered.{Delivered}
-use Rattle.serial.specs.Steps.{Event, opened, begun-write, begun-read, requested, replied, lost, resent, Played}
+use Rattle.claim.specs.Steps.{Event, opened, begun-write, begun-read, requested, replied, lost, resent, Played}
 use Rattle.refusals.specs.Steps.{badgeOf}
-use Rattle.serial.specs.History.{valueWritten, changed, Transaction, noWrite, Doing, nothing, writing, tagged, reading}
-use Rattle.serial.specs.History.{History, historyOf, turned, writeOf, given}
-use Rattle.serial.specs.History.{begun, delivered, entered, ended, wrote, showed, marked, arrived, lostOf, missed, repeated}
-use Rattle.serial.specs.History.{openedWith, atCoordinator, after, history}
-use Rattle.serial.specs.Row.{readsOf, rowTo, row, at}
-use Rattle.serial.specs.Fields.{RealTimeOf}
+use Rattle.claim.specs.History.{valueWritten, changed, Transaction, noWrite, Doing, nothing, writing, tagged, reading}
+use Rattle.claim.specs.History.{History, historyOf, turned, writeOf, given}
+use Rattle.claim.specs.History.{begun, delivered, entered, ended, wrote, showed, marked, arrived, lostOf, missed, repeated}
+use Rattle.claim.specs.History.{openedWith, atCoordinator, after, history}
+use Rattle.claim.specs.Row.{readsOf, rowTo, row, at}
+use Rattle.claim.specs.Fields.{RealTimeOf}
 use Rattle.serial.proofs.Places.{changed-other, changed-all}
 use Rattle.serial.proofs.Lists.{Pairs, pairs-append, pairs-at, reads-only, row-complete, complete-whole}
 

@@ -36,9 +36,9 @@ use Rattle.keeping.specs.Accepted.{Beginnable, Writable, Readable}
 use Rattle.keeping.specs.States.{masked-below}
 use Rattle.keeping.specs.Rows.{Put, put, putAll, put-read, put-elsewhere, put-length}
 use Rattle.keeping.specs.Rounds.{sent-length}
-use Rattle.serial.specs.Steps.{Event, begun-write, begun-read}
+use Rattle.claim.specs.Steps.{Event, begun-write, begun-read}
 use Rattle.refusals.specs.Steps.{badgeOf}
-use Rattle.serial.specs.History.{changed, History, extraOf}
+use Rattle.claim.specs.History.{changed, History, extraOf}
 use Rattle.serial.proofs.Press.{Shared, renumbered, Client, clientOf, Press, pressOf, stateIn, countIn, rowOf, linksOf, sharedOf, view, sends, world}
 use Rattle.serial.proofs.View.{within-at, within-same, row-put-other, link-put, link-put-other, view-is, sharedIn, shared-step, shared-writes, shared-reads}
 use Rattle.serial.proofs.Loops.{sent-links, sent-others, kept-rows, kept-ahead, kept-word}

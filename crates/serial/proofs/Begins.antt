@@ -16,9 +16,9 @@ use Rattle.tables.specs.declared.links.Content.{Content}
 use Rattle.rules.specs.Common.{setRequest, idle, askingKeys, askingSetpoints, askingAll, coordinator, request}
 use Rattle.rules.specs.Common as rules
 use Rattle.rules.specs.declared.Answer.the-variants.{Ok}
-use Rattle.serial.specs.Steps.{begun-write, begun-read}
+use Rattle.claim.specs.Steps.{begun-write, begun-read}
 use Rattle.refusals.specs.Steps.{badgeOf}
-use Rattle.serial.specs.History.{changed, writing, History}
+use Rattle.claim.specs.History.{changed, writing, History}
 use Rattle.serial.proofs.Places.{changed-same, changed-other, changed-all}
 use Rattle.serial.proofs.Versions.{Version}
 use Rattle.serial.proofs.Entries.{asked-key}

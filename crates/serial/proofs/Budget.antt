@@ -14,7 +14,7 @@ use Rattle.keys.specs.Keys.{keyOf}
 use Rattle.tables.specs.declared.links.Content.{Content}
 use Rattle.tables.specs.declared.links.Content.the-variants.{Nothing, Request, Reply, Lost}
 use Rattle.rules.specs.Common.{writing, entering, coordinator}
-use Rattle.serial.specs.History.{changed}
+use Rattle.claim.specs.History.{changed}
 use Rattle.serial.proofs.Places.{changed-same, changed-other}
 use Rattle.serial.proofs.Versions.{Version, find}
 use Rattle.serial.proofs.Entries.{tagOf}

@@ -3,10 +3,10 @@ use Prim.Native.Nat.{ℕ}
 use mathlib.Core.Path.{_≡_}
 use Rattle.tables.specs.Tables.{Tables, stepOf}
 use Rattle.soundness.specs.Facts.{Sound}
-use Rattle.serial.specs.Steps.{Played}
-use Rattle.serial.specs.History.{History}
-use Rattle.serial.specs.Claim.{Answers}
-use Rattle.serial.specs.Consequences.{number, accepted}
+use Rattle.claim.specs.Steps.{Played}
+use Rattle.claim.specs.History.{History}
+use Rattle.claim.specs.Claim.{Answers}
+use Rattle.claim.specs.Consequences.{number, accepted}
 use Rattle.serial.proofs.Press.{view}
 use Rattle.serial.proofs.Invariant.{Tied}
 use Rattle.serial.proofs.Kept.{Kept}

@@ -12,13 +12,13 @@ use Rattle.rules.specs.declared.Answer.the-variants.{Ok, Refused}
 use Rattle.rules.specs.declared.Arrival.{Arrival}
 use Rattle.rules.specs.declared.Arrival.the-variants as arrival
 use Rattle.rules.specs.declared.Delivered.{Delivered}
-use Rattle.serial.specs.Steps.{Event, opened, begun-write, begun-read, requested, replied, lost, resent}
+use Rattle.claim.specs.Steps.{Event, opened, begun-write, begun-read, requested, replied, lost, resent}
 use Rattle.refusals.specs.Steps.{badgeOf}
-use Rattle.serial.specs.History.{Value, valueOpened, valueWritten, changed, Transaction, Doing, nothing, writing}
-use Rattle.serial.specs.History.{tagged, reading, History, historyOf, passed, turned, begun, delivered, writeOf, given, entered}
-use Rattle.serial.specs.History.{ended, wrote, showed, marked, arrived, lostOf, missed, repeated, fresh, extraOf, atCoordinator}
-use Rattle.serial.specs.History.{after}
-use Rattle.serial.specs.Claim.{EndsAt, Unfinished}
+use Rattle.claim.specs.History.{Value, valueOpened, valueWritten, changed, Transaction, Doing, nothing, writing}
+use Rattle.claim.specs.History.{tagged, reading, History, historyOf, passed, turned, begun, delivered, writeOf, given, entered}
+use Rattle.claim.specs.History.{ended, wrote, showed, marked, arrived, lostOf, missed, repeated, fresh, extraOf, atCoordinator}
+use Rattle.claim.specs.History.{after}
+use Rattle.claim.specs.Claim.{EndsAt, Unfinished}
 use Rattle.serial.proofs.Places.{changed-same, changed-other, changed-all, changed-both}
 use Rattle.serial.proofs.Lists.{pairs-inserted}
 use Rattle.serial.proofs.Owed.{valueAt, More, Busy, OwedRead, OwedArrival, Owed, floorAfter}

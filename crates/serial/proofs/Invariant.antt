@@ -16,8 +16,8 @@ use Rattle.tables.specs.declared.links.Content.{Content}
 use Rattle.tables.specs.declared.links.Content.the-variants.{Nothing, Request, Reply, Lost}
 use Rattle.rules.specs.Common.{idle, entering, askingKeys, askingSetpoints, askingAll, coordinator}
 use Rattle.rules.specs.Common as rules
-use Rattle.serial.specs.History.{Value, Doing, nothing, writing, tagged, reading, History, extraOf}
-use Rattle.serial.specs.Claim.{enough}
+use Rattle.claim.specs.History.{Value, Doing, nothing, writing, tagged, reading, History, extraOf}
+use Rattle.claim.specs.Claim.{enough}
 use Rattle.serial.proofs.Owed.{valueIn}
 use Rattle.serial.proofs.Versions.{Version, keptOf, sentOf}
 use Rattle.serial.proofs.Press.{Client, Press, stateIn, countIn, maskIn, tagIn, setpointIn, receivedIn, writeBadgeIn, askedIn}

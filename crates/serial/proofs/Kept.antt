@@ -7,8 +7,8 @@ use Rattle.tables.specs.Links.{targets}
 use Rattle.tables.specs.declared.links.Content.{Content}
 use Rattle.tables.specs.declared.links.Content.the-variants.{Nothing}
 use Rattle.rules.specs.Common.{idle}
-use Rattle.serial.specs.Steps.{Event}
-use Rattle.serial.specs.History.{changed, Doing, History, passed, turned, marked, after}
+use Rattle.claim.specs.Steps.{Event}
+use Rattle.claim.specs.History.{changed, Doing, History, passed, turned, marked, after}
 use Rattle.serial.proofs.Places.{changed-all, changed-both, changed-three}
 use Rattle.serial.proofs.Owed.{Owed, floorAfter}
 use Rattle.serial.proofs.Press.{renumbered, Client, Press, pressOf, stateIn, isReply, World, world}

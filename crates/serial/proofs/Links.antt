@@ -11,7 +11,7 @@ use Rattle.tables.specs.Links.{targets}
 use Rattle.tables.specs.declared.links.Content.{Content}
 use Rattle.tables.specs.declared.links.Content.the-variants.{Nothing, Request, Reply, Lost}
 use Rattle.rules.specs.Common.{coordinator}
-use Rattle.serial.specs.History.{changed}
+use Rattle.claim.specs.History.{changed}
 use Rattle.serial.proofs.Places.{changed-same, changed-other}
 use Rattle.serial.proofs.Press.{weight, toCome, sends}
 

@@ -12,8 +12,8 @@ use Rattle.ranges.specs.Tests.{either, by-equal, by-test}
 use Rattle.ranges.specs.Each.{Each, each-append, each-map, each-at}
 use Rattle.ranges.specs.Inserted.{inserted}
 use Rattle.ranges.specs.InsertedLaws.{each-inserted}
-use Rattle.serial.specs.History.{Transaction, History}
-use Rattle.serial.specs.Row.{readsOf, rowTo, row}
+use Rattle.claim.specs.History.{Transaction, History}
+use Rattle.claim.specs.Row.{readsOf, rowTo, row}
 
 module _ {A : Type 0} where
   each-both : (P Q S : A → Type 0) → ((x : A) → P x → Q x → S x) → (xs : List A) → Each P xs → Each Q xs → Each S xs

@@ -18,8 +18,8 @@ use Rattle.rules.specs.Common as rules
 use Rattle.rules.specs.Request.{answeredBy, refused}
 use Rattle.rules.specs.Loss.{onLoss, linkLost, sentIn, onResend, linkResent}
 use Rattle.keeping.specs.Accepted.{Deliverable, target-below}
-use Rattle.serial.specs.Steps.{lost, resent}
-use Rattle.serial.specs.History.{changed, History}
+use Rattle.claim.specs.Steps.{lost, resent}
+use Rattle.claim.specs.History.{changed, History}
 use Rattle.serial.proofs.Press.{renumbered, Client, Press, pressOf, stateIn, maskIn, setpointIn, writeBadgeIn, askedIn}
 use Rattle.serial.proofs.Press.{sharedOf, view, weight, world}
 use Rattle.serial.proofs.View.{link-put, link-put-other, view-is, shared-step}

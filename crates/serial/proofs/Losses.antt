@@ -13,8 +13,8 @@ use Rattle.tables.specs.declared.links.Content.the-variants.{Nothing, Request, 
 use Rattle.rules.specs.Common.{entering, askingKeys, askingSetpoints, askingAll, coordinator, request, setRequest}
 use Rattle.rules.specs.Common as rules
 use Rattle.rules.specs.declared.Answer.the-variants.{Ok}
-use Rattle.serial.specs.Steps.{lost, resent}
-use Rattle.serial.specs.History.{changed, reading, History, passed, marked, lostOf, missed, repeated}
+use Rattle.claim.specs.Steps.{lost, resent}
+use Rattle.claim.specs.History.{changed, reading, History, passed, marked, lostOf, missed, repeated}
 use Rattle.serial.proofs.Places.{changed-same, changed-other, changed-all}
 use Rattle.serial.proofs.Versions.{versionOf, sentOf}
 use Rattle.serial.proofs.Owed.{Busy}

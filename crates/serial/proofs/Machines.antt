@@ -5,10 +5,10 @@ use mathlib.Core.List.{List, [], _∷_}
 use Rattle.ranges.specs.Each.{Each}
 use Rattle.tables.specs.Tables.{Tables, stepOf}
 use Rattle.soundness.specs.Facts.{Sound, facts-sound}
-use Rattle.serial.specs.Steps.{Event, Played, Machine, run}
-use Rattle.serial.specs.History.{History, openedWith, after, history, BehindOpenings}
-use Rattle.serial.specs.Claim.{Answers, Demand3}
-use Rattle.serial.specs.Consequences.{Consequences, Besides}
+use Rattle.claim.specs.Steps.{Event, Played, Machine, run}
+use Rattle.claim.specs.History.{History, openedWith, after, history, BehindOpenings}
+use Rattle.claim.specs.Claim.{Answers, Demand3}
+use Rattle.claim.specs.Consequences.{Consequences, Besides}
 use Rattle.serial.proofs.Owed.{floorAfter}
 use Rattle.serial.proofs.HistoryOk.{HistoryOk, claimed}
 use Rattle.serial.proofs.HistoryKept.{fresh-ok, after-ok}

@@ -11,8 +11,8 @@ use Rattle.refusals.specs.Former.{formerOpenRefusal, formerWriteRefusal, former
 use Rattle.refusals.specs.Former.{formerOpen, formerBeginWrite, formerBeginRead}
 use Rattle.refusals.specs.Either.{by-former}
 use Rattle.keeping.specs.Accepted.{Openable, former-openable, Writable, former-writable, Readable, former-readable}
-use Rattle.serial.specs.Steps.{Step, opening, beginning-write, beginning-read, opened, begun-write, begun-read, leaving, Played, play}
-use Rattle.serial.specs.Former.{MixedStep, today, former-opening, former-write, former-read, mixed}
+use Rattle.claim.specs.Steps.{Step, opening, beginning-write, beginning-read, opened, begun-write, begun-read, leaving, Played, play}
+use Rattle.claim.specs.Former.{MixedStep, today, former-opening, former-write, former-read, mixed}
 
 -- of the tables that a step finds and of what it played
 module _ (P : Played → Type 0) (t : Tables) where

@@ -27,7 +27,7 @@ use Rattle.rules.specs.Common.{idle}
 use Rattle.rules.specs.Open.{cleared, holdOne, opened}
 use Rattle.keeping.specs.Accepted.{Openable}
 use Rattle.keeping.specs.Opening.{Opened, opened-words}
-use Rattle.serial.specs.History.{valueOpened, openedWith}
+use Rattle.claim.specs.History.{valueOpened, openedWith}
 use Rattle.serial.proofs.Owed.{valueAt}
 use Rattle.serial.proofs.Versions.{Version, versionOf, keptOf, find, is-found, found-is}
 use Rattle.serial.proofs.Press.{Client, stateIn, isReply, sharedOf, view}

@@ -10,10 +10,10 @@ use Rattle.refusals.specs.Steps.{open′}
 use Rattle.refusals.specs.Former.{formerOpenRefusal, formerOpen}
 use Rattle.refusals.specs.Either.{by-refusal, by-former}
 use Rattle.keeping.specs.Accepted.{Openable, openable, former-openable}
-use Rattle.serial.specs.Steps.{Step, opening, beginning-write, beginning-read, request, reply, losing, resending, play}
-use Rattle.serial.specs.Steps.{Event, opened, begun-write, begun-read, requested, replied, lost, resent}
-use Rattle.serial.specs.Former.{MixedStep, today, former-opening, former-write, former-read, mixed}
-use Rattle.serial.specs.History.{History, openedWith}
+use Rattle.claim.specs.Steps.{Step, opening, beginning-write, beginning-read, request, reply, losing, resending, play}
+use Rattle.claim.specs.Steps.{Event, opened, begun-write, begun-read, requested, replied, lost, resent}
+use Rattle.claim.specs.Former.{MixedStep, today, former-opening, former-write, former-read, mixed}
+use Rattle.claim.specs.History.{History, openedWith}
 
 -- of the history that an opening begins and the tables that it leaves
 module _ (P : History → Tables → Type 0) where

@@ -7,9 +7,9 @@ use Rattle.rules.specs.declared.Answer.the-variants.{Ok, Refused}
 use Rattle.rules.specs.declared.Arrival.{Arrival}
 use Rattle.rules.specs.declared.Arrival.the-variants as arrival
 use Rattle.rules.specs.declared.Delivered.{Delivered}
-use Rattle.serial.specs.Steps.{Event, opened, begun-write, begun-read, requested, replied, lost, resent}
-use Rattle.serial.specs.History.{Value, valueShown, changed, Transaction, Doing, nothing, writing, tagged, reading, History}
-use Rattle.serial.specs.Claim.{enough}
+use Rattle.claim.specs.Steps.{Event, opened, begun-write, begun-read, requested, replied, lost, resent}
+use Rattle.claim.specs.History.{Value, valueShown, changed, Transaction, Doing, nothing, writing, tagged, reading, History}
+use Rattle.claim.specs.Claim.{enough}
 
 -- the value of server i in the row behind the WRITE of a tag
 unfoldable pub valueAt : (ℕ → Value) → (ℕ → Transaction) → ℕ → ℕ → Value

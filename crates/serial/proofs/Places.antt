@@ -3,7 +3,7 @@ use Prim.Native.Nat.{ℕ}
 use mathlib.Core.Path.{_≡_, refl, sym, subst}
 use borrow.Author.Tests.{eq-eqb, ne-eqb}
 use Rattle.ranges.specs.Tests.{by-equal}
-use Rattle.serial.specs.History.{changed}
+use Rattle.claim.specs.History.{changed}
 
 module _ {A : Type 0} (f : ℕ → A) (i : ℕ) (a : A) where
   pub changed-same : changed f i a i ≡ a

@@ -15,7 +15,7 @@ use Rattle.tables.specs.Tables.{Tables, methodOf, serversOf, stepOf, entriesOf,
 use Rattle.tables.specs.declared.links.Contents.{Contents}
 use Rattle.tables.specs.declared.links.Content.{Content}
 use Rattle.tables.specs.declared.links.Content.the-variants.{Nothing, Request, Reply, Lost}
-use Rattle.serial.specs.History.{Value, History}
+use Rattle.claim.specs.History.{Value, History}
 use Rattle.serial.proofs.Versions.{Version, versionOf, keptOf, find}
 use Rattle.serial.proofs.Entries.{tagOf}
 use Rattle.serial.proofs.Owed.{valueIn}

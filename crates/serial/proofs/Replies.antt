@@ -24,12 +24,12 @@ use Rattle.rules.specs.Common.{idle, entering, askingSetpoints, askingAll, coor
 use Rattle.rules.specs.Common as rules
 use Rattle.rules.specs.Choice.{hasVersion, serves, qualifies, chosenTag, chosenPlace, chosenSetpoint, chosenBadge}
 use Rattle.rules.specs.declared.Arrival.the-variants as arrival
-use Rattle.serial.specs.Steps.{replied}
-use Rattle.serial.specs.History.{Value, changed, nothing, writing, History, ended}
+use Rattle.claim.specs.Steps.{replied}
+use Rattle.claim.specs.History.{Value, changed, nothing, writing, History, ended}
 use Rattle.serial.proofs.Places.{changed-same, changed-other, changed-all, changed-both}
 use Rattle.serial.proofs.Owed.{valueAt}
 use Rattle.serial.proofs.HistoryKept.{value-ended}
-use Rattle.serial.specs.Fields.{value-same}
+use Rattle.claim.specs.Fields.{value-same}
 use Rattle.serial.proofs.Versions.{Version, versionAt, sentOf, found-place, place-found, found-more}
 use Rattle.serial.proofs.Entries.{asked-key}
 use Rattle.serial.proofs.Press.{Shared, renumbered, Client, clientOf, Press, pressOf, stateIn, countIn, maskIn, tagIn, setpointIn}

@@ -35,9 +35,9 @@ use Rattle.rules.specs.Reply.{onReplyIn, onReply, replyDelivered}
 use Rattle.rules.specs.declared.Delivered.{Delivered}
 use Rattle.rules.specs.declared.Arrival.the-variants as arrival
 use Rattle.keeping.specs.Accepted.{Deliverable, target-below}
-use Rattle.serial.specs.Steps.{replied}
-use Rattle.serial.specs.History.{changed, History}
-use Rattle.serial.specs.Consequences.{numberOfArrival, countedArrival}
+use Rattle.claim.specs.Steps.{replied}
+use Rattle.claim.specs.History.{changed, History}
+use Rattle.claim.specs.Consequences.{numberOfArrival, countedArrival}
 use Rattle.serial.proofs.Places.{changed-same, changed-other}
 use Rattle.keeping.specs.Links.{link-asks, reply-kind}
 use Rattle.keeping.specs.States.{masked-server, uses-setpoints}

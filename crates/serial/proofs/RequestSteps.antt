@@ -32,9 +32,9 @@ use Rattle.rules.specs.Request.{requestDelivered}
 use Rattle.rules.specs.declared.Answer.the-variants.{Ok}
 use Rattle.keeping.specs.Accepted.{Deliverable, target-below}
 use Rattle.soundness.specs.Room.{server-fits, keys-row, values-row, next-entry}
-use Rattle.serial.specs.Steps.{requested}
-use Rattle.serial.specs.History.{changed, History}
-use Rattle.serial.specs.Claim.{IsReply}
+use Rattle.claim.specs.Steps.{requested}
+use Rattle.claim.specs.History.{changed, History}
+use Rattle.claim.specs.Claim.{IsReply}
 use Rattle.serial.proofs.Press.{Shared, renumbered, Client, Press, pressOf, stateIn, maskIn, askedIn, sharedOf, view, keptAt}
 use Rattle.serial.proofs.Press.{carried}
 use Rattle.serial.proofs.Press.{world}

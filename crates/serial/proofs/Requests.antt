@@ -23,9 +23,9 @@ use Rattle.tables.specs.declared.links.Content.the-variants.{Nothing, Request, 
 use Rattle.rules.specs.Common.{entering, askingKeys, askingSetpoints, askingAll, coordinator, reply, gotReply}
 use Rattle.rules.specs.Common as rules
 use Rattle.rules.specs.declared.Answer.the-variants.{Ok}
-use Rattle.serial.specs.Steps.{requested}
-use Rattle.serial.specs.History.{Value, valueWritten, atCoordinator, changed, Transaction, writeOf, writing, tagged, reading, History}
-use Rattle.serial.specs.Claim.{enough}
+use Rattle.claim.specs.Steps.{requested}
+use Rattle.claim.specs.History.{Value, valueWritten, atCoordinator, changed, Transaction, writeOf, writing, tagged, reading, History}
+use Rattle.claim.specs.Claim.{enough}
 use Rattle.serial.proofs.Places.{changed-same, changed-other, changed-all, changed-both}
 use Rattle.serial.proofs.Owed.{valueAt, valueIn}
 use Rattle.serial.proofs.HistoryKept.{value-before}

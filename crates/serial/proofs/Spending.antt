@@ -9,7 +9,7 @@ use Rattle.tables.specs.declared.links.Content.{Content}
 use Rattle.tables.specs.declared.links.Content.the-variants.{Request}
 use Rattle.keys.specs.declared.Key.{Key}
 use Rattle.rules.specs.Common.{writing, entering, coordinator, reply}
-use Rattle.serial.specs.History.{changed}
+use Rattle.claim.specs.History.{changed}
 use Rattle.serial.proofs.Places.{changed-same, changed-other}
 use Rattle.serial.proofs.Versions.{Version}
 use Rattle.serial.proofs.Press.{Shared, renumbered, Client, Press, pressOf, stateIn}

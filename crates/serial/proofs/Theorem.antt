@@ -23,13 +23,13 @@ use Rattle.keeping.specs.Steps.{open-keeps, beginWrite-sound, beginRead-sound, 
 use Rattle.keeping.specs.Steps.{resend-sound}
 use Rattle.refusals.specs.Steps.{badgeOf, open′, beginWrite, beginRead, deliverRequest, deliverReply, lose, resend}
 use Rattle.refusals.specs.Either.{by-refusal, by-refusal-arrived}
-use Rattle.serial.specs.Steps.{Step, opening, beginning-write, beginning-read, request, reply, losing, resending, begun-write}
-use Rattle.serial.specs.Steps.{begun-read, requested, replied, lost, resent, leaving, arriving, Played, play}
-use Rattle.serial.specs.Steps as event
-use Rattle.serial.specs.Former.{MixedStep, mixed}
-use Rattle.serial.specs.History.{History, passed, openedWith}
-use Rattle.serial.specs.Claim.{Demand3}
-use Rattle.serial.specs.Consequences.{Besides}
+use Rattle.claim.specs.Steps.{Step, opening, beginning-write, beginning-read, request, reply, losing, resending, begun-write}
+use Rattle.claim.specs.Steps.{begun-read, requested, replied, lost, resent, leaving, arriving, Played, play}
+use Rattle.claim.specs.Steps as event
+use Rattle.claim.specs.Former.{MixedStep, mixed}
+use Rattle.claim.specs.History.{History, passed, openedWith}
+use Rattle.claim.specs.Claim.{Demand3}
+use Rattle.claim.specs.Consequences.{Besides}
 use Rattle.serial.proofs.Press.{view}
 use Rattle.serial.proofs.Invariant.{Tied}
 use Rattle.serial.proofs.Kept.{passed-tied}

@@ -17,7 +17,7 @@ use Rattle.tables.specs.Layout.{serverPlaces, versionWord, putVersionWord, valu
 use Rattle.tables.specs.Layout.{HasValues}
 use Rattle.tables.specs.Values.{badge-same, setpoint-same, value-other}
 use Rattle.server.specs.Held.{bears, firstBearing, holds}
-use Rattle.serial.specs.History.{Value}
+use Rattle.claim.specs.History.{Value}
 
 -- What a version bears beside its key: what a server keeps of a value, and what messages carry of it.
 pub record Version : Type 0 where

@@ -16,7 +16,7 @@ use Rattle.tables.specs.Tables.{Tables}
 use Rattle.tables.specs.declared.links.Content.{Content}
 use Rattle.tables.specs.declared.links.Content.the-variants.{Nothing}
 use Rattle.tables.specs.declared.links.Link.{Link}
-use Rattle.serial.specs.History.{changed}
+use Rattle.claim.specs.History.{changed}
 use Rattle.serial.proofs.Places.{changed-all}
 use Rattle.serial.proofs.Press.{within, Shared, renumbered, clientOf, pressOf, rowOf, contentIn, linksOf, sharedOf, view}
 

@@ -1,1 +1,1 @@
-// Demand 3, one theorem over every list of steps: the claim stands in specs/, its proof in proofs/.
+// Demand 3, one theorem over every list of steps: the claim stands in the crate claim, its proof in proofs/.

@@ -12,6 +12,7 @@ pub record Counted (counts : List ℕ) : Type 0 where
   pub long : countWords ≤ length counts
   pub servers : countAt counts serversField ≤ 16
   pub clients : countAt counts clientsField ≤ 16
+  pub client : 0 < countAt counts clientsField
   pub entries : countAt counts entriesField ≤ logPlaces
   pub writes : countAt counts writesField ≤ recordPlaces
   pub reads : countAt counts readsField ≤ recordPlaces

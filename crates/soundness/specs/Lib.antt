@@ -4,9 +4,7 @@ pub mod Sound
 pub mod Facts
 pub mod Balance
 pub mod Parts
+pub mod KeyParts
 pub mod Asked
 pub mod Loops
-pub mod Kinds
-pub mod Opens
-pub mod There
 pub mod Room

@@ -1,6 +1,6 @@
 -- Runs of conditions of `Sound` as one function of the check decides them.
-use Prim.Native.Nat.{ℕ, _^_}
-use mathlib.Core.Bool.{Bool, cond, _&&_}
+use Prim.Native.Nat.{ℕ, _+_, _*_, _/_, _%_, _^_}
+use mathlib.Core.Bool.{Bool, cond, not, _&&_}
 use lib.Dec.{eqb, leb, ltb}
 use Rattle.ranges.specs.All.{allBelow}
 use Rattle.ranges.specs.Sum.{sumBelow}
@@ -19,6 +19,14 @@ use Rattle.soundness.specs.Sound.{openSound, writeSound, readSound, reco
 -- the scalars behind `pressFits`
 abbrev pub progressSound : Tables → Bool
 progressSound t = between 1 (stepOf t) lastStep && between 1 (entriesOf t) logPlaces && leb (writesOf t) recordPlaces && leb (readsOf t) recordPlaces
+
+-- the parts of `keyInRange`, each one comparison: 16 bits and a client at most the last, since a word above 16 bits is above every client;
+-- and a count, unless it is the opening's key
+abbrev pub keyOwned : ℕ → ℕ → Bool
+keyOwned last word = leb (word / 65536 * 65536 + word % 256) last
+
+abbrev pub keyCounted : ℕ → Bool
+keyCounted word = not (between 1 word 255)
 
 -- what stands at tag 0
 abbrev pub firstEntrySound : Tables → Bool

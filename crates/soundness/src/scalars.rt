@@ -1,6 +1,7 @@
 // Numbers by themselves: whether there is such a press, and such a key.
 ghost use mathlib.Core.Path.{_≡_};
 ghost use Rattle.soundness.specs.Sound.{between, pressFits, keyInRange, badgeFits};
+ghost use Rattle.soundness.specs.Parts.{keyOwned, keyCounted};
 
 // Whether a number stands between two others, both included.
 pub fn between(low: u32, number: u32, high: u32) -> bool
@@ -39,6 +40,20 @@ pub fn key_in_range(clients: u32, word: u32) -> bool
         return false;
     }
     word % 256 < clients
+}
+
+// The parts of that, each one comparison: whether the word has 16 bits and its client is at most the last,
+pub fn key_owned(last: u32, word: u32) -> bool
+    ensures { λ r. ⌜ r ≡ keyOwned last word ⌝ }
+{
+    word / 65536 * 65536 + word % 256 <= last
+}
+
+// and whether it has a count, unless it is the opening's.
+pub fn key_counted(word: u32) -> bool
+    ensures { λ r. ⌜ r ≡ keyCounted word ⌝ }
+{
+    !between(1, word, 255)
 }
 
 // Whether a word is a badge: 16 bits.

@@ -19,7 +19,8 @@ use Rattle.soundness.specs.Room.{few-servers, server-fits, keys-row, values-row
 use Rattle.soundness.specs.Room.{write-row, next-write, next-read}
 use Rattle.history.specs.Ready.{BeginReady}
 use Rattle.begins.specs.Ready.{AskReady, WriteReady}
-use Rattle.requests.specs.Ready.{AtServer, Asks, RequestReady}
+use Rattle.server_requests.specs.Ready.{AtServer}
+use Rattle.requests.specs.Ready.{Asks, RequestReady}
 use Rattle.losses.specs.Ready.{Sends, ResendReady}
 use Rattle.opening.specs.Ready.{OpenReady}
 use Rattle.keeping.specs.Accepted.{Openable, Writable, Readable, Deliverable, target-below}

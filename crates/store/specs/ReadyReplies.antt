@@ -15,13 +15,14 @@ use Rattle.tables.specs.Rows.{HasRow, word-same, word-other}
 use Rattle.tables.specs.Layout.{clientWidth, receivedField, serverPlaces}
 use Rattle.tables.specs.Links.{targets, isEmpty, linkAt, putLink}
 use Rattle.tables.specs.LinkLaws.{link-other}
-use Rattle.tables.specs.Tables.{Tables, serversOf, entriesOf, heldOf, stateOf, maskOf, recordOf, receivedOf, contentAt}
+use Rattle.tables.specs.Tables.{Tables, clientsOf, serversOf, entriesOf, heldOf, stateOf, maskOf, recordOf, receivedOf, contentAt}
 use Rattle.tables.specs.declared.links.Contents.{Contents}
 use Rattle.tables.specs.declared.links.Content.the-variants.{Nothing, Reply}
 use Rattle.coordinator.specs.Latest.{latestTag, latestKey}
 use Rattle.coordinator.specs.LatestLaws.{latest-within}
 use Rattle.server.specs.Held.{firstBearing, bears}
 use Rattle.rules.specs.Common.{askingKeys, askingSetpoints, askingAll, coordinator, filled, pending}
+use Rattle.rules.specs.Waiting.{KindsFit}
 use Rattle.rules.specs.Choice.{serves, qualifies}
 use Rattle.rules.specs.Reply.{receivedIn, gotNumber}
 use Rattle.soundness.specs.Sound.{uses, holding}
@@ -35,6 +36,9 @@ use Rattle.keeping.specs.States.{uses-setpoints, uses-all, by-state, keys-targe
 use Rattle.store.specs.Ready.{target, fillable, reply-used, reply-sound}
 
 module _ (t : Tables) (s : Sound t) where
+  kinds-fit : (q : ℕ) → q < clientsOf t → KindsFit (t .links) q
+  kinds-fit q l i b = s .client q l .link i b .kind
+
   module _ (q i : ℕ) (d : Deliverable q i t) (w : Contents) (e : contentAt t q i ≡ Reply w) where
     -- state 3: the number is that of entries
     keys-ready : stateOf t q ≡ askingKeys → KeysReady (t .counts) (t .clients) (t .log) q (w .number)
@@ -93,7 +97,14 @@ module _ (t : Tables) (s : Sound t) where
           }
 
       all-ready : AllReady (t .counts) (t .clients) (t .links) (t .keys) (t .values) (t .log) (t .reads) q i (w .number)
-      all-ready = record { row = client-row t s q (d .client); target = target t s q i d; linked = client-links t s q (d .client); last = λ none. (choice-ready, concludable none) }
+      all-ready =
+          record {
+            row = client-row t s q (d .client);
+            target = target t s q i d;
+            linked = client-links t s q (d .client);
+            kinds = kinds-fit q (d .client);
+            last = λ none. (choice-ready, concludable none);
+          }
 
     brings : Brings (t .counts) (t .clients) (t .links) (t .keys) (t .values) (t .log) (t .writes) (t .reads) q i (w .number)
     brings =
@@ -109,7 +120,7 @@ module _ (t : Tables) (s : Sound t) where
   reply-ready q i d = record {
     fillable = fillable t s q i d;
     row = client-row t s q (d .client);
-    linked = client-links t s q
-        (d .client);
+    linked = client-links t s q (d .client);
+    kinds = kinds-fit q (d .client);
     brings = λ w e. brings q i d w e;
   }

@@ -1,16 +1,25 @@
 -- A reply delivered to sound tables where no fault refuses it.
 use Prim.Native.Nat.{ℕ}
-use mathlib.Core.Path.{_≡_, sym, _∙_, ap}
+use mathlib.Core.Path.{_≡_, refl, sym, _∙_, ap}
+use mathlib.Core.Bool.{true}
+use mathlib.Core.List.{List}
+use lib.ListN.{replicate}
+use Rattle.ranges.specs.Tests.{not-both}
+use Rattle.tables.specs.Rows.{HasRow}
+use Rattle.tables.specs.Layout.{clientWidth}
 use Rattle.tables.specs.Links.{linkAt}
 use Rattle.tables.specs.Tables.{Tables, stateOf}
 use Rattle.tables.specs.declared.links.Contents.{Contents}
 use Rattle.tables.specs.declared.links.Content.the-variants.{Reply}
 use Rattle.tables.specs.declared.links.Link.{Link}
-use Rattle.rules.specs.Answers.{Arrived}
-use Rattle.rules.specs.Reply.{onReplyIn, replyDelivered}
+use Rattle.rules.specs.declared.Arrival.{Arrival}
+use Rattle.rules.specs.Answers.{Arrived, arrived}
+use Rattle.rules.specs.Reply.{said, onReplyIn, replyDelivered}
 use Rattle.soundness.specs.Facts.{Sound}
 use Rattle.refusals.specs.Refusals.{deliveryFault}
 use Rattle.refusals.specs.Steps.{deliverReply}
+use Rattle.replies.specs.declared.Outcome.{Outcome}
+use Rattle.replies.specs.Shown.{plainly, shownBy, Shows, plain-shows}
 use Rattle.replies.specs.Ready.{Brings, ReplyReady}
 use Rattle.replies.specs.Cases.{by-reply}
 use Rattle.store.specs.ReadyReplies.{reply-ready}
@@ -33,3 +42,19 @@ module _
 
   pub taken : {x : Arrived} → x ≡ onReplyIn (stateOf t q) w q i t → x ≡ deliverReply q i t
   taken g = h .accepted _ (by-reply q i t e f g)
+
+-- what taking in a reply leaves: shown by its outcome, it is what the step leaves; the row of tags is the answer's; and where a READ has
+-- ended the client's row is there
+pub record Replied (q i : ℕ) (t : Tables) (o : Outcome) (tags : List ℕ) (t′ : Tables) : Type 0 where
+  pub leaves : arrived (shownBy o tags (t′ .clients) q) t′ ≡ deliverReply q i t
+  pub tagged : tags ≡ deliverReply q i t .delivered .tags
+  pub row : o .ended ≡ true → HasRow clientWidth (t′ .clients) q
+
+module _ (q i : ℕ) (t : Tables) {o : Outcome} {tags : List ℕ} {t′ : Tables} where
+  pub replied : {x : Arrived} → Shows x o tags q t′ → x ≡ deliverReply q i t → (o .ended ≡ true → HasRow clientWidth (t′ .clients) q) →
+      Replied q i t o tags t′
+  replied s e r = record { leaves = s .leaves ∙ e; tagged = s .tagged ∙ ap (λ (y : Arrived). y .delivered .tags) e; row = r }
+
+  -- an outcome that shows nothing
+  pub plain-replied : {a : Arrival} → o ≡ plainly a → tags ≡ replicate 16 0 → said a t′ ≡ deliverReply q i t → Replied q i t o tags t′
+  plain-replied e z f = replied (plain-shows tags q e z f) refl (λ y. absurd (not-both y (ap (λ (p : Outcome). p .ended) e)))

@@ -4,11 +4,14 @@
 ghost use mathlib.Core.Path.{_≡_};
 ghost use mathlib.Core.Bool.{_&&_};
 ghost use lib.Dec.{eqb};
+ghost use lib.ListN.{replicate};
 ghost use Rattle.tables.specs.Tables.{tablesOf};
 ghost use Rattle.rules.specs.Answers.{left, arrived};
 ghost use Rattle.soundness.specs.Facts.{Sound};
 ghost use Rattle.refusals.specs.Refusals.{pressOpens};
+ghost use Rattle.store.specs.Replies.{Replied};
 ghost use Rattle.refusals.specs.Steps.{open′, beginWrite, beginRead, deliverRequest, deliverReply, lose, resend};
+use replies::Outcome;
 use rules::Answer;
 use rules::Arrival;
 use rules::Delivered;
@@ -143,7 +146,7 @@ pub fn begin_write(
     ensures { λ r. ⌜ left r (tablesOf (now (counts .exit)) (now (clients .exit)) (now (links .exit)) (now (keys .entry)) (now (values .entry)) (now (log .entry)) (now (writes .exit)) (now (reads .entry)))
         ≡ beginWrite client mask badge (now (setpoints .entry)) (tablesOf (now (counts .entry)) (now (clients .entry)) (now (links .entry)) (now (keys .entry)) (now (values .entry)) (now (log .entry)) (now (writes .entry)) (now (reads .entry))) ⌝ }
 {
-    if !soundness::sound(
+    if !sound_tables::sound(
         &*counts,
         &*clients,
         &*links,
@@ -212,7 +215,7 @@ pub fn begin_read(
     ensures { λ r. ⌜ left r (tablesOf (now (counts .exit)) (now (clients .exit)) (now (links .exit)) (now (keys .entry)) (now (values .entry)) (now (log .entry)) (now (writes .entry)) (now (reads .exit)))
         ≡ beginRead client mask (tablesOf (now (counts .entry)) (now (clients .entry)) (now (links .entry)) (now (keys .entry)) (now (values .entry)) (now (log .entry)) (now (writes .entry)) (now (reads .entry))) ⌝ }
 {
-    if !soundness::sound(
+    if !sound_tables::sound(
         &*counts,
         &*clients,
         &*links,
@@ -288,7 +291,7 @@ pub fn deliver_request(
     ensures { λ r. ⌜ left r (tablesOf (now (counts .exit)) (now (clients .entry)) (now (links .exit)) (now (keys .exit)) (now (values .exit)) (now (log .exit)) (now (writes .exit)) (now (reads .entry)))
         ≡ deliverRequest client target (tablesOf (now (counts .entry)) (now (clients .entry)) (now (links .entry)) (now (keys .entry)) (now (values .entry)) (now (log .entry)) (now (writes .entry)) (now (reads .entry))) ⌝ }
 {
-    if !soundness::sound(
+    if !sound_tables::sound(
         &*counts,
         clients,
         &*links,
@@ -314,6 +317,82 @@ pub fn deliver_request(
     )
 }
 
+// Takes in a reply on tables known to be sound, ahead of what is shown of the client's row: refused by 3, 7 or 9. A row that was 0 gets the
+// tags that a READ shows.
+pub fn take_reply(
+    counts: &mut [u32],
+    clients: &mut [u32],
+    links: &mut [u32],
+    keys: &[u32],
+    values: &[u32],
+    log: &[u32],
+    writes: &mut [u32],
+    reads: &mut [u32],
+    client: u32,
+    target: u32,
+    tags: &mut [u32; 16],
+) -> Outcome
+    requires { ⌜ Sound (tablesOf (now counts) (now clients) (now links) (now keys) (now values) (now log) (now writes) (now reads)) ⌝ }
+    requires { ⌜ now tags ≡ replicate 16 0 ⌝ }
+    ensures { λ r. ⌜ Replied client target
+        (tablesOf (now (counts .entry)) (now (clients .entry)) (now (links .entry)) (now (keys .entry)) (now (values .entry))
+        (now (log .entry)) (now (writes .entry)) (now (reads .entry)))
+        r (now (tags .exit))
+        (tablesOf (now (counts .exit)) (now (clients .exit)) (now (links .exit)) (now (keys .entry)) (now (values .entry))
+        (now (log .entry)) (now (writes .exit)) (now (reads .exit))) ⌝ }
+{
+    let fault = refusals::delivery_fault(&*counts, client, target);
+    if fault != 0 {
+        return replies::plain(Arrival::Refused(fault));
+    }
+    let client = client as usize;
+    let target = target as usize;
+    let link = links::link_at(&*links, client, target);
+    let content = link.content;
+    let links::Content::Reply(contents) = content else {
+        return replies::plain(Arrival::Refused(9));
+    };
+    let state = clients::client_word(clients, client, clients::STATE);
+    if state == states::WRITING {
+        let arrival = replies::set_done(counts, clients, links, client, target);
+        return replies::plain(arrival);
+    }
+    if state == states::ENTERING {
+        let arrival = replies::entered(counts, clients, links, writes, client, target, contents);
+        return replies::plain(arrival);
+    }
+    if state == states::ASKING_KEYS {
+        let arrival = replies::keys_told(counts, clients, links, log, client, target, contents);
+        return replies::plain(arrival);
+    }
+    if state == states::ASKING_SETPOINTS {
+        let mask = clients::client_word(clients, client, clients::MASK);
+        let tag = clients::client_word(clients, client, clients::TAG);
+        if replies::got(counts, clients, links, reads, client, target, contents) {
+            return replies::plain(Arrival::Wait);
+        }
+        words::show_words(&*clients, client, clients::TAGS, mask, tags);
+        return Outcome {
+            arrival: Arrival::Read(tag),
+            ended: true,
+            mask: mask,
+        };
+    }
+    replies::all_told(
+        counts,
+        clients,
+        links,
+        keys,
+        values,
+        log,
+        reads,
+        client,
+        target,
+        contents,
+        tags,
+    )
+}
+
 // Delivers a reply on tables known to be sound: refused by 3, 7 or 9.
 pub fn deliver_reply_sound(
     counts: &mut [u32],
@@ -328,64 +407,28 @@ pub fn deliver_reply_sound(
     target: u32,
 ) -> Delivered
     requires { ⌜ Sound (tablesOf (now counts) (now clients) (now links) (now keys) (now values) (now log) (now writes) (now reads)) ⌝ }
-    ensures { λ r. ⌜ arrived r (tablesOf (now (counts .exit)) (now (clients .exit)) (now (links .exit)) (now (keys .entry)) (now (values .entry)) (now (log .entry)) (now (writes .exit)) (now (reads .exit)))
-        ≡ deliverReply client target (tablesOf (now (counts .entry)) (now (clients .entry)) (now (links .entry)) (now (keys .entry)) (now (values .entry)) (now (log .entry)) (now (writes .entry)) (now (reads .entry))) ⌝ }
+    ensures { λ r. ⌜ arrived r
+        (tablesOf (now (counts .exit)) (now (clients .exit)) (now (links .exit)) (now (keys .entry)) (now (values .entry))
+        (now (log .entry)) (now (writes .exit)) (now (reads .exit)))
+        ≡ deliverReply client target
+        (tablesOf (now (counts .entry)) (now (clients .entry)) (now (links .entry)) (now (keys .entry)) (now (values .entry))
+        (now (log .entry)) (now (writes .entry)) (now (reads .entry))) ⌝ }
 {
-    let fault = refusals::delivery_fault(&*counts, client, target);
-    if fault != 0 {
-        return rules::showing_nothing(Arrival::Refused(fault));
-    }
-    let client = client as usize;
-    let target = target as usize;
-    let link = links::link_at(&*links, client, target);
-    let content = link.content;
-    let links::Content::Reply(contents) = content else {
-        return rules::showing_nothing(Arrival::Refused(9));
-    };
-    let state = clients::client_word(clients, client, clients::STATE);
-    if state == states::WRITING {
-        let arrival = replies::set_done(counts, clients, links, client, target);
-        return rules::showing_nothing(arrival);
-    }
-    if state == states::ENTERING {
-        let arrival = replies::entered(counts, clients, links, writes, client, target, contents);
-        return rules::showing_nothing(arrival);
-    }
-    if state == states::ASKING_KEYS {
-        let arrival = replies::keys_told(counts, clients, links, log, client, target, contents);
-        return rules::showing_nothing(arrival);
-    }
-    if state == states::ASKING_SETPOINTS {
-        let mask = clients::client_word(clients, client, clients::MASK);
-        let tag = clients::client_word(clients, client, clients::TAG);
-        if replies::got(counts, clients, links, reads, client, target, contents) {
-            return rules::showing_nothing(Arrival::Wait);
-        }
-        let mut setpoints = [0u32; 16];
-        let mut tags = [0u32; 16];
-        let mut badges = [0u32; 16];
-        words::show_words(&*clients, client, clients::SETPOINTS, mask, &mut setpoints);
-        words::show_words(&*clients, client, clients::TAGS, mask, &mut tags);
-        words::show_words(&*clients, client, clients::BADGES, mask, &mut badges);
-        return Delivered {
-            arrival: Arrival::Read(tag),
-            setpoints: setpoints,
-            tags: tags,
-            badges: badges,
-        };
-    }
-    replies::all_told(
+    let mut tags = [0u32; 16];
+    let outcome = take_reply(
         counts,
         clients,
         links,
         keys,
         values,
         log,
+        writes,
         reads,
         client,
         target,
-        contents,
-    )
+        &mut tags,
+    );
+    replies::shown(&*clients, client as usize, outcome, tags)
 }
 
 // Delivers a reply: refused by 2, 3, 7 or 9.
@@ -404,7 +447,7 @@ pub fn deliver_reply(
     ensures { λ r. ⌜ arrived r (tablesOf (now (counts .exit)) (now (clients .exit)) (now (links .exit)) (now (keys .entry)) (now (values .entry)) (now (log .entry)) (now (writes .exit)) (now (reads .exit)))
         ≡ deliverReply client target (tablesOf (now (counts .entry)) (now (clients .entry)) (now (links .entry)) (now (keys .entry)) (now (values .entry)) (now (log .entry)) (now (writes .entry)) (now (reads .entry))) ⌝ }
 {
-    if !soundness::sound(
+    if !sound_tables::sound(
         &*counts,
         &*clients,
         &*links,
@@ -479,7 +522,7 @@ pub fn lose(
         (now (values .entry)) (now (log .entry))
         (now (writes .entry)) (now (reads .entry))) ⌝ }
 {
-    if !soundness::sound(&*counts, clients, &*links, keys, values, log, writes, reads) {
+    if !sound_tables::sound(&*counts, clients, &*links, keys, values, log, writes, reads) {
         return Answer::Refused(2);
     }
     lose_sound(
@@ -544,7 +587,7 @@ pub fn resend(
         (now (values .entry)) (now (log .entry))
         (now (writes .entry)) (now (reads .entry))) ⌝ }
 {
-    if !soundness::sound(&*counts, clients, &*links, keys, values, log, writes, reads) {
+    if !sound_tables::sound(&*counts, clients, &*links, keys, values, log, writes, reads) {
         return Answer::Refused(2);
     }
     resend_sound(

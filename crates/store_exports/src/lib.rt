@@ -1,10 +1,9 @@
-// What other languages call, on numbers and slices: the check of tables, the seven public steps, and six of them on tables known to be
-// sound, which are named `_unchecked`, since nothing checks a caller in another language.
+// What other languages call, on numbers and slices: the check of tables, and the seven public steps. `sound_exports` has six of them on
+// tables known to be sound.
 // An answer crosses as a number: 0 for ok, and below 256 the number of a refusal.
 ghost use mathlib.Core.Path.{_≡_};
 ghost use Rattle.tables.specs.Tables.{tablesOf};
 ghost use Rattle.soundness.specs.Sound.{sound};
-ghost use Rattle.soundness.specs.Facts.{Sound};
 ghost use Rattle.refusals.specs.Steps.{open′, beginWrite, beginRead, deliverRequest, deliverReply, lose, resend};
 ghost use Rattle.store_exports.specs.Numbers.{answerNumber, arrivalNumber, crossingOf, numbered, inNumbers, crossed, inCrossing};
 use rules::Answer;
@@ -12,7 +11,7 @@ use rules::Arrival;
 use rules::Delivered;
 
 // An answer as a number.
-fn answer_number(answer: Answer) -> u32
+pub fn answer_number(answer: Answer) -> u32
     ensures { λ r. ⌜ r ≡ answerNumber answer ⌝ }
 {
     match answer {
@@ -22,7 +21,7 @@ fn answer_number(answer: Answer) -> u32
 }
 
 // A delivered reply's answer as a number.
-fn arrival_number(arrival: Arrival) -> u64
+pub fn arrival_number(arrival: Arrival) -> u64
     ensures { λ r. ⌜ r ≡ arrivalNumber arrival ⌝ }
 {
     match arrival {
@@ -44,7 +43,8 @@ pub struct Crossing {
     pub badges: [u32; 16],
 }
 
-fn to_cross(delivered: Delivered) -> Crossing
+// The answer as it crosses.
+pub fn to_cross(delivered: Delivered) -> Crossing
     ensures { λ r. ⌜ r ≡ crossingOf delivered ⌝ }
 {
     let arrival = delivered.arrival;
@@ -73,7 +73,7 @@ pub extern "C" fn store_sound(
 ) -> bool
     ensures { λ r. ⌜ r ≡ sound (tablesOf (now (counts .entry)) (now (clients .entry)) (now (links .entry)) (now (keys .entry)) (now (values .entry)) (now (log .entry)) (now (writes .entry)) (now (reads .entry))) ⌝ }
 {
-    soundness::sound(counts, clients, links, keys, values, log, writes, reads)
+    sound_tables::sound(counts, clients, links, keys, values, log, writes, reads)
 }
 
 // Opens the store.
@@ -302,216 +302,6 @@ pub extern "C" fn store_resend(
         (now (writes .entry)) (now (reads .entry)))) ⌝ }
 {
     let answer = store::resend(
-        counts,
-        clients,
-        links,
-        keys,
-        values,
-        log,
-        writes,
-        reads,
-        client,
-        target,
-    );
-    answer_number(answer)
-}
-
-// Begins a WRITE on tables known to be sound.
-#[no_mangle]
-pub extern "C" fn store_begin_write_unchecked(
-    counts: &mut [u32],
-    clients: &mut [u32],
-    links: &mut [u32],
-    keys: &[u32],
-    values: &[u32],
-    log: &[u32],
-    writes: &mut [u32],
-    reads: &[u32],
-    client: u32,
-    mask: u32,
-    badge: u16,
-    setpoints: &[u32],
-) -> u32
-    requires { ⌜ Sound (tablesOf (now counts) (now clients) (now links) (now keys) (now values) (now log) (now writes) (now reads)) ⌝ }
-    ensures { λ r. ⌜ numbered r (tablesOf (now (counts .exit)) (now (clients .exit)) (now (links .exit)) (now (keys .entry)) (now (values .entry)) (now (log .entry)) (now (writes .exit)) (now (reads .entry)))
-        ≡ inNumbers (beginWrite client mask badge (now (setpoints .entry)) (tablesOf (now (counts .entry)) (now (clients .entry)) (now (links .entry)) (now (keys .entry)) (now (values .entry)) (now (log .entry)) (now (writes .entry)) (now (reads .entry)))) ⌝ }
-{
-    let answer = store::begin_write_sound(
-        counts,
-        clients,
-        links,
-        keys,
-        values,
-        log,
-        writes,
-        reads,
-        client,
-        mask,
-        badge,
-        setpoints,
-    );
-    answer_number(answer)
-}
-
-// Begins a READ on tables known to be sound.
-#[no_mangle]
-pub extern "C" fn store_begin_read_unchecked(
-    counts: &mut [u32],
-    clients: &mut [u32],
-    links: &mut [u32],
-    keys: &[u32],
-    values: &[u32],
-    log: &[u32],
-    writes: &[u32],
-    reads: &mut [u32],
-    client: u32,
-    mask: u32,
-) -> u32
-    requires { ⌜ Sound (tablesOf (now counts) (now clients) (now links) (now keys) (now values) (now log) (now writes) (now reads)) ⌝ }
-    ensures { λ r. ⌜ numbered r (tablesOf (now (counts .exit)) (now (clients .exit)) (now (links .exit)) (now (keys .entry)) (now (values .entry)) (now (log .entry)) (now (writes .entry)) (now (reads .exit)))
-        ≡ inNumbers (beginRead client mask (tablesOf (now (counts .entry)) (now (clients .entry)) (now (links .entry)) (now (keys .entry)) (now (values .entry)) (now (log .entry)) (now (writes .entry)) (now (reads .entry)))) ⌝ }
-{
-    let answer = store::begin_read_sound(
-        counts,
-        clients,
-        links,
-        keys,
-        values,
-        log,
-        writes,
-        reads,
-        client,
-        mask,
-    );
-    answer_number(answer)
-}
-
-// Delivers a request on tables known to be sound.
-#[no_mangle]
-pub extern "C" fn store_deliver_request_unchecked(
-    counts: &mut [u32],
-    clients: &[u32],
-    links: &mut [u32],
-    keys: &mut [u32],
-    values: &mut [u32],
-    log: &mut [u32],
-    writes: &mut [u32],
-    reads: &[u32],
-    client: u32,
-    target: u32,
-) -> u32
-    requires { ⌜ Sound (tablesOf (now counts) (now clients) (now links) (now keys) (now values) (now log) (now writes) (now reads)) ⌝ }
-    ensures { λ r. ⌜ numbered r (tablesOf (now (counts .exit)) (now (clients .entry)) (now (links .exit)) (now (keys .exit)) (now (values .exit)) (now (log .exit)) (now (writes .exit)) (now (reads .entry)))
-        ≡ inNumbers (deliverRequest client target (tablesOf (now (counts .entry)) (now (clients .entry)) (now (links .entry)) (now (keys .entry)) (now (values .entry)) (now (log .entry)) (now (writes .entry)) (now (reads .entry)))) ⌝ }
-{
-    let answer = store::deliver_request_sound(
-        counts,
-        clients,
-        links,
-        keys,
-        values,
-        log,
-        writes,
-        reads,
-        client,
-        target,
-    );
-    answer_number(answer)
-}
-
-// Delivers a reply on tables known to be sound.
-#[no_mangle]
-pub extern "C" fn store_deliver_reply_unchecked(
-    counts: &mut [u32],
-    clients: &mut [u32],
-    links: &mut [u32],
-    keys: &[u32],
-    values: &[u32],
-    log: &[u32],
-    writes: &mut [u32],
-    reads: &mut [u32],
-    client: u32,
-    target: u32,
-) -> Crossing
-    requires { ⌜ Sound (tablesOf (now counts) (now clients) (now links) (now keys) (now values) (now log) (now writes) (now reads)) ⌝ }
-    ensures { λ r. ⌜ crossed r (tablesOf (now (counts .exit)) (now (clients .exit)) (now (links .exit)) (now (keys .entry)) (now (values .entry)) (now (log .entry)) (now (writes .exit)) (now (reads .exit)))
-        ≡ inCrossing (deliverReply client target (tablesOf (now (counts .entry)) (now (clients .entry)) (now (links .entry)) (now (keys .entry)) (now (values .entry)) (now (log .entry)) (now (writes .entry)) (now (reads .entry)))) ⌝ }
-{
-    let delivered = store::deliver_reply_sound(
-        counts,
-        clients,
-        links,
-        keys,
-        values,
-        log,
-        writes,
-        reads,
-        client,
-        target,
-    );
-    to_cross(delivered)
-}
-
-// Loses what a link holds, on tables known to be sound.
-#[no_mangle]
-pub extern "C" fn store_lose_unchecked(
-    counts: &mut [u32],
-    clients: &[u32],
-    links: &mut [u32],
-    keys: &[u32],
-    values: &[u32],
-    log: &[u32],
-    writes: &[u32],
-    reads: &[u32],
-    client: u32,
-    target: u32,
-) -> u32
-    requires { ⌜ Sound (tablesOf (now counts) (now clients) (now links) (now keys) (now values) (now log) (now writes) (now reads)) ⌝ }
-    ensures { λ r. ⌜ numbered r (tablesOf (now (counts .exit)) (now (clients .entry)) (now (links .exit)) (now (keys .entry))
-        (now (values .entry)) (now (log .entry))
-        (now (writes .entry)) (now (reads .entry)))
-        ≡ inNumbers (lose client target (tablesOf (now (counts .entry)) (now (clients .entry)) (now (links .entry)) (now (keys .entry))
-        (now (values .entry)) (now (log .entry))
-        (now (writes .entry)) (now (reads .entry)))) ⌝ }
-{
-    let answer = store::lose_sound(
-        counts,
-        clients,
-        links,
-        keys,
-        values,
-        log,
-        writes,
-        reads,
-        client,
-        target,
-    );
-    answer_number(answer)
-}
-
-// Sends again what was lost on a link, on tables known to be sound.
-#[no_mangle]
-pub extern "C" fn store_resend_unchecked(
-    counts: &mut [u32],
-    clients: &[u32],
-    links: &mut [u32],
-    keys: &[u32],
-    values: &[u32],
-    log: &[u32],
-    writes: &[u32],
-    reads: &[u32],
-    client: u32,
-    target: u32,
-) -> u32
-    requires { ⌜ Sound (tablesOf (now counts) (now clients) (now links) (now keys) (now values) (now log) (now writes) (now reads)) ⌝ }
-    ensures { λ r. ⌜ numbered r (tablesOf (now (counts .exit)) (now (clients .entry)) (now (links .exit)) (now (keys .entry))
-        (now (values .entry)) (now (log .entry))
-        (now (writes .entry)) (now (reads .entry)))
-        ≡ inNumbers (resend client target (tablesOf (now (counts .entry)) (now (clients .entry)) (now (links .entry)) (now (keys .entry))
-        (now (values .entry)) (now (log .entry))
-        (now (writes .entry)) (now (reads .entry)))) ⌝ }
-{
-    let answer = store::resend_sound(
         counts,
         clients,
         links,

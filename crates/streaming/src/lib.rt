@@ -3,6 +3,7 @@ ghost use mathlib.Core.Path.{_≡_};
 ghost use Prim.Native.Nat.{_+_, _≤_, _<_};
 ghost use lib.ListN.{length};
 ghost use Rattle.tables.specs.Tables.{tablesOf};
+ghost use Rattle.schedule.specs.Steps.{setpointsMost};
 ghost use Rattle.printing.specs.Printed.{Printed};
 ghost use Rattle.printing.specs.Sizes.{answerMost};
 ghost use Rattle.register_text.specs.Text.{registerMost, registerPrinted};
@@ -36,7 +37,8 @@ pub const LOG: usize = log::WIDTH * log::PLACES;
 
 pub const RECORDS: usize = records::WIDTH * records::PLACES;
 
-// Answers a line, unless it is answered already, and passes it.
+// Answers a line, unless it is answered already, and passes it. The place for setpoints is lent from outside the run's loop, so that it is
+// cleared once; what it holds is of no account.
 fn answer_line(
     run: Run,
     counts: &mut [u32],
@@ -48,11 +50,13 @@ fn answer_line(
     writes: &mut [u32],
     reads: &mut [u32],
     line: &[u8],
+    setpoints: &mut [u32],
     out: &mut [u8],
 ) -> Run
     requires { ⌜ Playable (tablesOf (now counts) (now clients) (now links) (now keys) (now values) (now log) (now writes) (now reads)) ⌝ }
     requires { ⌜ (run .from + length (now line) ≤ run .held) × (0 < run .left) ⌝ }
     requires { ⌜ (run .used + answerMost ≤ length (now out)) × (run .lines + run .left ≤ turnsMost) ⌝ }
+    requires { ⌜ setpointsMost ≤ length (now setpoints) ⌝ }
     ensures { λ r. ⌜ Answered run (now (line .entry)) (tablesOf (now (counts .entry)) (now (clients .entry)) (now (links .entry)) (now (keys .entry)) (now (values .entry)) (now (log .entry)) (now (writes .entry)) (now (reads .entry))) (now (out .entry)) r (now (out .exit)) (tablesOf (now (counts .exit)) (now (clients .exit)) (now (links .exit)) (now (keys .exit)) (now (values .exit)) (now (log .exit)) (now (writes .exit)) (now (reads .exit))) ⌝ }
 {
     let size = line.len();
@@ -72,6 +76,7 @@ fn answer_line(
         reads,
         number,
         line,
+        setpoints,
         out,
         run.used,
     );
@@ -89,11 +94,13 @@ fn turn(
     log: &mut [u32],
     writes: &mut [u32],
     reads: &mut [u32],
+    setpoints: &mut [u32],
     window: &mut [u8],
     out: &mut [u8],
 ) -> Run
     requires { ⌜ Playable (tablesOf (now counts) (now clients) (now links) (now keys) (now values) (now log) (now writes) (now reads)) ⌝ }
     requires { ⌜ Going run (now window) (now out) × (0 < run .left) ⌝ }
+    requires { ⌜ setpointsMost ≤ length (now setpoints) ⌝ }
     ensures { λ r. ⌜ Turned run (now (window .entry)) (now (out .entry)) (tablesOf (now (counts .entry)) (now (clients .entry)) (now (links .entry)) (now (keys .entry)) (now (values .entry)) (now (log .entry)) (now (writes .entry)) (now (reads .entry))) r (now (window .exit)) (now (out .exit)) (tablesOf (now (counts .exit)) (now (clients .exit)) (now (links .exit)) (now (keys .exit)) (now (values .exit)) (now (log .exit)) (now (writes .exit)) (now (reads .exit))) ⌝ }
 {
     let from = run.from;
@@ -115,6 +122,7 @@ fn turn(
         writes,
         reads,
         line,
+        setpoints,
         out,
     )
 }
@@ -130,6 +138,7 @@ pub fn replay() {
     let mut log = [0u32; LOG];
     let mut writes = [0u32; RECORDS];
     let mut reads = [0u32; RECORDS];
+    let mut setpoints = [0u32; schedule::SETPOINTS];
     let mut window = [0u8; window::WINDOW];
     let mut out = [0u8; window::PRINT];
     let mut run = Run {
@@ -151,6 +160,7 @@ pub fn replay() {
             &mut log,
             &mut writes,
             &mut reads,
+            &mut setpoints,
             &mut window,
             &mut out,
         );

@@ -27,6 +27,7 @@ pub fn play_lines(
         (now (out .entry)) r (now (out .exit)) (tablesOf (now (counts .exit)) (now (clients .exit)) (now (links .exit))
         (now (keys .exit)) (now (values .exit)) (now (log .exit)) (now (writes .exit)) (now (reads .exit))) ⌝ }
 {
+    let mut setpoints = [0u32; schedule::SETPOINTS];
     let mut start = 0;
     let mut lines = 0u64;
     let mut printed = 0;
@@ -44,6 +45,7 @@ pub fn play_lines(
             reads,
             lines + 1,
             line,
+            &mut setpoints,
             out,
             printed,
         );

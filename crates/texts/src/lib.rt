@@ -62,7 +62,7 @@ pub fn may_play(
     if tables::counts::count_at(counts, METHOD) == 0 {
         return true;
     }
-    soundness::sound(counts, clients, links, keys, values, log, writes, reads)
+    sound_tables::sound(counts, clients, links, keys, values, log, writes, reads)
 }
 
 // The register of the last opening, from a place on; before any opening there is none. It answers where the print ends.

@@ -8,7 +8,7 @@ use Rattle.tables.specs.Layout.{putEntry}
 use Rattle.tables.specs.Links.{linkWidth, targets}
 use Rattle.tables.specs.Tables.{Tables, tablesOf}
 use Rattle.refusals.specs.Steps as store
-use Rattle.serial.specs.Steps.{Step, beginning-write, beginning-read, request, reply, play}
+use Rattle.claim.specs.Steps.{Step, beginning-write, beginning-read, request, reply, play}
 
 -- ---- presses with two servers
 

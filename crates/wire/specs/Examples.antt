@@ -10,7 +10,7 @@ use Rattle.ranges.specs.Turns.{turns}
 use Rattle.keys.specs.Keys.{keyOf}
 use Rattle.fields.specs.Bits.{bitOf, withBit, setBit, putField}
 use Rattle.formats.specs.Grammar.{size, lay, frame}
-use Rattle.formats.specs.Table.{sortAt, bitsOf, entriesIn, hasBadges}
+use Rattle.frame_table.specs.Table.{sortAt, bitsOf, entriesIn, hasBadges}
 use Rattle.formats.specs.Format.{leftAfter, placeAfter, nextOf, entries, fixed, format}
 use Rattle.tables.specs.Layout.{countWords, clientWidth, serverPlaces, valueWidth, logPlaces, entryWidth, recordPlaces, recordWidth}
 use Rattle.tables.specs.Links.{targets, linkWidth, linkAt, putLink}

@@ -11,7 +11,7 @@ use borrow.Author.Tests.{lt-leb}
 use Rattle.ranges.specs.Tests.{either, by-test}
 use Rattle.fields.specs.BitLaws.{Bytes}
 use Rattle.formats.specs.Grammar.{frame}
-use Rattle.formats.specs.Table.{sortAt, hasBadges, entryFields}
+use Rattle.frame_table.specs.Table.{sortAt, hasBadges, entryFields}
 use Rattle.formats.specs.Format.{format}
 use Rattle.tables.specs.Tables.{Tables, stateOf, contentAt}
 use Rattle.tables.specs.declared.links.Contents.{Contents}

@@ -11,8 +11,8 @@ use Rattle.ranges.specs.Tests.{by-equal, both}
 use Rattle.keys.specs.declared.Key.{Key}
 use Rattle.formats.specs.declared.state.State.{State}
 use Rattle.formats.specs.Grammar.{good}
-use Rattle.formats.specs.Table.{entryPlace, ownerPlace, badgePlace, numberPlace, entryFields, count, of, sortAt, bitsOf, leastOf, mostOf}
-use Rattle.formats.specs.Table.{entriesIn, hasBadges}
+use Rattle.frame_table.specs.Table.{entryPlace, ownerPlace, badgePlace, numberPlace, entryFields, count, of, sortAt, bitsOf, leastOf}
+use Rattle.frame_table.specs.Table.{mostOf, entriesIn, hasBadges}
 use Rattle.formats.specs.Format.{fieldOf, within, leftAfter, placeAfter, nextOf, entries, fixed, format}
 use Rattle.frames.specs.declared.Message.the-variants.{Set, SetDone, Enter, Entered, WhichKeys, Keys, Get, Got, GetAll, All, GetLog, Log}
 use Rattle.ranges.specs.Laid.{built}

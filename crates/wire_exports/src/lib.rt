@@ -54,7 +54,7 @@ pub extern "C" fn wire_write_link_frame(
         (now (log .entry)) (now (writes .entry)) (now (reads .entry)))
         (now (bytes .entry))) ⌝ }
 {
-    let written = wire::write_link_frame(
+    let written = link_frames::write_link_frame(
         counts,
         clients,
         links,

@@ -21,7 +21,6 @@ use Rattle.rules.specs.Common.{writing, entering, askingKeys, askingSetpoints}
 use Rattle.rules.specs.Open.{allServers}
 use Rattle.refusals.specs.Refusals.{writeFault, readFault, deliveryFault}
 use Rattle.schedule.specs.declared.Step.the-variants as step
-use Rattle.workload.specs.declared.LoadStep.{LoadStep}
 use Rattle.workload.specs.declared.Next.{Next}
 use Rattle.workload.specs.declared.Next.the-variants as next
 use Rattle.workload.specs.Passing.{passing}
@@ -161,9 +160,9 @@ module _ (test : ℕ → Bool) (t : Tables) (seed : ℕ) {n count : ℕ} {row : 
   unfolding pickedFrom
   pick-none z = rw (found-count test f, eq-eqb count 0 z)
 
-  pub pick-some : {seed′ index : ℕ} {s : LoadStep} → (count ≡ 0 → ⊥) → seed′ ≡ advance seed → index ≡ indexBy seed′ count →
-      s ≡ numbered t (getD row index 0) → next.Given seed′ s ≡ pickedFrom (passing test n) t seed
+  pub pick-some : {seed′ index : ℕ} {x : Next} → (count ≡ 0 → ⊥) → seed′ ≡ advance seed → index ≡ indexBy seed′ count →
+      x ≡ next.Given seed′ (numbered t (getD row index 0)) → x ≡ pickedFrom (passing test n) t seed
   unfolding pickedFrom
   pick-some {seed′} {index} z e i g =
       let l : index < count = rw i (index-below seed′ count (rw e (omega arith)) (omega arith)) in
-      rw (found-count test f, ne-eqb count 0 z, ← e, ← i, found-at test f index l, g)
+      rw (found-count test f, ne-eqb count 0 z, ← e, ← i, found-at test f index l) g

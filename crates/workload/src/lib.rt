@@ -1,4 +1,4 @@
-// The load: the step that it gives next, picked by its seed among the steps that would be accepted.
+// The load: its steps by number, which of them would be accepted, and which of so many a seed picks. `load_pick` picks.
 ghost use mathlib.Core.Path.{_≡_};
 ghost use mathlib.Core.List.{List};
 ghost use Prim.Native.Nat.{ℕ, _/_, _≤_, _<_};
@@ -6,15 +6,12 @@ ghost use lib.ListN.{length};
 ghost use Rattle.tables.specs.Rows.{HasRow};
 ghost use Rattle.tables.specs.Layout.{countAt, clientsField, countWords};
 ghost use Rattle.tables.specs.Links.{targets, linkWidth, linkRow};
-ghost use Rattle.tables.specs.Tables.{tablesOf, clientsOf};
-ghost use Rattle.soundness.specs.Facts.{Sound};
 ghost use Rattle.refusals.specs.Cases.{Judged};
-ghost use Rattle.workload.specs.Passing.{passing};
-ghost use Rattle.workload.specs.Load.{advance, indexBy, numbered, numberedCount, pickedFrom, nextStep};
+ghost use Rattle.workload.specs.declared.Next.the-variants.{Given};
+ghost use Rattle.workload.specs.Load.{advance, indexBy, numbered, numberedCount};
 ghost use Rattle.workload.specs.Accepts.{seen, acceptsWrite, acceptsRead, isHeld, isEntered, answersIn, acceptsRequest, acceptsReply};
 ghost use Rattle.workload.specs.Accepts.{accepts};
 ghost use Rattle.workload.specs.Ready.{Searched, Logged, Served, Numberable, Scanned};
-ghost use Rattle.workload.specs.PassingLaws.{Noted, Found};
 use keys::Key;
 use rules::states;
 use schedule::Step;
@@ -44,14 +41,11 @@ pub enum Next {
 const TARGETS: u32 = links::TARGETS as u32;
 
 // How many numbered steps of a client stand ahead of its requests, ahead of its replies, and in all.
-const BEGINS: u32 = 2;
+pub const BEGINS: u32 = 2;
 
-const BEFORE_REPLIES: u32 = BEGINS + TARGETS;
+pub const BEFORE_REPLIES: u32 = BEGINS + TARGETS;
 
-const NUMBERED: u32 = BEFORE_REPLIES + TARGETS;
-
-// The numbered steps of 16 clients.
-const MOST: usize = 16 * NUMBERED as usize;
+pub const NUMBERED: u32 = BEFORE_REPLIES + TARGETS;
 
 // The number behind a seed.
 pub fn advance(seed: u32) -> u32
@@ -68,7 +62,7 @@ fn high_half(number: u32) -> u32
 }
 
 // Which of so many steps a number picks: it is scaled down to their count.
-fn index_by(number: u32, count: u32) -> u32
+pub fn index_by(number: u32, count: u32) -> u32
     requires { ⌜ (0 < count) × (count ≤ 576) ⌝ }
     ensures { λ r. ⌜ (r ≡ indexBy number count) × (r < count) ⌝ }
 {
@@ -200,7 +194,7 @@ fn accepts_reply(counts: &[u32], links: &[u32], client: u32, target: u32) -> boo
 }
 
 // Whether the step of a number would be accepted.
-fn accepts(
+pub fn accepts(
     counts: &[u32],
     clients: &[u32],
     links: &[u32],
@@ -234,43 +228,6 @@ fn accepts(
     }
     let row = number - BEFORE_REPLIES * panels;
     accepts_reply(counts, links, row / TARGETS, row % TARGETS)
-}
-
-// Notes a number behind those noted so far, where it passes. It answers how many are noted then.
-fn note(numbers: &mut [u32], count: usize, number: u32, passes: bool) -> usize
-    requires { ⌜ count < length (now numbers) ⌝ }
-    ensures { λ r. ⌜ Noted (now (numbers .entry)) count number passes r (now (numbers .exit)) ⌝ }
-{
-    if passes {
-        numbers[count] = number;
-        return count + 1;
-    }
-    count
-}
-
-// The numbers of the steps that would be accepted, rising. It answers how many they are.
-fn list_accepted(
-    counts: &[u32],
-    clients: &[u32],
-    links: &[u32],
-    keys: &[u32],
-    log: &[u32],
-    numbers: &mut [u32],
-) -> usize
-    requires { ⌜ Scanned (now counts) (now clients) (now links) (now keys) (now log) × (numberedCount 16 ≤ length (now numbers)) ⌝ }
-    ensures { λ r. ⌜ Found
-        (accepts (seen (now (counts .entry)) (now (clients .entry)) (now (links .entry)) (now (keys .entry)) (now (log .entry))))
-        (numberedCount (countAt (now (counts .entry)) clientsField)) r (now (numbers .exit)) ⌝ }
-{
-    let total = NUMBERED * counts::count_at(counts, counts::CLIENTS);
-    let mut count = 0;
-    let mut number: u32 = 0;
-    while number < total {
-        let passes = accepts(counts, clients, links, keys, log, number);
-        count = note(numbers, count, number, passes);
-        number += 1;
-    }
-    count
 }
 
 // The step of a number.
@@ -308,77 +265,11 @@ fn numbered(counts: &[u32], clients: &[u32], number: u32) -> LoadStep
     }
 }
 
-// Picks among the steps that would be accepted.
-fn pick(
-    counts: &[u32],
-    clients: &[u32],
-    links: &[u32],
-    keys: &[u32],
-    log: &[u32],
-    seed: u32,
-) -> Next
-    requires { ⌜ Scanned (now counts) (now clients) (now links) (now keys) (now log) ⌝ }
-    ensures { λ r. ⌜ (let t = seen (now (counts .entry)) (now (clients .entry)) (now (links .entry)) (now (keys .entry))
-        (now (log .entry)) in r ≡ pickedFrom (passing (accepts t) (numberedCount (clientsOf t))) t seed) ⌝ }
+// What a pick gives: the seed behind it, and the step of a number.
+pub fn given(counts: &[u32], clients: &[u32], seed: u32, number: u32) -> Next
+    requires { ⌜ Numberable (now counts) (now clients) ⌝ }
+    ensures { λ r. ⌜ ((links keys log : List ℕ) →
+        r ≡ Given seed (numbered (seen (now (counts .entry)) (now (clients .entry)) links keys log) number)) ⌝ }
 {
-    let mut numbers = [0u32; MOST];
-    let count = list_accepted(counts, clients, links, keys, log, &mut numbers);
-    if count == 0 {
-        return Next::End;
-    }
-    let behind = advance(seed);
-    let index = index_by(behind, count as u32) as usize;
-    Next::Given(behind, numbered(counts, clients, numbers[index]))
-}
-
-// The next step of a load, and the seed behind it, on tables known to be sound.
-pub fn next_step_sound(
-    counts: &[u32],
-    clients: &[u32],
-    links: &[u32],
-    keys: &[u32],
-    values: &[u32],
-    log: &[u32],
-    writes: &[u32],
-    reads: &[u32],
-    seed: u32,
-) -> Next
-    requires { ⌜ Sound (tablesOf (now counts) (now clients) (now links) (now keys) (now values) (now log) (now writes) (now reads)) ⌝ }
-    ensures { λ r. ⌜ r
-        ≡ nextStep (tablesOf (now (counts .entry)) (now (clients .entry)) (now (links .entry)) (now (keys .entry)) (now (values .entry))
-        (now (log .entry)) (now (writes .entry)) (now (reads .entry))) seed ⌝ }
-{
-    pick(counts, clients, links, keys, log, seed)
-}
-
-// The next step of a load, and the seed behind it: refused by 2.
-pub fn next_step(
-    counts: &[u32],
-    clients: &[u32],
-    links: &[u32],
-    keys: &[u32],
-    values: &[u32],
-    log: &[u32],
-    writes: &[u32],
-    reads: &[u32],
-    seed: u32,
-) -> Next
-    ensures { λ r. ⌜ r
-        ≡ nextStep (tablesOf (now (counts .entry)) (now (clients .entry)) (now (links .entry)) (now (keys .entry)) (now (values .entry))
-        (now (log .entry)) (now (writes .entry)) (now (reads .entry))) seed ⌝ }
-{
-    if !soundness::sound(counts, clients, links, keys, values, log, writes, reads) {
-        return Next::Refused(2);
-    }
-    next_step_sound(
-        counts,
-        clients,
-        links,
-        keys,
-        values,
-        log,
-        writes,
-        reads,
-        seed,
-    )
+    Next::Given(seed, numbered(counts, clients, number))
 }

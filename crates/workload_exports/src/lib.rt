@@ -130,7 +130,7 @@ pub extern "C" fn load_next_step(
         (tablesOf (now (counts .entry)) (now (clients .entry)) (now (links .entry)) (now (keys .entry)) (now (values .entry))
         (now (log .entry)) (now (writes .entry)) (now (reads .entry))) seed) ⌝ }
 {
-    let next = workload::next_step(
+    let next = load_pick::next_step(
         counts,
         clients,
         links,
@@ -166,7 +166,7 @@ pub extern "C" fn load_play(
         (tablesOf (now (counts .entry)) (now (clients .entry)) (now (links .entry)) (now (keys .entry)) (now (values .entry))
         (now (log .entry)) (now (writes .entry)) (now (reads .entry)))) ⌝ }
 {
-    let load = workload_run::play_load(
+    let load = load_run::play_load(
         counts,
         clients,
         links,

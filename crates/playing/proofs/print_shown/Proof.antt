@@ -1,8 +1,21 @@
--- An answer takes at most `answerMost` bytes.
+-- An answer takes at most `answerMost` bytes. One that shows no servers is the same whatever stands in the rows.
+use Rattle.printing.specs.PlainLaws.{answer-plain}
 use borrow.Author.Needs.{needs}
-use Rattle.ranges.specs.Tests.{at-most}
+use Rattle.ranges.specs.Tests.{at-most, fails}
 use Rattle.playing.proofs.print_shown.Statement.{statement}
 use Rattle.playing.proofs.print_shown.Tie as tie
+
+returns : tie.Need-returns
+returns c =
+    let p = c .before .before in
+    let asked = p .before .before .before in
+    let a = asked .before .before .args in
+    let s = a .shown in
+    let plain = fails (asked .shows-servers .ensures) (p .before .before .if1 .taken) in
+    let printed = p .print-plain-answer .ensures in (
+      rw (← answer-plain (a .number) (s .word) (s .mask) (s .setpoints) (s .tags) (s .badges) plain) (printed .0),
+      printed .1,
+    )
 
 slice-aggregate-print-answer : tie.Need-slice-aggregate-print-answer
 slice-aggregate-print-answer c = search needs
@@ -28,5 +41,7 @@ print-answer-requires c κs = (
 pub print-shown-spec : {M : Type 1} → statement M
 print-shown-spec =
     tie.close
-    (tie.spec slice-aggregate-print-answer slice-aggregate-print-answer-2 slice-aggregate-print-answer-3 print-answer-requires
+    (tie.spec
+    (λ c κs. search needs) (λ c κs. search needs) (λ c. search needs) returns
+    slice-aggregate-print-answer slice-aggregate-print-answer-2 slice-aggregate-print-answer-3 print-answer-requires
     (λ c. search needs) (λ c. search needs))

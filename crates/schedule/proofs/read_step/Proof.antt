@@ -1,54 +1,44 @@
--- An empty or longer line is no step; else the numbers behind the first byte decide.
--- Below, `read` is the place behind the number reader, and `short` the one where the line is known to be neither empty nor too long.
-use Rattle.schedule.specs.StepLaws.{names-none, line-empty, line-long, line-broken, line-names, count-within, part-length, part-fits}
+-- An empty or longer line is no step; else the first byte tells whether there may be setpoints, and what stands behind it decides.
+use mathlib.Core.Path.{sym, _∙_}
+use Rattle.schedule.specs.StepLaws.{names-none, line-empty, line-long, line-names}
+use Rattle.schedule.specs.PairLaws.{line-pair}
 use borrow.Author.Needs.{needs}
 use Rattle.schedule.proofs.read_step.Statement.{statement}
 use Rattle.schedule.proofs.read_step.Tie as tie
 
 returns : tie.Need-returns
-returns c = let a = c .before .before .before .before .args in names-none (a .setpoints .now) (line-empty (a .line .now) (c .before .if1 .taken)) (c .unreadable .ensures)
+returns c =
+    let a = c .before .before .before .before .args in
+    names-none (a .setpoints .now) (line-empty (a .line .now) (c .before .if1 .taken)) (c .unreadable .ensures)
 
 returns-2 : tie.Need-returns-2
-returns-2 c = let a = c .before .before .before .before .before .args in names-none (a .setpoints .now) (line-long (a .line .now) (c .before .if2 .taken)) (c .unreadable2 .ensures)
-
-array-share-prefix-numbers : tie.Need-array-share-prefix-numbers
-array-share-prefix-numbers c =
-    let read = c .before .before .before .before .before in
-    let short = read .before .before .before in
-    count-within (short .before .before .before .before .args .line .now) (short .before .if1 .left) (short .if2 .left) _ _ (read .numbers-in .ensures .0) (c .before .before .read .given .1)
-    (read .numbers-in .ensures .1)
-
-slice-aggregate-name-step : tie.Need-slice-aggregate-name-step
-slice-aggregate-name-step c =
-    let read = c .before .before .before .before .before .before in
-    let short = read .before .before .before in
-    part-length (short .before .before .before .before .args .line .now) (short .before .if1 .left) (short .if2 .left) _ _ (read .numbers-in .ensures .0) (c .before .before .before .read .given .1)
-    (read .numbers-in .ensures .1)
-
-name-step-requires : tie.Need-name-step-requires
-name-step-requires c κs =
-    let read = c .before .before .before .before .before .before .before in
-    let short = read .before .before .before in
-    part-fits (short .before .before .before .before .args .line .now) (short .before .if1 .left) (short .if2 .left) _ _ (read .numbers-in .ensures .0) (c .before .before .before .before .read .given .1)
-    (read .numbers-in .ensures .1) _ (read .numbers-in .kept .1 .0) (short .before .before .before .before .pre)
+returns-2 c =
+    let a = c .before .before .before .before .before .args in
+    names-none (a .setpoints .now) (line-long (a .line .now) (c .before .if2 .taken)) (c .unreadable2 .ensures)
 
 returns-3 : tie.Need-returns-3
 returns-3 c =
-    let read = c .before .before .before .before in
-    let short = read .before .before .before in
+    let read = c .before .before in
+    let short = read .before .before .before .before .before .before in
     let a = short .before .before .before .before .args in
-    names-none (a .setpoints .now)
-    (line-broken (a .line .now) (short .before .if1 .left) (short .if2 .left) (read .numbers-in .ensures .0) (c .before .enum-told .given .1))
-    (c .unreadable3 .ensures)
+    line-names (a .line .now) (short .before .if1 .left) (short .if2 .left) (read .read-longer .ensures)
+
+read-pair-requires : tie.Need-read-pair-requires
+read-pair-requires c κs = sym (c .before .before .has-setpoints .ensures) ∙ c .before .if3 .left
 
 returns-4 : tie.Need-returns-4
 returns-4 c =
-    let read = c .before .before .before .before .before .before .before .before .before .before in
-    let short = read .before .before .before in
-    line-names (short .before .before .before .before .args .line .now) (short .before .if1 .left) (short .if2 .left) _ _ (read .numbers-in .ensures .0) (c .before .before .before .before .before .before .before .read .given .1)
-    (read .numbers-in .ensures .1) (c .before .before .name-step .ensures)
+    let asked = c .before .before .before in
+    let short = asked .before .before in
+    let a = short .before .before .before .before .args in
+    line-pair (a .line .now) (a .setpoints .now) (short .before .if1 .left) (short .if2 .left)
+    (sym (asked .has-setpoints .ensures) ∙ c .before .before .if3 .left)
+    (c .read-pair .ensures)
 
 pub read-step-spec : {M : Type 1} → statement M
 read-step-spec =
     tie.close
-    (tie.spec (λ c κs. search needs) returns (λ c κs. search needs) returns-2 (λ c. search needs) (λ c. search needs) (λ c. search needs) (λ c. search needs) (λ c κs. search needs) (λ c. search needs) (λ c κs. search needs) (λ c. search needs) (λ c. search needs) array-share-prefix-numbers slice-aggregate-name-step name-step-requires returns-3 (λ c. search needs) returns-4)
+    (tie.spec
+    (λ c κs. search needs) returns (λ c κs. search needs) returns-2 (λ c. search needs) (λ c κs. search needs)
+    (λ c. search needs) (λ c. search needs) (λ c. search needs) (λ c κs. search needs) (λ c. search needs) returns-3
+    (λ c. search needs) (λ c. search needs) (λ c. search needs) read-pair-requires returns-4)

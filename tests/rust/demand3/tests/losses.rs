@@ -42,8 +42,8 @@ fn report(schedule: &str, printed: &str, old: &str, new: &str) -> String {
 #[test]
 fn the_cards_are_right() {
     let seen = check(EXAMPLE.as_bytes(), EXAMPLE_PRINTED.as_bytes()).expect("right");
-    // Counted on the card: B loses a keys, an entered and a get, C an all and a get all.
-    assert_eq!((seen.lost_requests, seen.lost_replies, seen.sent_again), (2, 3, 5));
+    // Counted on the card: B loses a set done, a keys, an entered and a get, C an all and a get all.
+    assert_eq!((seen.lost_requests, seen.lost_replies, seen.sent_again), (2, 4, 6));
     let seen = check(CARD.as_bytes(), CARD_PRINTED.as_bytes()).expect("right");
     let lost =
         CARD.lines().zip(CARD_PRINTED.lines()).filter(|(line, said)| line.starts_with('!') && said.ends_with(" ok")).count();

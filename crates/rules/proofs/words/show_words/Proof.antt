@@ -1,55 +1,47 @@
--- `rules::words::show_words` meets its contract: the loop has laid the words of the masked servers it has passed.
-use Prim.Native.Nat.{ℕ, _+_, _≤_, _-_}
+-- `rules::words::show_words` meets its contract: the loop has laid what is shown of the servers that it has passed.
+use Prim.Native.Nat.{ℕ, _+_, _-_}
+use mathlib.Core.Bool.{cond}
 use mathlib.Core.List.{List}
-use mathlib.Core.Path.{_≡_, sym, _∙_}
-use mathlib.Core.Logic.{⊎-elim}
-use native.Mathlib.Omega.{arith}
-use Rattle.ranges.specs.Turns.{turns, turns-none, turns-more}
-use Rattle.ranges.specs.Picked.{picked}
+use mathlib.Core.Path.{_≡_, _∙_}
+use Rattle.ranges.specs.LaidLaws.{Laying, laying-none, laying-more, laying-all, laid-at}
 use Rattle.keys.specs.Masks.{hasServer}
 use Rattle.tables.specs.Layout.{clientWord}
-use Rattle.rules.specs.Words.{layWord}
+use Rattle.rules.specs.WordsLaws.{shown-laid}
 use borrow.Author.Needs.{needs}
 use Rattle.rules.proofs.words.show_words.Statement.{statement}
 use Rattle.rules.proofs.words.show_words.Tie as tie
 
--- a turn of the loop
-abbrev turn : List ℕ → ℕ → ℕ → ℕ → ℕ → List ℕ → List ℕ
-turn clients client field mask = picked (hasServer mask) (layWord (λ i. clientWord clients client (field + i)))
+-- the word shown of a server
+abbrev shown : List ℕ → ℕ → ℕ → ℕ → ℕ → ℕ
+shown clients client field mask i = cond (hasServer mask i) (clientWord clients client (field + i)) 0
 
 abbrev Inv-loop : tie.InvT-loop
-Inv-loop clients client field mask row₀ server₀ row server =
-    (server ≤ 16) × (row ≡ turns (turn clients client field mask) server row₀)
+Inv-loop clients client field mask row₀ words server₀ row server = Laying (shown clients client field mask) 16 row₀ server row
 
 abbrev μ-loop : tie.MeasureT-loop
-μ-loop clients client field mask row₀ server₀ row server = 16 - server
+μ-loop clients client field mask row₀ words server₀ row server = 16 - server
 
 loop-holds : tie.Need-loop-holds Inv-loop μ-loop
-loop-holds c =
-    let a = c .before .args in
-    (search needs, turns-none (turn (a .clients .now) (a .client) (a .field) (a .mask)) _)
+loop-holds c = laying-none _ _ _ (search needs)
 
 loop-again : tie.Need-loop-again Inv-loop μ-loop
 loop-again c =
-    let at-loop = c .before .before .before in
-    let a = at-loop .before .before .args in
-    let v = at-loop .loop .inv in
-    let b = c .before .has-server .ensures in
-    let f = turn (a .clients .now) (a .client) (a .field) (a .mask) in
-    let n = at-loop .loop .server in
-    ⊎-elim
-    (λ w. (search needs, turns-more f n _ (v .1) (rw (sym b ∙ w .0 .taken) (w .2 ∙ rw (w .1 .ensures)))))
-    (λ w. (search needs, turns-more f n _ (v .1) (rw (sym b ∙ w .0 .left) (w .1))))
-    (c .if1 .came)
+    let at-loop = c .before .before in
+    let at-copy-words = at-loop .before in
+    let a = at-copy-words .before .before .before .args in
+    let f : ℕ → ℕ = λ i. clientWord (a .clients .now) (a .client) (a .field + i) in
+    laying-more (at-loop .loop .inv) (search needs)
+    (c .masked-word .ensures ∙ rw (at-copy-words .copy-words .ensures, laid-at f 16 _ (at-loop .loop .server) (search needs)))
 
 returns : tie.Need-returns Inv-loop μ-loop
 returns c =
-    let e : c .before .loop .server ≡ 16 = omega arith in
-    rw (c .before .loop .inv .1, e)
+    let start = c .before .before .before .before .before in
+    let a = start .args in
+    shown-laid (a .field) (a .clients .now) (a .client) (a .mask) (a .row .now) (start .pre .1 .1)
+    (laying-all (c .before .loop .inv) (c .loop-test .left))
 
 pub show-words-spec : {M : Type 1} → statement M
 show-words-spec =
     tie.close
-    (tie.spec Inv-loop μ-loop loop-holds (λ c κs. search needs)
-    (λ c. search needs) (λ c κs. search needs) (λ c. search needs) (λ c. search needs)
-    (λ c. search needs) (λ c. search needs) loop-again returns)
+    (tie.spec Inv-loop μ-loop (λ c κs. search needs) loop-holds (λ c. search needs) (λ c. search needs) (λ c κs. search needs)
+    (λ c. search needs) (λ c. search needs) (λ c. search needs) (λ c. search needs) loop-again returns)

@@ -1,0 +1,10 @@
+-- `sound_exports::plain` meets its contract: the number is the arrival's, and nothing is shown.
+use borrow.Author.Needs.{needs}
+use Rattle.sound_exports.proofs.plain.Statement.{statement}
+use Rattle.sound_exports.proofs.plain.Tie as tie
+
+returns : tie.Need-returns
+returns c = rw (c .arrival-number .ensures)
+
+pub plain-spec : {M : Type 1} → statement M
+plain-spec = tie.close (tie.spec (λ c κs. search needs) returns)

@@ -1,0 +1,16 @@
+-- `sound_exports::store_resend_unchecked` meets its contract: the number is the answer's, the tables are what
+-- `store::resend_sound` leaves.
+use Rattle.store_exports.specs.NumberLaws.{answered}
+use borrow.Author.Needs.{needs}
+use Rattle.sound_exports.proofs.store_resend_unchecked.Statement.{statement}
+use Rattle.sound_exports.proofs.store_resend_unchecked.Tie as tie
+
+returns : tie.Need-returns
+returns c =
+    let at-step = c .before .before .before .before .before in
+    answered (c .answer-number .ensures) (at-step .resend-sound .ensures)
+
+pub store-resend-unchecked-spec : {M : Type 1} → statement M
+store-resend-unchecked-spec =
+    tie.close
+    (tie.spec (λ c κs. search needs) (λ c κs. search needs) (λ c. search needs) (λ c. search needs) returns)

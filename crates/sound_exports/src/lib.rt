@@ -1,0 +1,287 @@
+// What other languages call on tables known to be sound, on numbers and slices: six steps that check no tables. They are named
+// `_unchecked`, since nothing checks a caller in another language.
+// They stand in a library of their own. Beside the public steps each step of `store` would have two callers, so that the compiler would leave
+// it a call, with each slice handed over by the address of a copy; here it has one, and is inlined.
+ghost use mathlib.Core.Path.{_≡_};
+ghost use mathlib.Core.Bool.{true};
+ghost use Rattle.tables.specs.Rows.{HasRow};
+ghost use Rattle.tables.specs.Layout.{clientWidth};
+ghost use Rattle.tables.specs.Tables.{tablesOf};
+ghost use Rattle.rules.specs.Answers.{nothingShown};
+ghost use Rattle.soundness.specs.Facts.{Sound};
+ghost use Rattle.refusals.specs.Steps.{beginWrite, beginRead, deliverRequest, deliverReply, lose, resend};
+ghost use Rattle.replies.specs.Shown.{shownBy};
+ghost use Rattle.store_exports.specs.Numbers.{crossingOf, numbered, inNumbers, crossed, inCrossing};
+use replies::Outcome;
+use rules::Answer;
+use rules::Arrival;
+use rules::words;
+use store_exports::Crossing;
+use tables::clients;
+
+// An answer that shows nothing, as it crosses.
+fn plain(arrival: Arrival) -> Crossing
+    ensures { λ r. ⌜ r ≡ crossingOf (nothingShown arrival) ⌝ }
+{
+    Crossing {
+        number: store_exports::arrival_number(arrival),
+        setpoints: [0; 16],
+        tags: [0; 16],
+        badges: [0; 16],
+    }
+}
+
+// The answer where a READ has ended, with what it shows of the client's row and the tags beside it.
+fn shown(clients: &[u32], client: usize, outcome: Outcome, tags: [u32; 16]) -> Crossing
+    requires { ⌜ HasRow clientWidth (now clients) client ⌝ }
+    ensures { λ r. ⌜ (outcome .ended ≡ true → r ≡ crossingOf (shownBy outcome tags (now (clients .entry)) client)) ⌝ }
+{
+    let arrival = outcome.arrival;
+    let mask = outcome.mask;
+    let mut setpoints = [0u32; 16];
+    let mut badges = [0u32; 16];
+    words::show_words(clients, client, clients::SETPOINTS, mask, &mut setpoints);
+    words::show_words(clients, client, clients::BADGES, mask, &mut badges);
+    Crossing {
+        number: store_exports::arrival_number(arrival),
+        setpoints: setpoints,
+        tags: tags,
+        badges: badges,
+    }
+}
+
+// Begins a WRITE on tables known to be sound.
+#[no_mangle]
+pub extern "C" fn store_begin_write_unchecked(
+    counts: &mut [u32],
+    clients: &mut [u32],
+    links: &mut [u32],
+    keys: &[u32],
+    values: &[u32],
+    log: &[u32],
+    writes: &mut [u32],
+    reads: &[u32],
+    client: u32,
+    mask: u32,
+    badge: u16,
+    setpoints: &[u32],
+) -> u32
+    requires { ⌜ Sound (tablesOf (now counts) (now clients) (now links) (now keys) (now values) (now log) (now writes) (now reads)) ⌝ }
+    ensures { λ r. ⌜ numbered r (tablesOf (now (counts .exit)) (now (clients .exit)) (now (links .exit)) (now (keys .entry))
+        (now (values .entry)) (now (log .entry))
+        (now (writes .exit)) (now (reads .entry)))
+        ≡ inNumbers (beginWrite client mask badge (now (setpoints .entry))
+        (tablesOf (now (counts .entry)) (now (clients .entry)) (now (links .entry)) (now (keys .entry))
+        (now (values .entry)) (now (log .entry))
+        (now (writes .entry)) (now (reads .entry)))) ⌝ }
+{
+    let answer: Answer = store::begin_write_sound(
+        counts,
+        clients,
+        links,
+        keys,
+        values,
+        log,
+        writes,
+        reads,
+        client,
+        mask,
+        badge,
+        setpoints,
+    );
+    store_exports::answer_number(answer)
+}
+
+// Begins a READ on tables known to be sound.
+#[no_mangle]
+pub extern "C" fn store_begin_read_unchecked(
+    counts: &mut [u32],
+    clients: &mut [u32],
+    links: &mut [u32],
+    keys: &[u32],
+    values: &[u32],
+    log: &[u32],
+    writes: &[u32],
+    reads: &mut [u32],
+    client: u32,
+    mask: u32,
+) -> u32
+    requires { ⌜ Sound (tablesOf (now counts) (now clients) (now links) (now keys) (now values) (now log) (now writes) (now reads)) ⌝ }
+    ensures { λ r. ⌜ numbered r (tablesOf (now (counts .exit)) (now (clients .exit)) (now (links .exit)) (now (keys .entry))
+        (now (values .entry)) (now (log .entry))
+        (now (writes .entry)) (now (reads .exit)))
+        ≡ inNumbers (beginRead client mask
+        (tablesOf (now (counts .entry)) (now (clients .entry)) (now (links .entry)) (now (keys .entry))
+        (now (values .entry)) (now (log .entry))
+        (now (writes .entry)) (now (reads .entry)))) ⌝ }
+{
+    let answer: Answer = store::begin_read_sound(
+        counts,
+        clients,
+        links,
+        keys,
+        values,
+        log,
+        writes,
+        reads,
+        client,
+        mask,
+    );
+    store_exports::answer_number(answer)
+}
+
+// Delivers a request on tables known to be sound.
+#[no_mangle]
+pub extern "C" fn store_deliver_request_unchecked(
+    counts: &mut [u32],
+    clients: &[u32],
+    links: &mut [u32],
+    keys: &mut [u32],
+    values: &mut [u32],
+    log: &mut [u32],
+    writes: &mut [u32],
+    reads: &[u32],
+    client: u32,
+    target: u32,
+) -> u32
+    requires { ⌜ Sound (tablesOf (now counts) (now clients) (now links) (now keys) (now values) (now log) (now writes) (now reads)) ⌝ }
+    ensures { λ r. ⌜ numbered r (tablesOf (now (counts .exit)) (now (clients .entry)) (now (links .exit)) (now (keys .exit))
+        (now (values .exit)) (now (log .exit))
+        (now (writes .exit)) (now (reads .entry)))
+        ≡ inNumbers (deliverRequest client target
+        (tablesOf (now (counts .entry)) (now (clients .entry)) (now (links .entry)) (now (keys .entry))
+        (now (values .entry)) (now (log .entry))
+        (now (writes .entry)) (now (reads .entry)))) ⌝ }
+{
+    let answer: Answer = store::deliver_request_sound(
+        counts,
+        clients,
+        links,
+        keys,
+        values,
+        log,
+        writes,
+        reads,
+        client,
+        target,
+    );
+    store_exports::answer_number(answer)
+}
+
+// Delivers a reply on tables known to be sound.
+#[no_mangle]
+pub extern "C" fn store_deliver_reply_unchecked(
+    counts: &mut [u32],
+    clients: &mut [u32],
+    links: &mut [u32],
+    keys: &[u32],
+    values: &[u32],
+    log: &[u32],
+    writes: &mut [u32],
+    reads: &mut [u32],
+    client: u32,
+    target: u32,
+) -> Crossing
+    requires { ⌜ Sound (tablesOf (now counts) (now clients) (now links) (now keys) (now values) (now log) (now writes) (now reads)) ⌝ }
+    ensures { λ r. ⌜ crossed r (tablesOf (now (counts .exit)) (now (clients .exit)) (now (links .exit)) (now (keys .entry))
+        (now (values .entry)) (now (log .entry))
+        (now (writes .exit)) (now (reads .exit)))
+        ≡ inCrossing (deliverReply client target
+        (tablesOf (now (counts .entry)) (now (clients .entry)) (now (links .entry)) (now (keys .entry))
+        (now (values .entry)) (now (log .entry))
+        (now (writes .entry)) (now (reads .entry)))) ⌝ }
+{
+    let mut tags = [0u32; 16];
+    let outcome: Outcome = store::take_reply(
+        counts,
+        clients,
+        links,
+        keys,
+        values,
+        log,
+        writes,
+        reads,
+        client,
+        target,
+        &mut tags,
+    );
+    if outcome.ended {
+        return shown(&*clients, client as usize, outcome, tags);
+    }
+    let arrival = outcome.arrival;
+    plain(arrival)
+}
+
+// Loses what a link holds, on tables known to be sound.
+#[no_mangle]
+pub extern "C" fn store_lose_unchecked(
+    counts: &mut [u32],
+    clients: &[u32],
+    links: &mut [u32],
+    keys: &[u32],
+    values: &[u32],
+    log: &[u32],
+    writes: &[u32],
+    reads: &[u32],
+    client: u32,
+    target: u32,
+) -> u32
+    requires { ⌜ Sound (tablesOf (now counts) (now clients) (now links) (now keys) (now values) (now log) (now writes) (now reads)) ⌝ }
+    ensures { λ r. ⌜ numbered r (tablesOf (now (counts .exit)) (now (clients .entry)) (now (links .exit)) (now (keys .entry))
+        (now (values .entry)) (now (log .entry))
+        (now (writes .entry)) (now (reads .entry)))
+        ≡ inNumbers (lose client target (tablesOf (now (counts .entry)) (now (clients .entry)) (now (links .entry)) (now (keys .entry))
+        (now (values .entry)) (now (log .entry))
+        (now (writes .entry)) (now (reads .entry)))) ⌝ }
+{
+    let answer: Answer = store::lose_sound(
+        counts,
+        clients,
+        links,
+        keys,
+        values,
+        log,
+        writes,
+        reads,
+        client,
+        target,
+    );
+    store_exports::answer_number(answer)
+}
+
+// Sends again what was lost on a link, on tables known to be sound.
+#[no_mangle]
+pub extern "C" fn store_resend_unchecked(
+    counts: &mut [u32],
+    clients: &[u32],
+    links: &mut [u32],
+    keys: &[u32],
+    values: &[u32],
+    log: &[u32],
+    writes: &[u32],
+    reads: &[u32],
+    client: u32,
+    target: u32,
+) -> u32
+    requires { ⌜ Sound (tablesOf (now counts) (now clients) (now links) (now keys) (now values) (now log) (now writes) (now reads)) ⌝ }
+    ensures { λ r. ⌜ numbered r (tablesOf (now (counts .exit)) (now (clients .entry)) (now (links .exit)) (now (keys .entry))
+        (now (values .entry)) (now (log .entry))
+        (now (writes .entry)) (now (reads .entry)))
+        ≡ inNumbers (resend client target (tablesOf (now (counts .entry)) (now (clients .entry)) (now (links .entry)) (now (keys .entry))
+        (now (values .entry)) (now (log .entry))
+        (now (writes .entry)) (now (reads .entry)))) ⌝ }
+{
+    let answer: Answer = store::resend_sound(
+        counts,
+        clients,
+        links,
+        keys,
+        values,
+        log,
+        writes,
+        reads,
+        client,
+        target,
+    );
+    store_exports::answer_number(answer)
+}
