@@ -1,11 +1,11 @@
 //! The check of sound tables alone, by servers, clients and how much they hold.
 
+use crate::calls;
 use crate::clock::{beside, least_of_passes};
 use crate::goals;
 use crate::plans::Plan;
 use crate::sides::opened_tables;
 use crate::table::{print, ratio, time};
-use bench::fast::calls;
 use ffi::StoreLibrary;
 use words::Tables;
 

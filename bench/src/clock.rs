@@ -7,7 +7,7 @@ use std::time::{Duration, Instant};
 /// Nanoseconds of a tick, and the ticks that a measurement of nothing takes.
 pub struct Clock {
     nanoseconds: f64,
-    nothing: u64,
+    nothing: f64,
 }
 
 /// The counter, once all earlier instructions are done and before any later one starts.
@@ -27,14 +27,22 @@ impl Clock {
         let (started, first) = (Instant::now(), ticks());
         while started.elapsed() < Duration::from_millis(100) {}
         let (elapsed, last) = (started.elapsed(), ticks());
-        let nothing = (0..10_000).map(|_| elapsed_ticks(|| ()).0).min().expect("measured");
+        let nothing = undisturbed_mean((0..10_000).map(|_| elapsed_ticks(|| ()).0).collect());
         Clock { nanoseconds: elapsed.as_nanos() as f64 / (last - first) as f64, nothing }
     }
 
     /// Ticks as nanoseconds, less those of the measurement itself.
-    pub fn nanoseconds(&self, ticks: u64) -> f64 {
-        ticks.saturating_sub(self.nothing) as f64 * self.nanoseconds
+    pub fn nanoseconds(&self, ticks: f64) -> f64 {
+        (ticks - self.nothing).max(0.0) * self.nanoseconds
     }
+}
+
+/// The mean of a call's ticks over several rounds, without the greatest tenth, in which the machine did something else. The least of them
+/// would not do: some processors' counters go on by steps of 10 ns, as much as a call takes.
+pub fn undisturbed_mean(mut ticks: Vec<u64>) -> f64 {
+    ticks.sort_unstable();
+    ticks.truncate(ticks.len() - ticks.len().div_ceil(10));
+    ticks.iter().sum::<u64>() as f64 / ticks.len() as f64
 }
 
 /// The ticks of one call, and what it gives; that is dropped outside of the measurement.

@@ -3,6 +3,7 @@
 //! `count` runs under callgrind and has it write a file for each figure; `report` makes tables of the files. `bench/run instructions` does
 //! both.
 
+use crate::calls;
 use crate::check;
 use crate::frame_speed::{places, Codec, Fast, Lent, Rust, FRAMES, MOST_BYTES};
 use crate::goals;
@@ -13,7 +14,6 @@ use crate::program;
 use crate::sides::{self, Meter};
 use crate::steps::{kinds, METHODS, PRESSES};
 use crate::table::{print, ratio, time};
-use bench::fast::calls;
 use ffi::{FrameLibrary, LoadLibrary, StoreLibrary};
 use model::Step;
 use std::arch::asm;

@@ -1,10 +1,10 @@
 //! Loads: the proved load beside the fast one, both on lent tables, which they check once, and with their steps listed.
 
+use crate::calls;
 use crate::clock::PASSES;
 use crate::goals;
 use crate::sides::opened_tables;
 use crate::table::{print, ratio, time};
-use bench::fast::calls;
 use ffi::{LoadLibrary, StoreLibrary};
 use model::Step;
 use std::time::{Duration, Instant};

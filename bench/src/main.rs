@@ -4,6 +4,7 @@
 //!     bench PROVED-PROGRAM FAST-PROGRAM [PART...]
 //!     bench equal PROVED-PROGRAM [ARGUMENT...]
 
+mod calls;
 mod check;
 mod clock;
 mod equal;

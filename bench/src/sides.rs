@@ -1,9 +1,8 @@
-//! The sides that are measured on a plan, each from a new opening: by the least ticks of each step over several rounds, or by another
-//! meter.
+//! The sides that are measured on a plan, each from a new opening: by the mean ticks of each step over several rounds, or by another meter.
 
-use crate::clock::{elapsed_ticks, Clock};
+use crate::calls;
+use crate::clock::{elapsed_ticks, undisturbed_mean, Clock};
 use crate::plans::Plan;
-use bench::fast::calls;
 use ffi::StoreLibrary;
 use model::Step;
 use words::Tables;
@@ -18,7 +17,7 @@ pub struct Measured {
 
 /// All four sides, each for several rounds.
 pub fn measured(clock: &Clock, library: StoreLibrary, plan: &Plan, rounds: usize) -> Measured {
-    let meter = Least { clock, rounds };
+    let meter = Mean { clock, rounds };
     Measured {
         inner: inner(&meter, library, plan),
         fast: fast(&meter, library, plan),
@@ -33,26 +32,10 @@ pub trait Meter {
     fn play<S, R>(&self, plan: &Plan, fresh: impl Fn() -> S, take: impl Fn(&mut S, &Step) -> R) -> Self::Told;
 }
 
-impl Measured {
-    /// Step by step the lesser times of two measurements.
-    pub fn or_less(self, other: Measured) -> Measured {
-        Measured {
-            inner: lesser(self.inner, other.inner),
-            fast: lesser(self.fast, other.fast),
-            checked: lesser(self.checked, other.checked),
-            fast_checked: lesser(self.fast_checked, other.fast_checked),
-        }
-    }
-}
-
-fn lesser(one: Vec<f64>, other: Vec<f64>) -> Vec<f64> {
-    one.into_iter().zip(other).map(|(one, other)| one.min(other)).collect()
-}
-
 /// The proved and the fast step alone, the sum of a plan's last steps.
 pub fn last_steps(clock: &Clock, library: StoreLibrary, plan: &Plan, steps: usize, rounds: usize) -> [f64; 2] {
     let sum = |times: Vec<f64>| times[times.len() - steps..].iter().sum();
-    let meter = Least { clock, rounds };
+    let meter = Mean { clock, rounds };
     [sum(inner(&meter, library, plan)), sum(fast(&meter, library, plan))]
 }
 
@@ -81,26 +64,26 @@ pub fn fast_checked<M: Meter>(meter: &M, library: StoreLibrary, plan: &Plan) -> 
     meter.play(plan, || opened_tables(library, &plan.opening), calls::number_checked)
 }
 
-/// The least nanoseconds of each step over several rounds.
-struct Least<'a> {
+/// The mean nanoseconds of each step over several rounds.
+struct Mean<'a> {
     clock: &'a Clock,
     rounds: usize,
 }
 
-impl Meter for Least<'_> {
+impl Meter for Mean<'_> {
     type Told = Vec<f64>;
 
     fn play<S, R>(&self, plan: &Plan, fresh: impl Fn() -> S, take: impl Fn(&mut S, &Step) -> R) -> Vec<f64> {
-        let mut least = vec![u64::MAX; plan.steps.len()];
+        let mut ticks = vec![Vec::with_capacity(self.rounds); plan.steps.len()];
         for _ in 0..self.rounds {
             let mut state = fresh();
-            for (step, best) in plan.steps.iter().zip(&mut least) {
-                let (ticks, answer) = elapsed_ticks(|| take(&mut state, step));
-                *best = ticks.min(*best);
+            for (step, ticks) in plan.steps.iter().zip(&mut ticks) {
+                let (elapsed, answer) = elapsed_ticks(|| take(&mut state, step));
+                ticks.push(elapsed);
                 drop(answer);
             }
         }
-        least.into_iter().map(|ticks| self.clock.nanoseconds(ticks)).collect()
+        ticks.into_iter().map(|ticks| self.clock.nanoseconds(undisturbed_mean(ticks))).collect()
     }
 }
 

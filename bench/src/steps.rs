@@ -1,11 +1,11 @@
 //! Each kind of step: on tables known to be sound, and through the public step that checks them.
 
+use crate::calls;
 use crate::clock::{beside, least_of_passes, Clock, PASSES};
 use crate::goals;
 use crate::plans::{in_turn, Plan};
 use crate::sides::{measured, opened_tables, Measured};
 use crate::table::{print, ratio, time};
-use bench::fast::calls;
 use ffi::StoreLibrary;
 use model::Step;
 use std::hint::black_box;
@@ -15,25 +15,21 @@ const HEADS: [&str; 7] = ["step", "inner ns", "fast ns", "ratio", "checked ns", 
 pub const METHODS: [u32; 2] = [2, 3];
 
 /// Servers, clients, how many WRITEs and READs, and the rounds of a pass.
-pub const PRESSES: [(u32, u32, usize, usize); 2] = [(4, 4, 60, 50), (16, 16, 255, 4)];
+pub const PRESSES: [(u32, u32, usize, usize); 2] = [(4, 4, 60, 50), (16, 16, 255, 10)];
 
 pub fn report(clock: &Clock, library: StoreLibrary) {
     let presses = PRESSES.map(|(servers, clients, times, rounds)| {
         let plans: Vec<Plan> = METHODS.iter().map(|&method| in_turn(method, servers, clients, times)).collect();
         (plans, rounds)
     });
-    let one_pass = || presses.iter().map(|(plans, rounds)| one_press(clock, library, plans, *rounds)).collect::<Vec<_>>();
-    let mut least = one_pass();
-    for _ in 1..PASSES {
-        let lesser =
-            |(old, new): (Vec<Measured>, Vec<Measured>)| old.into_iter().zip(new).map(|(old, new)| old.or_less(new)).collect();
-        least = least.into_iter().zip(one_pass()).map(lesser).collect();
-    }
-    for ((press, (plans, _)), results) in PRESSES.iter().zip(&presses).zip(&least) {
+    let one_pass = |_| presses.iter().map(|(plans, rounds)| one_press(clock, library, plans, *rounds)).collect();
+    let passes: Vec<Vec<Vec<Measured>>> = (0..PASSES).map(one_pass).collect();
+    for (place, (press, (plans, _))) in PRESSES.iter().zip(&presses).enumerate() {
         let (servers, clients, times, _) = press;
         let title =
             format!("Steps, {servers} servers and {clients} clients, {times} WRITEs and {times} READs of all servers in turn");
-        print(&title, &HEADS, &rows(library, plans, results));
+        let results: Vec<&[Measured]> = passes.iter().map(|pass| &pass[place][..]).collect();
+        print(&title, &HEADS, &rows(library, plans, &results));
     }
     let plans: Vec<&Plan> = presses.iter().flat_map(|(plans, _)| plans).collect();
     let times = least_of_passes(&plans, |plan| whole_plan(library, plan));
@@ -74,11 +70,15 @@ fn one_press(clock: &Clock, library: StoreLibrary, plans: &[Plan], rounds: usize
     plans.iter().map(|plan| measured(clock, library, plan, rounds)).collect()
 }
 
-/// The means of all steps of a kind, over plans of the methods. A checked step is for the most part the check.
-fn rows(library: StoreLibrary, plans: &[Plan], results: &[Measured]) -> Vec<Vec<String>> {
+/// The means of all steps of a kind, over plans of the methods, each the least of several passes. A checked step is for the most part the
+/// check.
+fn rows(library: StoreLibrary, plans: &[Plan], passes: &[&[Measured]]) -> Vec<Vec<String>> {
     let mut rows = vec![opening_row(library, &plans[1])];
     for kind in kinds(plans) {
-        let mean = |side: fn(&Measured) -> &Vec<f64>| mean_of(kind, plans, results.iter().map(side));
+        let mean = |side: fn(&Measured) -> &Vec<f64>| {
+            let of_pass = |results: &&[Measured]| mean_of(kind, plans, results.iter().map(side));
+            passes.iter().map(of_pass).fold(f64::INFINITY, f64::min)
+        };
         let (inner, fast) = (mean(|result| &result.inner), mean(|result| &result.fast));
         let (checked, fast_checked) = (mean(|result| &result.checked), mean(|result| &result.fast_checked));
         let ratio_inner = ratio(inner, fast, goals::of_step(kind));

@@ -3,7 +3,7 @@
 use super::damage::{damage, fill_to_limits};
 use super::store::fresh_tables;
 use super::{reached, Tally};
-use bench::fast::calls;
+use crate::calls;
 use ffi::LoadLibrary;
 use model::Step;
 use schedules::{Generator, Random};

@@ -2,7 +2,7 @@
 
 use super::damage::{damage, repeat_key, step_on_a_link};
 use super::{reached, Tally};
-use bench::fast::calls;
+use crate::calls;
 use model::Step;
 use schedules::{Generator, Random};
 use setpoint_store::{Crossing, StoreLibrary};

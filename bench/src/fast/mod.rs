@@ -2,9 +2,9 @@
 //! tables of words and with the same arguments as the proved exports: what the machine can do. The readable model in `tests/rust` is what
 //! results are compared with; this is what times are compared with, and `bench equal` holds it to the proved exports word by word.
 
-pub mod calls;
 pub mod check;
 mod choice;
+pub mod exports;
 pub mod frame;
 pub mod load;
 pub mod opening;
