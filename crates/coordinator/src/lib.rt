@@ -2,14 +2,13 @@
 ghost use mathlib.Core.Path.{_≡_};
 ghost use Prim.Native.Nat.{_+_, _*_, _≤_, _<_};
 ghost use lib.ListN.{length, replicate};
-ghost use Rattle.ranges.specs.All.{anyBelow};
 ghost use Rattle.ranges.specs.First.{firstBelow};
 ghost use Rattle.ranges.specs.FirstLaws.{Sought};
 ghost use Rattle.ranges.specs.Laid.{laid};
 ghost use Rattle.ranges.specs.Picked.{laidOver};
 ghost use Rattle.tables.specs.Layout.{entryWidth};
 ghost use Rattle.coordinator.specs.Log.{LogRoom, HasEntry, enterLeft, entered, firstEntry};
-ghost use Rattle.coordinator.specs.LogLaws.{bearer, bearerFrom};
+ghost use Rattle.coordinator.specs.LogLaws.{bearer};
 ghost use Rattle.keys.specs.Masks.{hasServer};
 ghost use Rattle.coordinator.specs.Latest.{entryAt, latestOf, latestWord, latestTagAt};
 ghost use Rattle.coordinator.specs.Tags.{latestOfAny};
@@ -31,23 +30,21 @@ pub fn enter(counts: &mut [u32], log: &mut [u32], key: Key, mask: u32) -> bool
     true
 }
 
-// How many entries a turn of the search for a key looks at.
-const BLOCK: usize = 16;
-
-// Whether one of the 16 entries from a tag on bears the key of a word. All are looked at, so that the compiler compares several at once.
-fn has_bearer(log: &[u32], tag: usize, word: u32) -> bool
-    requires { ⌜ entryWidth * (tag + 16) ≤ length (now log) ⌝ }
-    ensures { λ r. ⌜ r ≡ anyBelow (bearerFrom (now (log .entry)) tag word) 16 ⌝ }
+// Of n entries, a tag before which none bears the key of a word: blocks of so many entries without the word are passed over from a tag on,
+// up to the first that has it. Masks are looked at too, since words that stand side by side are compared four at once and every second one
+// is not; where a mask is the word by chance, the entries from there on are searched more closely.
+fn passed(log: &[u32], from: usize, n: usize, many: usize, word: u32) -> usize
+    requires { ⌜ (entryWidth * n ≤ length (now log)) × ((0 < many) × Sought (bearer (now log) word) n from) ⌝ }
+    ensures { λ r. ⌜ Sought (bearer (now (log .entry)) word) n r ⌝ }
 {
-    let mut found = false;
-    let mut at = 0;
-    while at < BLOCK {
-        if log::key_word(log, tag + at) == word {
-            found = true;
+    let mut tag = from;
+    while many <= n - tag {
+        if ranges::has_equal(log, log::WIDTH * tag, log::WIDTH * many, word) {
+            return tag;
         }
-        at += 1;
+        tag += many;
     }
-    found
+    tag
 }
 
 // Of n entries, the first that bears the key of a word, where none of those before from does; n where none does.
@@ -65,20 +62,15 @@ fn find_behind(log: &[u32], from: usize, n: usize, word: u32) -> usize
     tag
 }
 
-// The first of the log's n first entries that bears a key, and n where none does. Blocks without one are passed over.
+// The first of the log's n first entries that bears a key, and n where none does. Blocks of 16 entries are passed over, then blocks of 4.
 pub fn find(log: &[u32], n: usize, key: Key) -> usize
     requires { ⌜ entryWidth * n ≤ length (now log) ⌝ }
     ensures { λ r. ⌜ r ≡ firstEntry (now (log .entry)) key n ⌝ }
 {
     let word = key.word();
-    let mut tag = 0;
-    while BLOCK <= n - tag {
-        if has_bearer(log, tag, word) {
-            return find_behind(log, tag, n, word);
-        }
-        tag += BLOCK;
-    }
-    find_behind(log, tag, n, word)
+    let wide = passed(log, 0, n, 16, word);
+    let narrow = passed(log, wide, n, 4, word);
+    find_behind(log, narrow, n, word)
 }
 
 // What the search back finds for a server: the key of the latest entry that wrote it, and the tag of that entry.

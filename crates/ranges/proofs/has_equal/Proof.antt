@@ -12,10 +12,10 @@ use Rattle.ranges.proofs.has_equal.Statement.{statement}
 use Rattle.ranges.proofs.has_equal.Tie as tie
 
 abbrev Inv-loop : tie.InvT-loop
-Inv-loop words place word found₀ at₀ found at = (at ≤ 16) × (found ≡ anyBelow (equalFrom words place word) at)
+Inv-loop words place many word found₀ at₀ found at = (at ≤ many) × (found ≡ anyBelow (equalFrom words place word) at)
 
 abbrev μ-loop : tie.MeasureT-loop
-μ-loop words place word found₀ at₀ found at = 16 - at
+μ-loop words place many word found₀ at₀ found at = many - at
 
 loop-holds : tie.Need-loop-holds Inv-loop μ-loop
 loop-holds c = let a = c .args in (omega arith, sym (any-none (equalFrom (a .words .now) (a .place) (a .word))))
@@ -36,7 +36,7 @@ loop-again c =
 returns : tie.Need-returns Inv-loop μ-loop
 returns c =
     let at-loop = c .before in
-    let all : at-loop .loop .at ≡ 16 = omega (arith, at-loop .loop .inv .0, c .loop-test .left) in
+    let all : at-loop .loop .at ≡ at-loop .before .args .many = omega (arith, at-loop .loop .inv .0, c .loop-test .left) in
     rw all at (at-loop .loop .inv .1)
 
 pub has-equal-spec : {M : Type 1} → statement M
