@@ -54,7 +54,7 @@ pub fn begin_load(
         Asked::Load(wanted) => {
             let zeros = [0u32; 16];
             let given = setpoints_for(wanted.servers);
-            let answer: Answer = store::open(
+            let answer: Answer = sound_steps::open(
                 counts,
                 clients,
                 links,

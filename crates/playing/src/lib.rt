@@ -127,7 +127,7 @@ fn deliver_reply(
         ≡ arrivedPlayed (maskOrZero (now (clients .entry)) client) (deliverReply client target (tablesOf (now (counts .entry)) (now (clients .entry)) (now (links .entry)) (now (keys .entry)) (now (values .entry)) (now (log .entry)) (now (writes .entry)) (now (reads .entry)))) ⌝ }
 {
     let mask = mask_of(&*clients, client);
-    let delivered = store::deliver_reply_sound(
+    let delivered = sound_steps::deliver_reply_sound(
         counts,
         clients,
         links,
@@ -161,7 +161,7 @@ fn play_opened(
 {
     match step {
         Step::Unreadable => plain(Word::No(13)),
-        Step::Open(method, servers, panels) => answered(store::open(
+        Step::Open(method, servers, panels) => answered(sound_steps::open(
             counts,
             clients,
             links,
@@ -175,7 +175,7 @@ fn play_opened(
             panels,
             setpoints,
         )),
-        Step::BeginWrite(client, mask, badge) => answered(store::begin_write_sound(
+        Step::BeginWrite(client, mask, badge) => answered(sound_steps::begin_write_sound(
             counts,
             clients,
             links,
@@ -189,7 +189,7 @@ fn play_opened(
             badge,
             setpoints,
         )),
-        Step::BeginRead(client, mask) => answered(store::begin_read_sound(
+        Step::BeginRead(client, mask) => answered(sound_steps::begin_read_sound(
             counts,
             clients,
             links,
@@ -201,7 +201,7 @@ fn play_opened(
             client,
             mask,
         )),
-        Step::Request(client, target) => answered(store::deliver_request_sound(
+        Step::Request(client, target) => answered(sound_steps::deliver_request_sound(
             counts,
             &*clients,
             links,
@@ -225,7 +225,7 @@ fn play_opened(
             client,
             target,
         ),
-        Step::Lose(client, target) => answered(store::lose_sound(
+        Step::Lose(client, target) => answered(sound_steps::lose_sound(
             counts,
             &*clients,
             links,
@@ -237,7 +237,7 @@ fn play_opened(
             client,
             target,
         )),
-        Step::Resend(client, target) => answered(store::resend_sound(
+        Step::Resend(client, target) => answered(sound_steps::resend_sound(
             counts,
             &*clients,
             links,
@@ -271,7 +271,7 @@ fn play_unopened(
 {
     match step {
         Step::Unreadable => plain(Word::No(13)),
-        Step::Open(method, servers, panels) => answered(store::open(
+        Step::Open(method, servers, panels) => answered(sound_steps::open(
             counts,
             clients,
             links,

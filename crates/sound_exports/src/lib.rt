@@ -75,7 +75,7 @@ pub extern "C" fn store_begin_write_unchecked(
         (now (values .entry)) (now (log .entry))
         (now (writes .entry)) (now (reads .entry)))) ⌝ }
 {
-    let answer: Answer = store::begin_write_sound(
+    let answer: Answer = sound_steps::begin_write_sound(
         counts,
         clients,
         links,
@@ -115,7 +115,7 @@ pub extern "C" fn store_begin_read_unchecked(
         (now (values .entry)) (now (log .entry))
         (now (writes .entry)) (now (reads .entry)))) ⌝ }
 {
-    let answer: Answer = store::begin_read_sound(
+    let answer: Answer = sound_steps::begin_read_sound(
         counts,
         clients,
         links,
@@ -153,7 +153,7 @@ pub extern "C" fn store_deliver_request_unchecked(
         (now (values .entry)) (now (log .entry))
         (now (writes .entry)) (now (reads .entry)))) ⌝ }
 {
-    let answer: Answer = store::deliver_request_sound(
+    let answer: Answer = sound_steps::deliver_request_sound(
         counts,
         clients,
         links,
@@ -192,7 +192,7 @@ pub extern "C" fn store_deliver_reply_unchecked(
         (now (writes .entry)) (now (reads .entry)))) ⌝ }
 {
     let mut tags = [0u32; 16];
-    let outcome: Outcome = store::take_reply(
+    let outcome: Outcome = sound_steps::take_reply(
         counts,
         clients,
         links,
@@ -234,7 +234,7 @@ pub extern "C" fn store_lose_unchecked(
         (now (values .entry)) (now (log .entry))
         (now (writes .entry)) (now (reads .entry)))) ⌝ }
 {
-    let answer: Answer = store::lose_sound(
+    let answer: Answer = sound_steps::lose_sound(
         counts,
         clients,
         links,
@@ -271,7 +271,7 @@ pub extern "C" fn store_resend_unchecked(
         (now (values .entry)) (now (log .entry))
         (now (writes .entry)) (now (reads .entry)))) ⌝ }
 {
-    let answer: Answer = store::resend_sound(
+    let answer: Answer = sound_steps::resend_sound(
         counts,
         clients,
         links,

@@ -3,7 +3,7 @@ use mathlib.Core.Path.{sym, _∙_}
 use borrow.Author.Tests.{not-false}
 use Rattle.tables.specs.Tables.{tablesOf}
 use Rattle.soundness.specs.Facts.{sound-facts}
-use Rattle.store.specs.Cases.{unsound-read}
+use Rattle.store.specs.Unsound.{unsound-read}
 use borrow.Author.Needs.{needs}
 use Rattle.store.proofs.begin_read.Statement.{statement}
 use Rattle.store.proofs.begin_read.Tie as tie

@@ -3,7 +3,7 @@ use mathlib.Core.Path.{sym, _∙_}
 use borrow.Author.Tests.{not-false}
 use Rattle.tables.specs.Tables.{tablesOf}
 use Rattle.soundness.specs.Facts.{sound-facts}
-use Rattle.store.specs.Cases.{unsound-write}
+use Rattle.store.specs.Unsound.{unsound-write}
 use borrow.Author.Needs.{needs}
 use Rattle.store.proofs.begin_write.Statement.{statement}
 use Rattle.store.proofs.begin_write.Tie as tie

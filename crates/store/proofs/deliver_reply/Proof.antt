@@ -3,7 +3,7 @@ use mathlib.Core.Path.{sym, _∙_}
 use borrow.Author.Tests.{not-false}
 use Rattle.tables.specs.Tables.{tablesOf}
 use Rattle.soundness.specs.Facts.{sound-facts}
-use Rattle.store.specs.Cases.{unsound-reply}
+use Rattle.store.specs.Unsound.{unsound-reply}
 use borrow.Author.Needs.{needs}
 use Rattle.store.proofs.deliver_reply.Statement.{statement}
 use Rattle.store.proofs.deliver_reply.Tie as tie

@@ -3,7 +3,7 @@ use mathlib.Core.Path.{sym, _∙_}
 use borrow.Author.Tests.{not-false}
 use Rattle.tables.specs.Tables.{tablesOf}
 use Rattle.soundness.specs.Facts.{sound-facts}
-use Rattle.store.specs.Cases.{unsound-request}
+use Rattle.store.specs.Unsound.{unsound-request}
 use borrow.Author.Needs.{needs}
 use Rattle.store.proofs.deliver_request.Statement.{statement}
 use Rattle.store.proofs.deliver_request.Tie as tie

@@ -3,7 +3,7 @@ use mathlib.Core.Path.{sym, _∙_}
 use borrow.Author.Tests.{not-false}
 use Rattle.tables.specs.Tables.{tablesOf}
 use Rattle.soundness.specs.Facts.{sound-facts}
-use Rattle.store.specs.Cases.{unsound-loss}
+use Rattle.store.specs.Unsound.{unsound-loss}
 use borrow.Author.Needs.{needs}
 use Rattle.store.proofs.lose.Statement.{statement}
 use Rattle.store.proofs.lose.Tie as tie

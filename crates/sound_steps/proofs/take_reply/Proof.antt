@@ -1,4 +1,4 @@
--- `store::take_reply` meets its contract: a fault refuses, and where there is none sound tables are ready for each state's step.
+-- `sound_steps::take_reply` meets its contract: a fault refuses, and where there is none sound tables are ready for each state's step.
 use mathlib.Core.Logic.{⊎-elim}
 use native.Mathlib.Omega.{arith}
 use mathlib.Core.Path.{_≡_, refl, sym, ap, _∙_}
@@ -7,12 +7,12 @@ use Rattle.tables.specs.Tables.{Tables, tablesOf}
 use Rattle.refusals.specs.Refusals.{deliveryFault}
 use Rattle.replies.specs.Cases.{by-none, by-waiting, by-row, by-set-done, by-entered, by-keys, by-got}
 use Rattle.replies.specs.Cases.{by-all}
-use Rattle.store.specs.Cases.{reply-refused}
+use Rattle.sound_steps.specs.Cases.{reply-refused}
 use Rattle.replies.specs.Shown.{ended-shows}
-use Rattle.store.specs.Replies.{Taking, taking, brings, taken, replied, plain-replied}
+use Rattle.sound_steps.specs.Replies.{Taking, taking, brings, taken, replied, plain-replied}
 use borrow.Author.Needs.{needs}
-use Rattle.store.proofs.take_reply.Statement.{statement}
-use Rattle.store.proofs.take_reply.Tie as tie
+use Rattle.sound_steps.proofs.take_reply.Statement.{statement}
+use Rattle.sound_steps.proofs.take_reply.Tie as tie
 
 -- the tables that are lent
 abbrev lent : tie.Start → Tables

@@ -1,13 +1,13 @@
--- `store::begin_write_sound` meets its contract: a fault refuses, and where there is none sound tables are ready for the inner step.
+-- `sound_steps::begin_write_sound` meets its contract: a fault refuses, and where there is none sound tables are ready for the inner step.
 use mathlib.Core.Path.{_≡_}
 use lib.ListN.{length}
 use Rattle.tables.specs.Tables.{Tables, tablesOf}
 use Rattle.refusals.specs.Refusals.{writeFault}
-use Rattle.store.specs.Ready.{write-ready}
-use Rattle.store.specs.Cases.{write-refused, write-able, write-accepted}
+use Rattle.sound_steps.specs.Ready.{write-ready}
+use Rattle.sound_steps.specs.Cases.{write-refused, write-able, write-accepted}
 use borrow.Author.Needs.{needs}
-use Rattle.store.proofs.begin_write_sound.Statement.{statement}
-use Rattle.store.proofs.begin_write_sound.Tie as tie
+use Rattle.sound_steps.proofs.begin_write_sound.Statement.{statement}
+use Rattle.sound_steps.proofs.begin_write_sound.Tie as tie
 
 -- the tables that are lent
 abbrev lent : tie.Start → Tables

@@ -1,12 +1,12 @@
--- `store::lose_sound` meets its contract: a fault refuses, and where there is none sound tables are ready for the inner step.
+-- `sound_steps::resend_sound` meets its contract: a fault refuses, and where there is none sound tables are ready for the inner step.
 use mathlib.Core.Path.{_≡_}
 use Rattle.tables.specs.Tables.{Tables, tablesOf}
 use Rattle.refusals.specs.Refusals.{deliveryFault}
-use Rattle.store.specs.Ready.{fillable}
-use Rattle.store.specs.Cases.{loss-refused, loss-accepted, delivery-able}
+use Rattle.sound_steps.specs.Ready.{resend-ready}
+use Rattle.sound_steps.specs.Cases.{resend-refused, resend-accepted, delivery-able}
 use borrow.Author.Needs.{needs}
-use Rattle.store.proofs.lose_sound.Statement.{statement}
-use Rattle.store.proofs.lose_sound.Tie as tie
+use Rattle.sound_steps.proofs.resend_sound.Statement.{statement}
+use Rattle.sound_steps.proofs.resend_sound.Tie as tie
 
 -- the tables that are lent
 abbrev lent : tie.Start → Tables
@@ -30,25 +30,25 @@ returns : tie.Need-returns
 returns c =
     let f = c .before in
     let s = start f in
-    loss-refused (lent s) (s .pre) (s .args .client) (s .args .target) (fault f) (c .if1 .taken)
+    resend-refused (lent s) (s .pre) (s .args .client) (s .args .target) (fault f) (c .if1 .taken)
 
-lose-requires : tie.Need-lose-requires
-lose-requires c κs =
+resend-requires : tie.Need-resend-requires
+resend-requires c κs =
     let n = c .before .before in
     let s = start (n .before) in
-    fillable (lent s) (s .pre) (s .args .client) (s .args .target)
+    resend-ready (lent s) (s .pre) (s .args .client) (s .args .target)
     (delivery-able (lent s) (s .pre) (s .args .client) (s .args .target) (fault (n .before)) (n .if1 .left))
 
 returns-2 : tie.Need-returns-2
 returns-2 c =
-    let at-lose = c .before .before .before .before in
-    let n = at-lose .before .before .before in
+    let at-resend = c .before .before .before .before in
+    let n = at-resend .before .before .before in
     let s = start (n .before) in
     let a = s .args in
-    loss-accepted (lent s) (s .pre) (a .client) (a .target) (fault (n .before)) (n .if1 .left)
-    (at-lose .lose .ensures (a .clients .now) (a .keys .now) (a .values .now) (a .log .now) (a .writes .now) (a .reads .now))
+    resend-accepted (lent s) (s .pre) (a .client) (a .target) (fault (n .before)) (n .if1 .left)
+    (at-resend .resend .ensures (a .keys .now) (a .values .now) (a .log .now) (a .writes .now) (a .reads .now))
 
-pub lose-sound-spec : {M : Type 1} → statement M
-lose-sound-spec =
+pub resend-sound-spec : {M : Type 1} → statement M
+resend-sound-spec =
     tie.close
-    (tie.spec (λ c κs. search needs) (λ c. search needs) returns lose-requires (λ c. search needs) (λ c. search needs) returns-2)
+    (tie.spec (λ c κs. search needs) (λ c. search needs) returns resend-requires (λ c. search needs) (λ c. search needs) returns-2)

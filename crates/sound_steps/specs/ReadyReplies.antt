@@ -33,7 +33,7 @@ use Rattle.replies.specs.Ready.{KeysReady, Concludable, AllReady, Brings, Reply
 use Rattle.keeping.specs.Accepted.{Deliverable}
 use Rattle.keeping.specs.Told.{told-held, log-told, opening-qualifies}
 use Rattle.keeping.specs.States.{uses-setpoints, uses-all, by-state, keys-target, masked-server, holding-log, holding-server, arrived, received-none, received-some, keys-told, all-told}
-use Rattle.store.specs.Ready.{target, fillable, reply-used, reply-sound}
+use Rattle.sound_steps.specs.Ready.{target, fillable, reply-used, reply-sound}
 
 module _ (t : Tables) (s : Sound t) where
   kinds-fit : (q : ℕ) → q < clientsOf t → KindsFit (t .links) q

@@ -1,11 +1,11 @@
--- `store::begin_read_sound` meets its contract: a fault refuses, and where there is none sound tables are ready for the inner step.
+-- `sound_steps::begin_read_sound` meets its contract: a fault refuses, and where there is none sound tables are ready for the inner step.
 use Rattle.tables.specs.Tables.{tablesOf}
 use Rattle.soundness.specs.Room.{client-fits}
-use Rattle.store.specs.Ready.{read-ready, read-begins}
-use Rattle.store.specs.Cases.{read-refused, read-able, read-accepted}
+use Rattle.sound_steps.specs.Ready.{read-ready, read-begins}
+use Rattle.sound_steps.specs.Cases.{read-refused, read-able, read-accepted}
 use borrow.Author.Needs.{needs}
-use Rattle.store.proofs.begin_read_sound.Statement.{statement}
-use Rattle.store.proofs.begin_read_sound.Tie as tie
+use Rattle.sound_steps.proofs.begin_read_sound.Statement.{statement}
+use Rattle.sound_steps.proofs.begin_read_sound.Tie as tie
 
 returns : tie.Need-returns
 returns c = let a = c .before .before .before .before .before .before .before .before .before .before .before .before .args in read-refused (tablesOf (a .counts .now) (a .clients .now) (a .links .now) (a .keys .now) (a .values .now) (a .log .now) (a .writes .now) (a .reads .now)) (c .before .before .before .before .before .before .before .before .before .before .before .before .pre) (a .client) (a .mask) (c .before .read-fault .ensures (a .links .now) (a .keys .now) (a .values .now) (a .log .now) (a .writes .now) (a .reads .now)) (c .if1 .taken)

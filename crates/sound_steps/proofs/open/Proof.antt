@@ -1,10 +1,10 @@
--- `store::open` meets its contract: wrong, too short or accepted, each a case law of the step.
+-- `sound_steps::open` meets its contract: wrong, too short or accepted, each a case law of the step.
 use Rattle.tables.specs.Tables.{tablesOf}
-use Rattle.store.specs.Ready.{open-ready}
-use Rattle.store.specs.Cases.{open-wrong, open-short, open-able, open-accepted}
+use Rattle.sound_steps.specs.Ready.{open-ready}
+use Rattle.sound_steps.specs.Cases.{open-wrong, open-short, open-able, open-accepted}
 use borrow.Author.Needs.{needs}
-use Rattle.store.proofs.open.Statement.{statement}
-use Rattle.store.proofs.open.Tie as tie
+use Rattle.sound_steps.proofs.open.Statement.{statement}
+use Rattle.sound_steps.proofs.open.Tie as tie
 
 returns : tie.Need-returns
 returns c = let a = c .before .before .before .before .before .before .before .before .before .before .before .args in open-wrong (a .method) (a .servers) (a .panels) (a .setpoints .now) (tablesOf (a .counts .now) (a .clients .now) (a .links .now) (a .keys .now) (a .values .now) (a .log .now) (a .writes .now) (a .reads .now)) (c .before .fits-press .ensures) (c .if1 .taken)

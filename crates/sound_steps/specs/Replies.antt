@@ -22,8 +22,8 @@ use Rattle.replies.specs.declared.Outcome.{Outcome}
 use Rattle.replies.specs.Shown.{plainly, shownBy, Shows, plain-shows}
 use Rattle.replies.specs.Ready.{Brings, ReplyReady}
 use Rattle.replies.specs.Cases.{by-reply}
-use Rattle.store.specs.ReadyReplies.{reply-ready}
-use Rattle.store.specs.Cases.{reply-accepted, delivery-able}
+use Rattle.sound_steps.specs.ReadyReplies.{reply-ready}
+use Rattle.sound_steps.specs.Cases.{reply-accepted, delivery-able}
 
 -- the tables are ready for it, and what it leaves is what the step leaves
 pub record Taking (t : Tables) (q i : ℕ) : Type 0 where

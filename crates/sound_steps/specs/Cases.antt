@@ -1,4 +1,4 @@
--- The cases of the public steps, as the code meets them: refused by a number with all as before, or accepted.
+-- The cases of the steps on sound tables, as the code meets them: refused by a number with all as before, or accepted.
 use Prim.Native.Nat.{ℕ, zero, suc, _<_}
 use native.Mathlib.Nat.{mod-eq-of-lt}
 use mathlib.Core.Path.{_≡_, refl, sym, _∙_}
@@ -16,7 +16,7 @@ use Rattle.rules.specs.Begin.{begunWrite, begunRead}
 use Rattle.rules.specs.Request.{requestDelivered}
 use Rattle.rules.specs.Reply.{said, replyDelivered}
 use Rattle.rules.specs.Loss.{linkLost, linkResent}
-use Rattle.soundness.specs.Sound.{sound, longEnough}
+use Rattle.soundness.specs.Sound.{longEnough}
 use Rattle.soundness.specs.Facts.{Sound, facts-sound}
 use Rattle.refusals.specs.Refusals.{pressOpens, openRefusal, writeFault, writeRefusal, readFault, readRefusal, deliveryFault}
 use Rattle.refusals.specs.Refusals.{deliveryRefusal}
@@ -31,35 +31,6 @@ refuses (suc n) x t d = refl
 refuses-arrival : (n : ℕ) (x : Arrived) (t : Tables) → (n ≡ 0 → ⊥) → said (arrival.Refused n) t ≡ unlessArrived n x t
 refuses-arrival zero x t d = absurd (d refl)
 refuses-arrival (suc n) x t d = refl
-
--- tables that are not sound
-module _ (t : Tables) {b : Bool} (d : b ≡ sound t) (e : not b ≡ true) where
-  unsound : not (sound t) ≡ true
-  unsound = rw (← d) e
-
-  pub unsound-write : (q mask badge : ℕ) (setpoints : List ℕ) → left (Refused 2) t ≡ beginWrite q mask badge setpoints t
-  unfolding beginWrite writeRefusal
-  unsound-write q mask badge setpoints = rw unsound
-
-  pub unsound-read : (q mask : ℕ) → left (Refused 2) t ≡ beginRead q mask t
-  unfolding beginRead readRefusal
-  unsound-read q mask = rw unsound
-
-  pub unsound-request : (q i : ℕ) → left (Refused 2) t ≡ deliverRequest q i t
-  unfolding deliverRequest deliveryRefusal
-  unsound-request q i = rw unsound
-
-  pub unsound-loss : (q i : ℕ) → left (Refused 2) t ≡ lose q i t
-  unfolding lose deliveryRefusal
-  unsound-loss q i = rw unsound
-
-  pub unsound-resend : (q i : ℕ) → left (Refused 2) t ≡ resend q i t
-  unfolding resend deliveryRefusal
-  unsound-resend q i = rw unsound
-
-  pub unsound-reply : (q i : ℕ) {x : Delivered} → x ≡ nothingShown (arrival.Refused 2) → arrived x t ≡ deliverReply q i t
-  unfolding deliverReply deliveryRefusal
-  unsound-reply q i f = rw (unsound, f)
 
 -- sound tables; n is the fault found
 module _ (t : Tables) (s : Sound t) {n : ℕ} where

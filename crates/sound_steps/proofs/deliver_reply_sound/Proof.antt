@@ -1,7 +1,7 @@
--- `store::deliver_reply_sound` meets its contract: the reply is taken in, and what its outcome shows is shown.
+-- `sound_steps::deliver_reply_sound` meets its contract: the reply is taken in, and what its outcome shows is shown.
 use borrow.Author.Needs.{needs}
-use Rattle.store.proofs.deliver_reply_sound.Statement.{statement}
-use Rattle.store.proofs.deliver_reply_sound.Tie as tie
+use Rattle.sound_steps.proofs.deliver_reply_sound.Statement.{statement}
+use Rattle.sound_steps.proofs.deliver_reply_sound.Tie as tie
 
 shown-requires : tie.Need-shown-requires
 shown-requires c κs = c .before .before .before .before .before .before .before .before .before .before .before .take-reply .ensures .row

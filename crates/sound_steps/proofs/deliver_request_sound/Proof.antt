@@ -1,10 +1,10 @@
--- `store::deliver_request_sound` meets its contract: a fault refuses, and where there is none sound tables are ready for the inner step.
+-- `sound_steps::deliver_request_sound` meets its contract: a fault refuses, and where there is none sound tables are ready for the inner step.
 use Rattle.tables.specs.Tables.{tablesOf}
-use Rattle.store.specs.Ready.{request-ready}
-use Rattle.store.specs.Cases.{request-refused, request-accepted, delivery-able}
+use Rattle.sound_steps.specs.Ready.{request-ready}
+use Rattle.sound_steps.specs.Cases.{request-refused, request-accepted, delivery-able}
 use borrow.Author.Needs.{needs}
-use Rattle.store.proofs.deliver_request_sound.Statement.{statement}
-use Rattle.store.proofs.deliver_request_sound.Tie as tie
+use Rattle.sound_steps.proofs.deliver_request_sound.Statement.{statement}
+use Rattle.sound_steps.proofs.deliver_request_sound.Tie as tie
 
 returns : tie.Need-returns
 returns c = let a = c .before .before .before .before .before .before .before .before .before .before .before .args in request-refused (tablesOf (a .counts .now) (a .clients .now) (a .links .now) (a .keys .now) (a .values .now) (a .log .now) (a .writes .now) (a .reads .now)) (c .before .before .before .before .before .before .before .before .before .before .before .pre) (a .client) (a .target) (c .before .delivery-fault .ensures (a .clients .now) (a .links .now) (a .keys .now) (a .values .now) (a .log .now) (a .writes .now) (a .reads .now)) (c .if1 .taken)

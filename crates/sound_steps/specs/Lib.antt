@@ -1,0 +1,5 @@
+-- What the steps need besides their definitions: sound tables are ready for every inner step.
+pub mod Ready
+pub mod ReadyReplies
+pub mod Cases
+pub mod Replies
