@@ -137,7 +137,7 @@ pub fn send_gets(
     ensures links { λ _. ⌜ now (links .exit) ≡ sentGets client mask (now (log .entry)) tag servers (now (links .entry)) ⌝ }
 {
     let mut tags = [0u32; 16];
-    coordinator::latest_tags(log, servers, tag, mask, &mut tags);
+    log_search::latest_tags(log, servers, tag, mask, &mut tags);
     let mut server = 0;
     while server < servers {
         send_get(clients, links, log, client, mask, server, tags[server]);

@@ -313,7 +313,7 @@ fn values_at(
     ensures rows { λ r. ⌜ Taken (now (keys .entry)) (now (values .entry)) (now (log .entry)) mask (receivedIn (now (clients .entry)) client)
         tag (cond r servers 0) (now (setpoints .exit)) (now (badges .exit)) ⌝ }
 {
-    coordinator::latest_tags(log, servers, tag, mask, tags);
+    log_search::latest_tags(log, servers, tag, mask, tags);
     let mut server = 0;
     while server < servers {
         if keys::has_server(mask, server) {

@@ -2,6 +2,4 @@ pub mod Log
 pub mod LogLaws
 pub mod Latest
 pub mod LatestLaws
-pub mod Tags
-pub mod TagsLaws
 pub mod Cards

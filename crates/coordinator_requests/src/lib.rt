@@ -63,7 +63,7 @@ pub fn enter(
 {
     let entries = counts::count_at(counts, counts::ENTRIES) as usize;
     let key: Key = contents.key;
-    let tag = coordinator::find(&*log, entries, key);
+    let tag = log_search::find(&*log, entries, key);
     if tag < entries {
         return answers::answer(counts, links, client, target, tag as u32);
     }

@@ -106,7 +106,7 @@ fn has_entry(counts: &[u32], log: &[u32], key: Key) -> bool
     ensures { λ r. ⌜ r ≡ isEntered (now (counts .entry)) (now (log .entry)) key ⌝ }
 {
     let entries = counts::count_at(counts, counts::ENTRIES) as usize;
-    coordinator::find(log, entries, key) < entries
+    log_search::find(log, entries, key) < entries
 }
 
 // Whether the target of a request can answer it, by the state that sent it. A target that is full has the key already, or cannot.

@@ -11,7 +11,7 @@ use Rattle.keys.specs.Masks.{hasServer}
 use Rattle.tables.specs.Layout.{tagsField, askedField}
 use Rattle.coordinator.specs.Latest.{latestWord, latestTagAt}
 use Rattle.coordinator.specs.LatestLaws.{latest-within}
-use Rattle.coordinator.specs.TagsLaws.{laid-there}
+use Rattle.log_search.specs.TagsLaws.{laid-there}
 use Rattle.rules.specs.Words.{keepWord}
 use Rattle.rules.specs.WordsLaws.{kept-both-more}
 use Rattle.rules.specs.Begin.{sendGet, sentGets, keptTags, keptAsking}

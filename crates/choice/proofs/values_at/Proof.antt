@@ -9,7 +9,7 @@ use Rattle.keys.specs.Masks.{hasServer}
 use Rattle.tables.specs.Layout.{entryKey}
 use Rattle.coordinator.specs.Latest.{latestTagAt}
 use Rattle.coordinator.specs.LatestLaws.{latest-within}
-use Rattle.coordinator.specs.TagsLaws.{laid-there}
+use Rattle.log_search.specs.TagsLaws.{laid-there}
 use Rattle.rules.specs.Choice.{serves}
 use Rattle.rules.specs.Reply.{receivedIn}
 use Rattle.choice.specs.Values.{Taken, taken-none, taken-more, taken-past}

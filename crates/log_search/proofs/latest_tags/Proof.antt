@@ -1,12 +1,12 @@
--- `coordinator::latest_tags` meets its contract: the walk has come to `at`; each turn passes over entries that wrote none of the servers
+-- `log_search::latest_tags` meets its contract: the walk has come to `at`; each turn passes over entries that wrote none of the servers
 -- left, and those of the entry come to get its tag. The measure is the tag come to.
 use Prim.Native.Nat.{ℕ, _≤_}
 use mathlib.Core.Path.{refl}
 use native.Mathlib.Omega.{arith}
 use borrow.Author.Needs.{needs}
-use Rattle.coordinator.specs.TagsLaws.{Walked, any-within, walk-begins, walk-passes, walk-finds, walk-done, walk-ends}
-use Rattle.coordinator.proofs.latest_tags.Statement.{statement}
-use Rattle.coordinator.proofs.latest_tags.Tie as tie
+use Rattle.log_search.specs.TagsLaws.{Walked, any-within, walk-begins, walk-passes, walk-finds, walk-done, walk-ends}
+use Rattle.log_search.proofs.latest_tags.Statement.{statement}
+use Rattle.log_search.proofs.latest_tags.Tie as tie
 
 abbrev Inv-loop : tie.InvT-loop
 Inv-loop log servers tag wanted tags₀ left₀ at₀ tags left at = Walked log tag wanted servers tags₀ left at tags

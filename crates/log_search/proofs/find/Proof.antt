@@ -1,10 +1,10 @@
--- `coordinator::find` meets its contract: nothing is passed at first, and what was passed by blocks has no entry that bears the key.
+-- `log_search::find` meets its contract: nothing is passed at first, and what was passed by blocks has no entry that bears the key.
 use native.Mathlib.Omega.{arith}
 use borrow.Author.Needs.{needs}
 use Rattle.ranges.specs.FirstLaws.{sought-none}
-use Rattle.coordinator.specs.LogLaws.{bearer-of}
-use Rattle.coordinator.proofs.find.Statement.{statement}
-use Rattle.coordinator.proofs.find.Tie as tie
+use Rattle.log_search.specs.Bearers.{bearer-of}
+use Rattle.log_search.proofs.find.Statement.{statement}
+use Rattle.log_search.proofs.find.Tie as tie
 
 passed-requires : tie.Need-passed-requires
 passed-requires c κs = (omega arith, (omega arith, sought-none _ _))

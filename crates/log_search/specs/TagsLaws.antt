@@ -18,9 +18,9 @@ use Rattle.ranges.specs.PickedLaws.{layWord, is-picked}
 use Rattle.keys.specs.Masks.{hasServer}
 use Rattle.keys.specs.Bits.{without, and-bit, without-bit, no-bit}
 use Rattle.tables.specs.Layout.{entryMask}
 use Rattle.coordinator.specs.Latest.{wrote, latestTag, latestTagAt}
 use Rattle.coordinator.specs.LatestLaws.{latest-first, latest-here, latest-before}
-use Rattle.coordinator.specs.Tags.{wroteAny, latestOfAny}
+use Rattle.log_search.specs.Tags.{wroteAny, latestOfAny}
 
 -- numbers that fail are passed over
 last-past : (p : ℕ → Bool) (m n : ℕ) → m ≤ n → ((u : ℕ) → m ≤ u → u < n → p u ≡ false) → lastBelow p n ≡ lastBelow p m

@@ -1,13 +1,13 @@
--- `coordinator::latest_of_any` meets its contract: no entry behind `at` wrote any of the servers left, so what is found from there is the
+-- `log_search::latest_of_any` meets its contract: no entry behind `at` wrote any of the servers left, so what is found from there is the
 -- latest.
 use Prim.Native.Nat.{_≤_}
 use mathlib.Core.Path.{_≡_, refl, _∙_}
 use native.Mathlib.Omega.{arith}
 use borrow.Author.Needs.{needs}
-use Rattle.coordinator.specs.Tags.{latestOfAny}
-use Rattle.coordinator.specs.TagsLaws.{any-within, any-here, any-before}
-use Rattle.coordinator.proofs.latest_of_any.Statement.{statement}
-use Rattle.coordinator.proofs.latest_of_any.Tie as tie
+use Rattle.log_search.specs.Tags.{latestOfAny}
+use Rattle.log_search.specs.TagsLaws.{any-within, any-here, any-before}
+use Rattle.log_search.proofs.latest_of_any.Statement.{statement}
+use Rattle.log_search.proofs.latest_of_any.Tie as tie
 
 abbrev Inv-loop : tie.InvT-loop
 Inv-loop log tag left at₀ at = (at ≤ tag) × (latestOfAny log left at ≡ latestOfAny log left tag)

@@ -1,4 +1,4 @@
--- `coordinator::put_tag` meets its contract: the loop has put the tag for the servers of the mask that it has passed.
+-- `log_search::put_tag` meets its contract: the loop has put the tag for the servers of the mask that it has passed.
 use Prim.Native.Nat.{ℕ, _≤_, _-_}
 use mathlib.Core.Path.{_≡_, sym, _∙_}
 use mathlib.Core.Logic.{⊎-elim}
@@ -9,8 +9,8 @@ use Rattle.ranges.specs.Turns.{turns-none, turns-more}
 use Rattle.ranges.specs.Picked.{picked, laidOver}
 use Rattle.ranges.specs.PickedLaws.{layWord}
 use Rattle.keys.specs.Masks.{hasServer}
-use Rattle.coordinator.proofs.put_tag.Statement.{statement}
-use Rattle.coordinator.proofs.put_tag.Tie as tie
+use Rattle.log_search.proofs.put_tag.Statement.{statement}
+use Rattle.log_search.proofs.put_tag.Tie as tie
 
 -- a turn of the loop
 abbrev put : ℕ → ℕ → ℕ → List ℕ → List ℕ

@@ -1,12 +1,12 @@
--- `coordinator::find_behind` meets its contract: no entry before `tag` bears the key, so the first one that does, or the end, is the first.
+-- `log_search::find_behind` meets its contract: no entry before `tag` bears the key, so the first one that does, or the end, is the first.
 use Prim.Native.Nat.{_-_}
 use mathlib.Core.Path.{_∙_, sym}
 use borrow.Author.Tests.{eq-eqb, ne-eqb}
 use borrow.Author.Needs.{needs}
 use Rattle.ranges.specs.FirstLaws.{Sought, sought-more, sought-found, sought-end}
-use Rattle.coordinator.specs.LogLaws.{bearer}
-use Rattle.coordinator.proofs.find_behind.Statement.{statement}
-use Rattle.coordinator.proofs.find_behind.Tie as tie
+use Rattle.log_search.specs.Bearers.{bearer}
+use Rattle.log_search.proofs.find_behind.Statement.{statement}
+use Rattle.log_search.proofs.find_behind.Tie as tie
 
 abbrev Inv-loop : tie.InvT-loop
 Inv-loop log «from» n word tag₀ tag = Sought (bearer log word) n tag

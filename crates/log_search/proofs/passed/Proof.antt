@@ -1,12 +1,12 @@
--- `coordinator::passed` meets its contract: no entry before `tag` bears the key, since blocks without its word are passed over.
+-- `log_search::passed` meets its contract: no entry before `tag` bears the key, since blocks without its word are passed over.
 use Prim.Native.Nat.{_-_}
 use mathlib.Core.Path.{sym, _∙_}
 use native.Mathlib.Omega.{arith}
 use borrow.Author.Needs.{needs}
 use Rattle.ranges.specs.FirstLaws.{Sought}
-use Rattle.coordinator.specs.LogLaws.{bearer, block-passed}
-use Rattle.coordinator.proofs.passed.Statement.{statement}
-use Rattle.coordinator.proofs.passed.Tie as tie
+use Rattle.log_search.specs.Bearers.{bearer, block-passed}
+use Rattle.log_search.proofs.passed.Statement.{statement}
+use Rattle.log_search.proofs.passed.Tie as tie
 
 abbrev Inv-loop : tie.InvT-loop
 Inv-loop log «from» n many word tag₀ tag = Sought (bearer log word) n tag

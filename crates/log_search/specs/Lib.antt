@@ -1,0 +1,3 @@
+pub mod Bearers
+pub mod Tags
+pub mod TagsLaws
