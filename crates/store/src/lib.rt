@@ -16,9 +16,9 @@ use rules::Answer;
 use rules::Arrival;
 use rules::Delivered;
 use rules::states;
-use rules::words;
 use soundness::lengths;
 use soundness::scalars;
+use step_parts::words;
 use tables::clients;
 use tables::links;
 
@@ -457,7 +457,7 @@ pub fn deliver_reply(
         &*writes,
         &*reads,
     ) {
-        return rules::showing_nothing(Arrival::Refused(2));
+        return step_parts::showing_nothing(Arrival::Refused(2));
     }
     deliver_reply_sound(
         counts,

@@ -1,4 +1,4 @@
--- `rules::words::keep_words` meets its contract: the loop has kept the words of the masked servers it has passed.
+-- `step_parts::words::keep_words` meets its contract: the loop has kept the words of the masked servers it has passed.
 use Prim.Native.Nat.{ℕ, _≤_, _-_}
 use mathlib.Core.Path.{_≡_}
 use native.Mathlib.Omega.{arith}
@@ -7,10 +7,10 @@ use lib.ListN.{length, getD}
 use Rattle.ranges.specs.Turns.{turns, turns-none, turns-more}
 use Rattle.ranges.specs.Picked.{picked}
 use Rattle.keys.specs.Masks.{hasServer}
 use Rattle.rules.specs.Words.{keepWord}
 use borrow.Author.Needs.{needs}
-use Rattle.rules.proofs.words.keep_words.Statement.{statement}
-use Rattle.rules.proofs.words.keep_words.Tie as tie
+use Rattle.step_parts.proofs.words.keep_words.Statement.{statement}
+use Rattle.step_parts.proofs.words.keep_words.Tie as tie
 
 -- a turn of the loop
 abbrev turn : ℕ → ℕ → List ℕ → ℕ → ℕ → List ℕ → List ℕ

@@ -1,14 +1,14 @@
--- `rules::is_pending` meets its contract: no link that the loop has passed holds anything.
+-- `step_parts::is_pending` meets its contract: no link that the loop has passed holds anything.
 use Prim.Native.Nat.{_-_, _≤_}
 use mathlib.Core.Path.{_≡_, sym}
 use mathlib.Core.Bool.{false}
 use native.Mathlib.Omega.{arith}
 use Rattle.ranges.specs.All.{anyBelow}
 use Rattle.ranges.specs.AllLaws.{any-at, any-none, any-more, any-end}
 use Rattle.rules.specs.Common.{filled}
 use borrow.Author.Needs.{needs}
-use Rattle.rules.proofs.is_pending.Statement.{statement}
-use Rattle.rules.proofs.is_pending.Tie as tie
+use Rattle.step_parts.proofs.is_pending.Statement.{statement}
+use Rattle.step_parts.proofs.is_pending.Tie as tie
 
 abbrev Inv-loop : tie.InvT-loop
 Inv-loop links client target₀ target = (target ≤ 17) × (anyBelow (filled links client) target ≡ false)

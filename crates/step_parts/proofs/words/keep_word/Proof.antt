@@ -1,8 +1,8 @@
--- `rules::words::keep_word` meets its contract: kept or not, by the mask.
+-- `step_parts::words::keep_word` meets its contract: kept or not, by the mask.
 use mathlib.Core.Path.{sym, _∙_}
 use borrow.Author.Needs.{needs}
-use Rattle.rules.proofs.words.keep_word.Statement.{statement}
-use Rattle.rules.proofs.words.keep_word.Tie as tie
+use Rattle.step_parts.proofs.words.keep_word.Statement.{statement}
+use Rattle.step_parts.proofs.words.keep_word.Tie as tie
 
 returns : tie.Need-returns
 returns c =

@@ -1,4 +1,4 @@
--- A link gets a content, and the step counts: what `rules::fill` relies on, and what it leaves.
+-- A link gets a content, and the step counts: what `step_parts::fill` relies on, and what it leaves.
 use Prim.Native.Nat.{ℕ, _+_, _<_, _≤_}
 use mathlib.Core.Path.{_≡_}
 use mathlib.Core.List.{List}

@@ -1,11 +1,11 @@
--- `rules::words::copy_words` meets its contract: the loop has laid the words that it has passed.
+-- `step_parts::words::copy_words` meets its contract: the loop has laid the words that it has passed.
 use Prim.Native.Nat.{ℕ, _+_, _-_}
 use mathlib.Core.List.{List}
 use Rattle.ranges.specs.LaidLaws.{Laying, laying-none, laying-more, laying-all}
 use Rattle.tables.specs.Layout.{clientWord}
 use borrow.Author.Needs.{needs}
-use Rattle.rules.proofs.words.copy_words.Statement.{statement}
-use Rattle.rules.proofs.words.copy_words.Tie as tie
+use Rattle.step_parts.proofs.words.copy_words.Statement.{statement}
+use Rattle.step_parts.proofs.words.copy_words.Tie as tie
 
 abbrev Inv-loop : tie.InvT-loop
 Inv-loop clients client field words₀ server₀ words server = Laying (λ i. clientWord clients client (field + i)) 16 words₀ server words

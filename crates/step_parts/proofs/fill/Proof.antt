@@ -1,7 +1,7 @@
--- `rules::fill` meets its contract: the link's row and the step number are the two words changed.
+-- `step_parts::fill` meets its contract: the link's row and the step number are the two words changed.
 use borrow.Author.Needs.{needs}
-use Rattle.rules.proofs.fill.Statement.{statement}
-use Rattle.rules.proofs.fill.Tie as tie
+use Rattle.step_parts.proofs.fill.Statement.{statement}
+use Rattle.step_parts.proofs.fill.Tie as tie
 
 returns : tie.Need-returns
 returns c =

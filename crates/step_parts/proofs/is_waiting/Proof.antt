@@ -1,9 +1,9 @@
--- `rules::is_waiting` meets its contract: what is gathered of the links passed tells whether one of them holds anything.
+-- `step_parts::is_waiting` meets its contract: what is gathered of the links passed tells whether one of them holds anything.
 use Prim.Native.Nat.{_-_}
-use Rattle.rules.specs.Waiting.{Gathered, gathered-none, gathered-more, gathered-all}
+use Rattle.step_parts.specs.Waiting.{Gathered, gathered-none, gathered-more, gathered-all}
 use borrow.Author.Needs.{needs}
-use Rattle.rules.proofs.is_waiting.Statement.{statement}
-use Rattle.rules.proofs.is_waiting.Tie as tie
+use Rattle.step_parts.proofs.is_waiting.Statement.{statement}
+use Rattle.step_parts.proofs.is_waiting.Tie as tie
 
 abbrev Inv-loop : tie.InvT-loop
 Inv-loop links client kinds₀ target₀ kinds target = Gathered links client target kinds

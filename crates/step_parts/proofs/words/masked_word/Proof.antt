@@ -1,8 +1,8 @@
--- `rules::words::masked_word` meets its contract: the mask has the server, or not.
+-- `step_parts::words::masked_word` meets its contract: the mask has the server, or not.
 use mathlib.Core.Path.{sym, _∙_}
 use borrow.Author.Needs.{needs}
-use Rattle.rules.proofs.words.masked_word.Statement.{statement}
-use Rattle.rules.proofs.words.masked_word.Tie as tie
+use Rattle.step_parts.proofs.words.masked_word.Statement.{statement}
+use Rattle.step_parts.proofs.words.masked_word.Tie as tie
 
 returns : tie.Need-returns
 returns c = rw (sym (c .before .has-server .ensures) ∙ c .if1 .taken)

@@ -1,4 +1,4 @@
--- `rules::words::show_words` meets its contract: the loop has laid what is shown of the servers that it has passed.
+-- `step_parts::words::show_words` meets its contract: the loop has laid what is shown of the servers that it has passed.
 use Prim.Native.Nat.{ℕ, _+_, _-_}
 use mathlib.Core.Bool.{cond}
 use mathlib.Core.List.{List}
@@ -6,10 +6,10 @@ use mathlib.Core.Path.{_≡_, _∙_}
 use Rattle.ranges.specs.LaidLaws.{Laying, laying-none, laying-more, laying-all, laid-at}
 use Rattle.keys.specs.Masks.{hasServer}
 use Rattle.tables.specs.Layout.{clientWord}
 use Rattle.rules.specs.WordsLaws.{shown-laid}
 use borrow.Author.Needs.{needs}
-use Rattle.rules.proofs.words.show_words.Statement.{statement}
-use Rattle.rules.proofs.words.show_words.Tie as tie
+use Rattle.step_parts.proofs.words.show_words.Statement.{statement}
+use Rattle.step_parts.proofs.words.show_words.Tie as tie
 
 -- the word shown of a server
 abbrev shown : List ℕ → ℕ → ℕ → ℕ → ℕ → ℕ
