@@ -1,14 +1,14 @@
--- `refusals::read_fault` meets its contract: each way out is one value of the tests in their order.
+-- `refusal_tests::read_fault` meets its contract: each way out is one value of the tests in their order.
 use mathlib.Core.Path.{sym, ap, _∙_}
 use borrow.Author.Tests.{not-true}
 use Rattle.ranges.specs.Tests.{holds, most, above, is, is-not}
 use Rattle.keys.specs.Masks.{maskWithin}
 use Rattle.refusals.specs.Refusals.{isRetired}
 use Rattle.refusals.specs.Cases.{refused-7, begins}
 use borrow.Author.Needs.{needs}
-use Rattle.refusals.proofs.read_fault.Statement.{statement}
-use Rattle.refusals.proofs.read_fault.Tie as tie
-use Rattle.refusals.proofs.read_fault.Reads as reads
+use Rattle.refusal_tests.proofs.read_fault.Statement.{statement}
+use Rattle.refusal_tests.proofs.read_fault.Tie as tie
+use Rattle.refusal_tests.proofs.read_fault.Reads as reads
 
 returns : tie.Need-returns
 returns c = λ links keys values log writes reads. rw (most (c .before .count-at .ensures) (c .if1 .taken))

@@ -1,8 +1,8 @@
--- `refusals::fits_write` meets its contract: each way out is one value of the first test.
+-- `refusal_tests::fits_write` meets its contract: each way out is one value of the first test.
 use mathlib.Core.Path.{sym, _∙_}
 use borrow.Author.Needs.{needs}
-use Rattle.refusals.proofs.fits_write.Statement.{statement}
-use Rattle.refusals.proofs.fits_write.Tie as tie
+use Rattle.refusal_tests.proofs.fits_write.Statement.{statement}
+use Rattle.refusal_tests.proofs.fits_write.Tie as tie
 
 returns : tie.Need-returns
 returns c = rw (sym (c .before .mask-within .ensures) ∙ c .if1 .taken)

@@ -1,4 +1,4 @@
--- `refusals::write_fault` meets its contract: each way out is one value of the tests in their order.
+-- `refusal_tests::write_fault` meets its contract: each way out is one value of the tests in their order.
 use Prim.Native.Nat.{ℕ}
 use mathlib.Core.Path.{sym, ap, _∙_}
 use mathlib.Core.Bool.{Bool, _&&_}
@@ -6,12 +6,12 @@ use lib.Dec.{eqb}
 use borrow.Author.Tests.{not-true}
 use Rattle.ranges.specs.Tests.{holds, most, above, is, is-not}
 use Rattle.keys.specs.Masks.{maskWithin}
 use Rattle.refusals.specs.Refusals.{isRetired}
 use Rattle.refusals.specs.Cases.{refused-7, begins}
 use borrow.Author.Needs.{needs}
-use Rattle.refusals.proofs.write_fault.Statement.{statement}
-use Rattle.refusals.proofs.write_fault.Tie as tie
-use Rattle.refusals.proofs.write_fault.Reads as reads
+use Rattle.refusal_tests.proofs.write_fault.Statement.{statement}
+use Rattle.refusal_tests.proofs.write_fault.Tie as tie
+use Rattle.refusal_tests.proofs.write_fault.Reads as reads
 
 returns : tie.Need-returns
 returns c = λ links keys values log writes reads. rw (most (c .before .count-at .ensures) (c .if1 .taken))

@@ -1,8 +1,8 @@
--- `refusals::is_target` meets its contract: each way out is one value of the first test.
+-- `refusal_tests::is_target` meets its contract: each way out is one value of the first test.
 use borrow.Author.Tests.{lt-ltb, le-ltb}
 use borrow.Author.Needs.{needs}
-use Rattle.refusals.proofs.is_target.Statement.{statement}
-use Rattle.refusals.proofs.is_target.Tie as tie
+use Rattle.refusal_tests.proofs.is_target.Statement.{statement}
+use Rattle.refusal_tests.proofs.is_target.Tie as tie
 
 returns : tie.Need-returns
 returns c = rw (lt-ltb _ _ (c .if1 .taken))

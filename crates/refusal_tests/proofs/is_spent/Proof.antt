@@ -1,8 +1,8 @@
--- `refusals::is_spent` meets its contract: each way out is one value of the first test.
+-- `refusal_tests::is_spent` meets its contract: each way out is one value of the first test.
 use Rattle.refusals.specs.Cases.{no-place, place-left}
 use borrow.Author.Needs.{needs}
-use Rattle.refusals.proofs.is_spent.Statement.{statement}
-use Rattle.refusals.proofs.is_spent.Tie as tie
+use Rattle.refusal_tests.proofs.is_spent.Statement.{statement}
+use Rattle.refusal_tests.proofs.is_spent.Tie as tie
 
 returns : tie.Need-returns
 returns c = no-place (c .before .before .before .args .counts .now) (c .before .before .before .args .kind) (c .before .count-at .ensures) (c .if1 .taken)

@@ -1,14 +1,14 @@
--- `refusals::delivery_fault` meets its contract: each way out is one value of the tests in their order.
+-- `refusal_tests::delivery_fault` meets its contract: each way out is one value of the tests in their order.
 use Prim.Native.Nat.{ℕ}
 use mathlib.Core.Path.{sym, ap, _∙_}
 use borrow.Author.Tests.{not-true}
 use Rattle.ranges.specs.Tests.{holds, most, above, least, under}
 use Rattle.refusals.specs.Refusals.{isTargetOf}
 use Rattle.refusals.specs.Cases.{no-step-left, delivers}
 use borrow.Author.Needs.{needs}
-use Rattle.refusals.proofs.delivery_fault.Statement.{statement}
-use Rattle.refusals.proofs.delivery_fault.Tie as tie
-use Rattle.refusals.proofs.delivery_fault.Reads as reads
+use Rattle.refusal_tests.proofs.delivery_fault.Statement.{statement}
+use Rattle.refusal_tests.proofs.delivery_fault.Tie as tie
+use Rattle.refusal_tests.proofs.delivery_fault.Reads as reads
 
 returns : tie.Need-returns
 returns c = λ clients links keys values log writes reads. rw (most (c .before .count-at .ensures) (c .if1 .taken))
