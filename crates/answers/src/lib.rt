@@ -7,7 +7,7 @@ ghost use Rattle.tables.specs.Tables.{tablesOf};
 ghost use Rattle.tables.specs.Links.{targets};
 ghost use Rattle.rules.specs.Answers.{left};
 ghost use Rattle.rules.specs.Common.{reply, gotReply};
-ghost use Rattle.rules.specs.Filled.{Fillable};
+ghost use Rattle.step_parts.specs.Filled.{Fillable};
 ghost use Rattle.rules.specs.Request.{onWhichKeys, onGetAll};
 ghost use Rattle.answers.specs.Answered.{Answered};
 use keys::Key;
@@ -34,7 +34,7 @@ pub fn answer_badged(
         number: number,
         badge: badge,
     };
-    rules::fill(counts, links, client, target, links::Content::Reply(reply));
+    step_parts::fill(counts, links, client, target, links::Content::Reply(reply));
     Answer::Ok
 }
 

@@ -18,7 +18,7 @@ ghost use Rattle.begins.specs.Ready.{AskReady, WriteReady};
 ghost use Rattle.begins.specs.Cases.{startedWrite, askedAt, sentAt};
 use keys::Key;
 use rules::states;
-use rules::words;
+use step_parts::words;
 use tables::clients;
 use tables::counts;
 use tables::links;

@@ -18,7 +18,7 @@ ghost use Rattle.keys.specs.Bits.{without, addServer, gathered};
 ghost use Rattle.choice.specs.Holders.{slots, tabled, slotOf, marked, markVersions, markServers, Marked};
 ghost use Rattle.choice.specs.Walk.{holdersOf, lackingAfter};
 use keys::Key;
-use rules::words;
+use step_parts::words;
 use tables::clients;
 use tables::links;
 use tables::log;

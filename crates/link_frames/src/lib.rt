@@ -304,7 +304,7 @@ fn is_absent(counts: &[u32], client: u32, target: u32) -> bool
     if counts::count_at(counts, counts::CLIENTS) <= client {
         return true;
     }
-    !refusals::is_target(counts::count_at(counts, counts::SERVERS), target)
+    !refusal_tests::is_target(counts::count_at(counts, counts::SERVERS), target)
 }
 
 // Writes the frame of the link of a client and a target into the lent bytes: its length, or 3, 9 or 12, and then the bytes are as before. On tables known to be sound.

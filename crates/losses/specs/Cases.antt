@@ -14,7 +14,7 @@ use Rattle.tables.specs.declared.links.Link.{Link}
 use Rattle.rules.specs.declared.Answer.the-variants.{Ok}
 use Rattle.rules.specs.Answers.{Left, left}
 use Rattle.rules.specs.Common.{writing, entering, askingSetpoints, request, setRequest}
-use Rattle.rules.specs.Filled.{Filled}
+use Rattle.step_parts.specs.Filled.{Filled}
 use Rattle.rules.specs.Request.{refused, answeredBy}
 use Rattle.rules.specs.Loss.{onLoss, linkLost, sentIn, sentBy, onResend, linkResent}
 

@@ -7,7 +7,7 @@ use Rattle.tables.specs.Layout.{clientWidth, clientWord, stateField, countField
 use Rattle.tables.specs.Links.{targets, linkAt}
 use Rattle.tables.specs.declared.links.Content.the-variants.{Lost}
 use Rattle.rules.specs.Common.{askingSetpoints}
-use Rattle.rules.specs.Filled.{Fillable}
+use Rattle.step_parts.specs.Filled.{Fillable}
 
 -- a client's row, whose count fits a key; while it asks for setpoints the target is a server
 pub record Sends (clients : List ℕ) (q i : ℕ) : Type 0 where

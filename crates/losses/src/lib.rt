@@ -5,7 +5,7 @@ ghost use Prim.Native.Nat.{ℕ};
 ghost use Rattle.tables.specs.Tables.{Tables, tablesOf, withClients};
 ghost use Rattle.rules.specs.Answers.{left};
 ghost use Rattle.rules.specs.Common.{request, setRequest};
-ghost use Rattle.rules.specs.Filled.{Fillable};
+ghost use Rattle.step_parts.specs.Filled.{Fillable};
 ghost use Rattle.rules.specs.Loss.{linkLost, sentBy, linkResent};
 ghost use Rattle.losses.specs.Ready.{Sends, ResendReady};
 use keys::Key;
@@ -29,11 +29,11 @@ pub fn lose(counts: &mut [u32], links: &mut [u32], client: usize, target: usize)
         Content::Nothing => Answer::Refused(14),
         Content::Lost => Answer::Refused(14),
         Content::Request(_) => {
-            rules::fill(counts, links, client, target, Content::Lost);
+            step_parts::fill(counts, links, client, target, Content::Lost);
             Answer::Ok
         }
         Content::Reply(_) => {
-            rules::fill(counts, links, client, target, Content::Lost);
+            step_parts::fill(counts, links, client, target, Content::Lost);
             Answer::Ok
         }
     }
@@ -96,7 +96,7 @@ pub fn resend(
         Content::Reply(_) => Answer::Refused(15),
         Content::Lost => {
             let again = sent(clients, client, target);
-            rules::fill(counts, links, client, target, again);
+            step_parts::fill(counts, links, client, target, again);
             Answer::Ok
         }
     }

@@ -13,8 +13,8 @@ use Rattle.rules.specs.Common.{counted, idle, writing, entering, askingKeys, as
 use Rattle.rules.specs.Choice.{qualifies, chosenTag, chosenSetpoint, chosenBadge}
 use Rattle.rules.specs.Reply.{shownTags, readShown, receivedIn, putReceived, tagFrom, concludedRow, chosenTags}
 use Rattle.choice.specs.Ready.{ChoiceReady, Choosable}
-use Rattle.rules.specs.Filled.{Fillable}
-use Rattle.rules.specs.Waiting.{KindsFit}
+use Rattle.step_parts.specs.Filled.{Fillable}
+use Rattle.step_parts.specs.Waiting.{KindsFit}
 use mathlib.Core.Bool.{Bool, true, false}
 
 -- what `settle` leaves

@@ -16,13 +16,13 @@ ghost use lib.ListN.{replicate};
 ghost use Rattle.replies.specs.Shown.{plainly, shownBy, Shows};
 ghost use Rattle.replies.specs.Ready.{Settled, CountFits, GotReady, KeysReady, rowShown, Concludable, FinishedByC, AllReady};
 ghost use Rattle.choice.specs.Ready.{ChoiceReady};
-ghost use Rattle.rules.specs.Filled.{Fillable};
-ghost use Rattle.rules.specs.Waiting.{KindsFit};
+ghost use Rattle.step_parts.specs.Filled.{Fillable};
+ghost use Rattle.step_parts.specs.Waiting.{KindsFit};
 use keys::Key;
 use rules::Arrival;
 use rules::Delivered;
 use rules::states;
-use rules::words;
+use step_parts::words;
 use tables::clients;
 use tables::counts;
 use tables::links;
@@ -53,7 +53,7 @@ fn settle(counts: &mut [u32], links: &mut [u32], client: usize, target: usize) -
     requires { ⌜ Fillable (now counts) (now links) client target ⌝ }
     ensures { λ r. ⌜ Settled (now (counts .entry)) (now (links .entry)) client target r (now (counts .exit)) (now (links .exit)) ⌝ }
 {
-    rules::fill(counts, links, client, target, links::Content::Nothing)
+    step_parts::fill(counts, links, client, target, links::Content::Nothing)
 }
 
 // The second round of a WRITE: its key and mask go to the coordinator.
@@ -93,7 +93,7 @@ pub fn set_done(
         (tablesOf (now (counts .entry)) (now (clients .entry)) (now (links .entry)) keys values log writes reads)) ⌝ }
 {
     settle(counts, links, client, target);
-    if rules::is_waiting(&*links, client) {
+    if step_parts::is_waiting(&*links, client) {
         return Arrival::Wait;
     }
     send_entry(clients, links, client);
@@ -205,7 +205,7 @@ pub fn got(
         contents.number,
     );
     clients::put_client_word(clients, client, clients::BADGES + target, contents.badge);
-    if rules::is_waiting(&*links, client) {
+    if step_parts::is_waiting(&*links, client) {
         return true;
     }
     finish(clients, reads, client, place, tag, step);
@@ -279,7 +279,7 @@ pub fn all_told(
     let place = clients::client_word(clients, client, clients::RECORD);
     let step = settle(counts, links, client, target);
     clients::put_client_word(clients, client, clients::RECEIVED + target, contents.number);
-    if rules::is_waiting(&*links, client) {
+    if step_parts::is_waiting(&*links, client) {
         return plain(Arrival::Wait);
     }
     let tag = finish_by_c(
@@ -309,7 +309,7 @@ pub fn shown(clients: &[u32], client: usize, outcome: Outcome, tags: [u32; 16]) 
 {
     let arrival = outcome.arrival;
     if !outcome.ended {
-        return rules::showing_nothing(arrival);
+        return step_parts::showing_nothing(arrival);
     }
     let mut setpoints = [0u32; 16];
     let mut badges = [0u32; 16];

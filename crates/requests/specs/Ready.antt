@@ -8,7 +8,7 @@ use Rattle.tables.specs.Links.{targets, linkAt}
 use Rattle.tables.specs.declared.links.Contents.{Contents}
 use Rattle.tables.specs.declared.links.Content.the-variants.{Request}
 use Rattle.rules.specs.Common.{writing, entering, askingSetpoints}
-use Rattle.rules.specs.Filled.{Fillable}
+use Rattle.step_parts.specs.Filled.{Fillable}
 use Rattle.server_requests.specs.Ready.{AtServer}
 use Rattle.coordinator_requests.specs.Ready.{Enterable}
 

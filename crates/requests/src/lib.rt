@@ -7,7 +7,7 @@ ghost use Rattle.tables.specs.Rows.{HasRow};
 ghost use Rattle.tables.specs.Layout.{clientWidth, clientWord, stateField};
 ghost use Rattle.tables.specs.Links.{targets};
 ghost use Rattle.rules.specs.Answers.{left};
-ghost use Rattle.rules.specs.Filled.{Fillable};
+ghost use Rattle.step_parts.specs.Filled.{Fillable};
 ghost use Rattle.rules.specs.Request.{onRequestIn, requestDelivered};
 ghost use Rattle.requests.specs.Ready.{Asks, RequestReady};
 use rules::Answer;

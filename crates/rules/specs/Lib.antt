@@ -7,8 +7,6 @@ pub mod Common
 pub mod Open
 pub mod Begin
 pub mod Request
-pub mod Filled
-pub mod Waiting
 pub mod Choice
 pub mod Reply
 pub mod Loss

@@ -4,7 +4,7 @@ ghost use mathlib.Core.List.{List};
 ghost use Prim.Native.Nat.{ℕ};
 ghost use Rattle.tables.specs.Tables.{tablesOf};
 ghost use Rattle.rules.specs.Answers.{left};
-ghost use Rattle.rules.specs.Filled.{Fillable};
+ghost use Rattle.step_parts.specs.Filled.{Fillable};
 ghost use Rattle.rules.specs.Request.{onNewSet, onSet, onGet};
 ghost use Rattle.server_requests.specs.Ready.{AtServer};
 use keys::Key;

@@ -155,7 +155,7 @@ fn client_sound(counts: &[u32], clients: &[u32], links: &[u32], client: usize) -
     if clients::client_word(clients, client, clients::STATE) == rules::states::IDLE {
         return true;
     }
-    rules::is_pending(links, client)
+    step_parts::is_pending(links, client)
 }
 
 pub fn clients_sound(counts: &[u32], clients: &[u32], links: &[u32]) -> bool

@@ -15,7 +15,7 @@ ghost use Rattle.store_exports.specs.Numbers.{crossingOf, numbered, inNumbers, 
 use replies::Outcome;
 use rules::Answer;
 use rules::Arrival;
-use rules::words;
+use step_parts::words;
 use store_exports::Crossing;
 use tables::clients;
 

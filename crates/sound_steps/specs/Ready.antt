@@ -12,7 +12,7 @@ use Rattle.tables.specs.Tables.{Tables, serversOf, clientsOf, stateOf, countOf,
 use Rattle.tables.specs.declared.links.Contents.{Contents}
 use Rattle.tables.specs.declared.links.Content.the-variants.{Request, Reply, Lost}
 use Rattle.rules.specs.Common.{askingSetpoints}
-use Rattle.rules.specs.Filled.{Fillable}
+use Rattle.step_parts.specs.Filled.{Fillable}
 use Rattle.soundness.specs.Sound.{uses, replySound, badgeSound, contentSound}
 use Rattle.soundness.specs.Facts.{Sound}
 use Rattle.soundness.specs.Room.{few-servers, server-fits, keys-row, values-row, client-fits, client-row, client-links, link-row}

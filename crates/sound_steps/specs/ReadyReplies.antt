@@ -22,7 +22,7 @@ use Rattle.coordinator.specs.Latest.{latestTag, latestKey}
 use Rattle.coordinator.specs.LatestLaws.{latest-within}
 use Rattle.server.specs.Held.{firstBearing, bears}
 use Rattle.rules.specs.Common.{askingKeys, askingSetpoints, askingAll, coordinator, filled, pending}
-use Rattle.rules.specs.Waiting.{KindsFit}
+use Rattle.step_parts.specs.Waiting.{KindsFit}
 use Rattle.rules.specs.Choice.{serves, qualifies}
 use Rattle.rules.specs.Reply.{receivedIn, gotNumber}
 use Rattle.soundness.specs.Sound.{uses, holding}

@@ -16,9 +16,9 @@ use rules::Answer;
 use rules::Arrival;
 use rules::Delivered;
 use rules::states;
-use rules::words;
 use soundness::lengths;
 use soundness::scalars;
+use step_parts::words;
 use tables::clients;
 use tables::links;
 
@@ -26,7 +26,7 @@ use tables::links;
 fn opens_press(method: u32, servers: u32, panels: u32) -> bool
     ensures { λ r. ⌜ r ≡ pressOpens method servers panels ⌝ }
 {
-    if refusals::is_retired(method) {
+    if refusal_tests::is_retired(method) {
         return false;
     }
     scalars::press_fits(method, servers, panels)
@@ -112,7 +112,7 @@ pub fn begin_write_sound(
     ensures { λ r. ⌜ left r (tablesOf (now (counts .exit)) (now (clients .exit)) (now (links .exit)) (now (keys .entry)) (now (values .entry)) (now (log .entry)) (now (writes .exit)) (now (reads .entry)))
         ≡ beginWrite client mask badge (now (setpoints .entry)) (tablesOf (now (counts .entry)) (now (clients .entry)) (now (links .entry)) (now (keys .entry)) (now (values .entry)) (now (log .entry)) (now (writes .entry)) (now (reads .entry))) ⌝ }
 {
-    let fault = refusals::write_fault(&*counts, &*clients, client, mask, setpoints.len());
+    let fault = refusal_tests::write_fault(&*counts, &*clients, client, mask, setpoints.len());
     if fault != 0 {
         return Answer::Refused(fault);
     }
@@ -146,7 +146,7 @@ pub fn begin_read_sound(
     ensures { λ r. ⌜ left r (tablesOf (now (counts .exit)) (now (clients .exit)) (now (links .exit)) (now (keys .entry)) (now (values .entry)) (now (log .entry)) (now (writes .entry)) (now (reads .exit)))
         ≡ beginRead client mask (tablesOf (now (counts .entry)) (now (clients .entry)) (now (links .entry)) (now (keys .entry)) (now (values .entry)) (now (log .entry)) (now (writes .entry)) (now (reads .entry))) ⌝ }
 {
-    let fault = refusals::read_fault(&*counts, &*clients, client, mask);
+    let fault = refusal_tests::read_fault(&*counts, &*clients, client, mask);
     if fault != 0 {
         return Answer::Refused(fault);
     }
@@ -171,7 +171,7 @@ pub fn deliver_request_sound(
     ensures { λ r. ⌜ left r (tablesOf (now (counts .exit)) (now (clients .entry)) (now (links .exit)) (now (keys .exit)) (now (values .exit)) (now (log .exit)) (now (writes .exit)) (now (reads .entry)))
         ≡ deliverRequest client target (tablesOf (now (counts .entry)) (now (clients .entry)) (now (links .entry)) (now (keys .entry)) (now (values .entry)) (now (log .entry)) (now (writes .entry)) (now (reads .entry))) ⌝ }
 {
-    let fault = refusals::delivery_fault(&*counts, client, target);
+    let fault = refusal_tests::delivery_fault(&*counts, client, target);
     if fault != 0 {
         return Answer::Refused(fault);
     }
@@ -212,7 +212,7 @@ pub fn take_reply(
         (tablesOf (now (counts .exit)) (now (clients .exit)) (now (links .exit)) (now (keys .entry)) (now (values .entry))
         (now (log .entry)) (now (writes .exit)) (now (reads .exit))) ⌝ }
 {
-    let fault = refusals::delivery_fault(&*counts, client, target);
+    let fault = refusal_tests::delivery_fault(&*counts, client, target);
     if fault != 0 {
         return replies::plain(Arrival::Refused(fault));
     }
@@ -324,7 +324,7 @@ pub fn lose_sound(
         (now (values .entry)) (now (log .entry))
         (now (writes .entry)) (now (reads .entry))) ⌝ }
 {
-    let fault = refusals::delivery_fault(&*counts, client, target);
+    let fault = refusal_tests::delivery_fault(&*counts, client, target);
     if fault != 0 {
         return Answer::Refused(fault);
     }
@@ -352,7 +352,7 @@ pub fn resend_sound(
         (now (values .entry)) (now (log .entry))
         (now (writes .entry)) (now (reads .entry))) ⌝ }
 {
-    let fault = refusals::delivery_fault(&*counts, client, target);
+    let fault = refusal_tests::delivery_fault(&*counts, client, target);
     if fault != 0 {
         return Answer::Refused(fault);
     }

@@ -201,7 +201,7 @@ pub fn deliver_reply(
         &*writes,
         &*reads,
     ) {
-        return rules::showing_nothing(Arrival::Refused(2));
+        return step_parts::showing_nothing(Arrival::Refused(2));
     }
     sound_steps::deliver_reply_sound(
         counts,

@@ -77,7 +77,7 @@ fn accepts_write(counts: &[u32], clients: &[u32], client: u32) -> bool
 {
     let servers = counts::count_at(counts, counts::SERVERS);
     let all = keys::all_servers(servers);
-    refusals::write_fault(counts, clients, client, all, servers as usize) == 0
+    refusal_tests::write_fault(counts, clients, client, all, servers as usize) == 0
 }
 
 // Whether the READ of all servers by a client would be accepted.
@@ -88,7 +88,7 @@ fn accepts_read(counts: &[u32], clients: &[u32], client: u32) -> bool
 {
     let servers = counts::count_at(counts, counts::SERVERS);
     let all = keys::all_servers(servers);
-    refusals::read_fault(counts, clients, client, all) == 0
+    refusal_tests::read_fault(counts, clients, client, all) == 0
 }
 
 // Whether a server holds a key.
@@ -167,7 +167,7 @@ fn accepts_request(
         links::Content::Reply(_) => false,
         links::Content::Lost => false,
         links::Content::Request(contents) => {
-            if refusals::delivery_fault(counts, client, target) != 0 {
+            if refusal_tests::delivery_fault(counts, client, target) != 0 {
                 return false;
             }
             let state = clients::client_word(clients, client as usize, clients::STATE);
@@ -189,7 +189,7 @@ fn accepts_reply(counts: &[u32], links: &[u32], client: u32, target: u32) -> boo
         links::Content::Nothing => false,
         links::Content::Request(_) => false,
         links::Content::Lost => false,
-        links::Content::Reply(_) => refusals::delivery_fault(counts, client, target) == 0,
+        links::Content::Reply(_) => refusal_tests::delivery_fault(counts, client, target) == 0,
     }
 }
 

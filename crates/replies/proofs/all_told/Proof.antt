@@ -2,7 +2,7 @@
 use Rattle.tables.specs.Tables.{tablesOf}
 use Rattle.replies.specs.Ready.{last-ready}
 use Rattle.replies.specs.Cases.{all-waits, all-ends}
-use Rattle.rules.specs.Waiting.{kinds-emptied}
+use Rattle.step_parts.specs.Waiting.{kinds-emptied}
 use borrow.Author.Needs.{needs}
 use Rattle.replies.proofs.all_told.Statement.{statement}
 use Rattle.replies.proofs.all_told.Tie as tie

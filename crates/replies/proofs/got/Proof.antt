@@ -2,7 +2,7 @@
 use mathlib.Core.Path.{_∙_}
 use Rattle.tables.specs.Tables.{tablesOf}
 use Rattle.replies.specs.Cases.{got-waits, got-ends}
-use Rattle.rules.specs.Waiting.{kinds-emptied}
+use Rattle.step_parts.specs.Waiting.{kinds-emptied}
 use borrow.Author.Needs.{needs}
 use Rattle.replies.proofs.got.Statement.{statement}
 use Rattle.replies.proofs.got.Tie as tie

@@ -1,7 +1,7 @@
 -- `replies::set_done` meets its contract: waiting or the second round, each a case law of `onSetDone`.
 use Rattle.tables.specs.Tables.{tablesOf}
 use Rattle.replies.specs.Cases.{set-waits, set-enters}
-use Rattle.rules.specs.Waiting.{kinds-emptied}
+use Rattle.step_parts.specs.Waiting.{kinds-emptied}
 use borrow.Author.Needs.{needs}
 use Rattle.replies.proofs.set_done.Statement.{statement}
 use Rattle.replies.proofs.set_done.Tie as tie
