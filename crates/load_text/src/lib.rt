@@ -52,7 +52,7 @@ fn ask_behind(seed: u32, part: &[u8]) -> Asked
     ensures { λ r. ⌜ r ≡ askedBy (before (seed ∷ []) (numbersOf (now (part .entry)))) ⌝ }
 {
     let mut numbers = [0u32; schedule::NUMBERS];
-    let read = schedule::numbers_in(part, &mut numbers);
+    let read = line_reading::numbers_in(part, &mut numbers);
     match read {
         Numbers::Broken => Asked::Unreadable,
         Numbers::All(count) => {
@@ -77,7 +77,7 @@ pub fn read_asked(line: &[u8]) -> Asked
     if schedule::LINE < line.len() {
         return Asked::Unreadable;
     }
-    let first = schedule::number_at(line);
+    let first = line_reading::number_at(line);
     match first {
         Number::Not => Asked::Unreadable,
         Number::Value(seed, size) => ask_behind(seed, &line[size..]),

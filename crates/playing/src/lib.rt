@@ -362,7 +362,7 @@ fn play_named(
         ≡ playedLine (now (line .entry)) (tablesOf (now (counts .entry)) (now (clients .entry)) (now (links .entry)) (now (keys .entry)) (now (values .entry)) (now (log .entry)) (now (writes .entry)) (now (reads .entry))) ⌝ }
     ensures { λ _. ⌜ now (setpoints .exit) ≡ stored (stepOf (now (line .entry)) .setpoints) (now (setpoints .entry)) ⌝ }
 {
-    let reading = schedule::read_step(line, setpoints);
+    let reading = step_reading::read_step(line, setpoints);
     let step = reading.step;
     let given = reading.setpoints;
     play_step(
