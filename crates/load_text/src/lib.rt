@@ -92,7 +92,7 @@ fn print_equal(step: Step, setpoint: u32, servers: u32, out: &mut [u8], at: usiz
 {
     let setpoints = [setpoint; 16];
     let given = servers as usize;
-    printing::print_step(step, &setpoints[..given], out, at)
+    step_text::print_step(step, &setpoints[..given], out, at)
 }
 
 // The run of a load that is refused: its number is all that is printed.
@@ -100,7 +100,7 @@ pub fn refuse(number: u32, out: &mut [u8]) -> Giving
     requires { ⌜ answerMost ≤ length (now out) ⌝ }
     ensures { λ r. ⌜ ((t : Tables) → Gave (refusing number t) 0 (now (out .entry)) r (now (out .exit)) t) ⌝ }
 {
-    let used = printing::print_refusal(number, out, 0);
+    let used = answer_text::print_refusal(number, out, 0);
     Giving {
         left: 0,
         seed: 0,

@@ -385,13 +385,13 @@ fn print_shown(number: u64, shown: Shown, out: &mut [u8], at: usize) -> usize
     ensures { λ r. ⌜ Printed (now (out .entry)) at (shownText number shown) r (now (out .exit)) × (r ≤ at + answerMost) ⌝ }
 {
     let word = shown.word;
-    if !printing::shows_servers(word) {
-        return printing::print_plain_answer(number, word, out, at);
+    if !answer_text::shows_servers(word) {
+        return answer_text::print_plain_answer(number, word, out, at);
     }
     let setpoints = shown.setpoints;
     let tags = shown.tags;
     let badges = shown.badges;
-    printing::print_answer(
+    answer_text::print_answer(
         number,
         word,
         shown.mask,
