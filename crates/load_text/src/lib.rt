@@ -52,7 +52,7 @@ fn ask_behind(seed: u32, part: &[u8]) -> Asked
     ensures { λ r. ⌜ r ≡ askedBy (before (seed ∷ []) (numbersOf (now (part .entry)))) ⌝ }
 {
     let mut numbers = [0u32; schedule::NUMBERS];
-    let read = schedule::numbers_in(part, &mut numbers);
+    let read = line_reading::numbers_in(part, &mut numbers);
     match read {
         Numbers::Broken => Asked::Unreadable,
         Numbers::All(count) => {
@@ -77,7 +77,7 @@ pub fn read_asked(line: &[u8]) -> Asked
     if schedule::LINE < line.len() {
         return Asked::Unreadable;
     }
-    let first = schedule::number_at(line);
+    let first = line_reading::number_at(line);
     match first {
         Number::Not => Asked::Unreadable,
         Number::Value(seed, size) => ask_behind(seed, &line[size..]),
@@ -92,7 +92,7 @@ fn print_equal(step: Step, setpoint: u32, servers: u32, out: &mut [u8], at: usiz
 {
     let setpoints = [setpoint; 16];
     let given = servers as usize;
-    printing::print_step(step, &setpoints[..given], out, at)
+    step_text::print_step(step, &setpoints[..given], out, at)
 }
 
 // The run of a load that is refused: its number is all that is printed.
@@ -100,7 +100,7 @@ pub fn refuse(number: u32, out: &mut [u8]) -> Giving
     requires { ⌜ answerMost ≤ length (now out) ⌝ }
     ensures { λ r. ⌜ ((t : Tables) → Gave (refusing number t) 0 (now (out .entry)) r (now (out .exit)) t) ⌝ }
 {
-    let used = printing::print_refusal(number, out, 0);
+    let used = answer_text::print_refusal(number, out, 0);
     Giving {
         left: 0,
         seed: 0,

@@ -116,7 +116,7 @@ pub fn give_step(
 pub fn print_load() {
     let mut text = [0u8; TEXT];
     let held = io::read_full(STDIN_FILENO, &mut text);
-    let asked = load_text::read_asked(schedule::line_at(&text[..held], 0));
+    let asked = load_text::read_asked(line_reading::line_at(&text[..held], 0));
     let mut counts = [0u32; counts::WORDS];
     let mut clients = [0u32; streaming::CLIENTS];
     let mut links = [0u32; streaming::LINKS];

@@ -362,7 +362,7 @@ fn play_named(
         ≡ playedLine (now (line .entry)) (tablesOf (now (counts .entry)) (now (clients .entry)) (now (links .entry)) (now (keys .entry)) (now (values .entry)) (now (log .entry)) (now (writes .entry)) (now (reads .entry))) ⌝ }
     ensures { λ _. ⌜ now (setpoints .exit) ≡ stored (stepOf (now (line .entry)) .setpoints) (now (setpoints .entry)) ⌝ }
 {
-    let reading = schedule::read_step(line, setpoints);
+    let reading = step_reading::read_step(line, setpoints);
     let step = reading.step;
     let given = reading.setpoints;
     play_step(
@@ -385,13 +385,13 @@ fn print_shown(number: u64, shown: Shown, out: &mut [u8], at: usize) -> usize
     ensures { λ r. ⌜ Printed (now (out .entry)) at (shownText number shown) r (now (out .exit)) × (r ≤ at + answerMost) ⌝ }
 {
     let word = shown.word;
-    if !printing::shows_servers(word) {
-        return printing::print_plain_answer(number, word, out, at);
+    if !answer_text::shows_servers(word) {
+        return answer_text::print_plain_answer(number, word, out, at);
     }
     let setpoints = shown.setpoints;
     let tags = shown.tags;
     let badges = shown.badges;
-    printing::print_answer(
+    answer_text::print_answer(
         number,
         word,
         shown.mask,

@@ -139,7 +139,7 @@ fn print_spaced(number: u32, out: &mut [u8], at: usize) -> usize
     ensures { λ r. ⌜ Printed (now (out .entry)) at (spaced number) r (now (out .exit)) × (r ≤ at + markedMost) ⌝ }
 {
     let next = put_byte(b' ', out, at);
-    printing::print_decimal(number as u64, out, next)
+    number_text::print_decimal(number as u64, out, next)
 }
 
 // A difference.
@@ -162,7 +162,7 @@ pub fn print_compared(answer: Compared, out: &mut [u8]) -> usize
     match answer {
         Compared::Agree => print_bytes(b"agree\n", out, 0),
         Compared::Differ(client, target, place) => print_difference(client, target, place, out),
-        Compared::Refused(number) => printing::print_refusal(number as u32, out, 0),
+        Compared::Refused(number) => answer_text::print_refusal(number as u32, out, 0),
     }
 }
 

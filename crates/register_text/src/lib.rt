@@ -21,7 +21,7 @@ fn print_row(row: &[u32], out: &mut [u8], at: usize) -> usize
     ensures { λ r. ⌜ Printed (now (out .entry)) at (rowText (now (row .entry))) r (now (out .exit)) × (r ≤ at + recordMost) ⌝ }
 {
     if row[0] == 0 {
-        return printing::print_write_record(
+        return record_text::print_write_record(
             row[1],
             row[2],
             row[3],
@@ -32,7 +32,7 @@ fn print_row(row: &[u32], out: &mut [u8], at: usize) -> usize
             at,
         );
     }
-    printing::print_read_record(row[1], row[2], row[4], row[5], row[6], out, at)
+    record_text::print_read_record(row[1], row[2], row[4], row[5], row[6], out, at)
 }
 
 // The lines of the first rows of a list.

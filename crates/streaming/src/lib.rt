@@ -105,7 +105,7 @@ fn turn(
 {
     let from = run.from;
     let held = run.held;
-    let line = schedule::line_at(&window[..held], from);
+    let line = line_reading::line_at(&window[..held], from);
     let size = line.len();
     if window::lacks_end(size, held - from) {
         return window::read_on(run, window);

@@ -32,7 +32,7 @@ pub fn play_lines(
     let mut lines = 0u64;
     let mut printed = 0;
     while start < text.len() {
-        let line = schedule::line_at(text, start);
+        let line = line_reading::line_at(text, start);
         let size = line.len();
         printed = playing::play_line(
             counts,

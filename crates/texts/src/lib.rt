@@ -26,7 +26,7 @@ pub fn count_lines(text: &[u8]) -> usize
     let mut start = 0;
     let mut lines = 0;
     while start < text.len() {
-        start = schedule::line_end(text, start) + 1;
+        start = line_reading::line_end(text, start) + 1;
         lines += 1;
     }
     lines
