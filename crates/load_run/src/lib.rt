@@ -35,7 +35,7 @@ fn play_given(
     let servers = counts::count_at(counts, counts::SERVERS) as usize;
     let setpoints = [picked.setpoint; 16];
     let step: Step = picked.step;
-    playing::play_step(
+    step_playing::play_step(
         counts,
         clients,
         links,

@@ -65,7 +65,7 @@ fn answer_line(
         return window::pass(run, size, lines, run.used);
     }
     let number = lines + 1;
-    let used = playing::play_line(
+    let used = line_playing::play_line(
         counts,
         clients,
         links,

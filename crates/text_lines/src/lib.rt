@@ -34,7 +34,7 @@ pub fn play_lines(
     while start < text.len() {
         let line = line_reading::line_at(text, start);
         let size = line.len();
-        printed = playing::play_line(
+        printed = line_playing::play_line(
             counts,
             clients,
             links,

@@ -3,10 +3,10 @@ use mathlib.Core.Path.{sym}
 use lib.Seq.{length-take-le}
 use native.Mathlib.Omega.{arith}
 use Rattle.tables.specs.Tables.{tablesOf}
 use Rattle.playing.specs.PlayedLaws.{within-place, line-played}
 use borrow.Author.Needs.{needs}
-use Rattle.playing.proofs.play_named.Statement.{statement}
-use Rattle.playing.proofs.play_named.Tie as tie
+use Rattle.line_playing.proofs.play_named.Statement.{statement}
+use Rattle.line_playing.proofs.play_named.Tie as tie
 
 slice-reshare-prefix-play-step : tie.Need-slice-reshare-prefix-play-step
 slice-reshare-prefix-play-step c =

@@ -1,9 +1,9 @@
 -- Each case of the step is its public step, on sound tables.
 use Rattle.playing.specs.Played.{played}
 use Rattle.playing.specs.PlayedLaws.{left-played}
 use borrow.Author.Needs.{needs}
-use Rattle.playing.proofs.play_opened.Statement.{statement}
-use Rattle.playing.proofs.play_opened.Tie as tie
+use Rattle.step_playing.proofs.play_opened.Statement.{statement}
+use Rattle.step_playing.proofs.play_opened.Tie as tie
 
 returns : tie.Need-returns
 unfolding played

@@ -2,8 +2,8 @@
 use native.Mathlib.Omega.{arith}
 use mathlib.Core.Path.{sym, _∙_}
 use borrow.Author.Needs.{needs}
-use Rattle.playing.proofs.play_step.Statement.{statement}
-use Rattle.playing.proofs.play_step.Tie as tie
+use Rattle.step_playing.proofs.play_step.Statement.{statement}
+use Rattle.step_playing.proofs.play_step.Tie as tie
 
 play-unopened-requires : tie.Need-play-unopened-requires
 play-unopened-requires c κs = sym (c .before .before .before .before .before .before .before .before .before .count-at .ensures) ∙ c .before .before .before .before .before .before .before .before .if1 .taken

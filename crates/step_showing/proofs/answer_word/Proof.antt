@@ -1,7 +1,7 @@
 -- A refusal keeps its number.
 use borrow.Author.Needs.{needs}
-use Rattle.playing.proofs.answer_word.Statement.{statement}
-use Rattle.playing.proofs.answer_word.Tie as tie
+use Rattle.step_showing.proofs.answer_word.Statement.{statement}
+use Rattle.step_showing.proofs.answer_word.Tie as tie
 
 returns-2 : tie.Need-returns-2
 returns-2 c = rw (c .before .answer .given .1)

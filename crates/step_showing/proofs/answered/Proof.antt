@@ -1,7 +1,7 @@
 -- The word is the answer's, and nothing stands beside it.
 use borrow.Author.Needs.{needs}
-use Rattle.playing.proofs.answered.Statement.{statement}
-use Rattle.playing.proofs.answered.Tie as tie
+use Rattle.step_showing.proofs.answered.Statement.{statement}
+use Rattle.step_showing.proofs.answered.Tie as tie
 
 returns : tie.Need-returns
 returns c = λ t. rw (c .plain .ensures, c .before .answer-word .ensures)

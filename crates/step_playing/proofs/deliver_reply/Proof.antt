@@ -1,8 +1,8 @@
 -- What is shown is the answer of the public step, with the mask as it was.
 use Rattle.playing.specs.PlayedLaws.{arrived-played}
 use borrow.Author.Needs.{needs}
-use Rattle.playing.proofs.deliver_reply.Statement.{statement}
-use Rattle.playing.proofs.deliver_reply.Tie as tie
+use Rattle.step_playing.proofs.deliver_reply.Statement.{statement}
+use Rattle.step_playing.proofs.deliver_reply.Tie as tie
 
 returns : tie.Need-returns
 returns c = arrived-played (c .arrived .ensures _) (c .before .before .before .before .before .before .before .before .before .before .before .before .before .before .before .before .before .mask-of .ensures) (c .before .before .before .before .before .before .before .before .before .before .before .deliver-reply-sound .ensures)

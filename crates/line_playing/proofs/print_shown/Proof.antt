@@ -2,8 +2,8 @@
 use Rattle.printing.specs.PlainLaws.{answer-plain}
 use borrow.Author.Needs.{needs}
 use Rattle.ranges.specs.Tests.{at-most, fails}
-use Rattle.playing.proofs.print_shown.Statement.{statement}
-use Rattle.playing.proofs.print_shown.Tie as tie
+use Rattle.line_playing.proofs.print_shown.Statement.{statement}
+use Rattle.line_playing.proofs.print_shown.Tie as tie
 
 returns : tie.Need-returns
 returns c =

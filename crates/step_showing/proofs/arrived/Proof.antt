@@ -1,8 +1,8 @@
 -- The word is the answer's, and its setpoints stand beside it.
 use Rattle.playing.specs.PlayedLaws.{word-arrived}
 use borrow.Author.Needs.{needs}
-use Rattle.playing.proofs.arrived.Statement.{statement}
-use Rattle.playing.proofs.arrived.Tie as tie
+use Rattle.step_showing.proofs.arrived.Statement.{statement}
+use Rattle.step_showing.proofs.arrived.Tie as tie
 
 returns : tie.Need-returns
 returns c =

@@ -1,7 +1,7 @@
 -- Each answer keeps its tag or its number.
 use borrow.Author.Needs.{needs}
-use Rattle.playing.proofs.arrival_word.Statement.{statement}
-use Rattle.playing.proofs.arrival_word.Tie as tie
+use Rattle.step_showing.proofs.arrival_word.Statement.{statement}
+use Rattle.step_showing.proofs.arrival_word.Tie as tie
 
 returns-3 : tie.Need-returns-3
 returns-3 c = rw (c .before .arrival .given .1)

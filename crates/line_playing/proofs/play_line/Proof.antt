@@ -1,9 +1,9 @@
 -- What is printed is what the line shows.
 use Rattle.tables.specs.Tables.{tablesOf}
 use Rattle.playing.specs.PlayedLaws.{line-printed}
 use borrow.Author.Needs.{needs}
-use Rattle.playing.proofs.play_line.Statement.{statement}
-use Rattle.playing.proofs.play_line.Tie as tie
+use Rattle.line_playing.proofs.play_line.Statement.{statement}
+use Rattle.line_playing.proofs.play_line.Tie as tie
 
 print-shown-requires : tie.Need-print-shown-requires
 print-shown-requires c κs =

@@ -1,10 +1,10 @@
 -- Before an opening each readable step but an opening is refused by 2.
 use Rattle.playing.specs.Played.{played}
 use Rattle.playing.specs.PlayedLaws.{left-played}
 use Rattle.playing.specs.PlayableLaws.{begin-write-early, begin-read-early, request-early, reply-early, lose-early, resend-early}
 use borrow.Author.Needs.{needs}
-use Rattle.playing.proofs.play_unopened.Statement.{statement}
-use Rattle.playing.proofs.play_unopened.Tie as tie
+use Rattle.step_showing.proofs.play_unopened.Statement.{statement}
+use Rattle.step_showing.proofs.play_unopened.Tie as tie
 
 returns : tie.Need-returns
 unfolding played

@@ -1,8 +1,8 @@
 -- Where the row is not there it is 0, else the row's word.
 use Rattle.playing.specs.PlayedLaws.{mask-none, mask-held}
 use borrow.Author.Needs.{needs}
-use Rattle.playing.proofs.mask_of.Statement.{statement}
-use Rattle.playing.proofs.mask_of.Tie as tie
+use Rattle.step_showing.proofs.mask_of.Statement.{statement}
+use Rattle.step_showing.proofs.mask_of.Tie as tie
 
 returns : tie.Need-returns
 returns c = let a = c .before .before .args in mask-none (a .clients .now) (a .client) (c .if1 .taken)
