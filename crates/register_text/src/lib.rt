@@ -72,7 +72,7 @@ pub fn print_register(
     ensures { λ r. ⌜ Printed (now (out .entry)) at (registerText (tablesOf (now (counts .entry)) (now (clients .entry)) (now (links .entry)) (now (keys .entry)) (now (values .entry)) (now (log .entry)) (now (writes .entry)) (now (reads .entry)))) r (now (out .exit)) × (r ≤ at + registerMost) ⌝ }
 {
     let mut list = [0u32; LIST];
-    match listing::list_register_sound(
+    match register_listing::list_register_sound(
         counts,
         clients,
         links,

@@ -89,7 +89,7 @@ pub extern "C" fn wire_list_register(
         (now (log .entry)) (now (writes .entry)) (now (reads .entry)))
         (now (list .entry))) ⌝ }
 {
-    let listed = listing::list_register(
+    let listed = register_listing::list_register(
         counts,
         clients,
         links,
