@@ -46,7 +46,7 @@ fn list_accepted(
     let mut count = 0;
     let mut number: u32 = 0;
     while number < total {
-        let passes = workload::accepts(counts, clients, links, keys, log, number);
+        let passes = acceptable_steps::accepts(counts, clients, links, keys, log, number);
         count = note(numbers, count, number, passes);
         number += 1;
     }
@@ -71,9 +71,9 @@ fn pick(
     if count == 0 {
         return Next::End;
     }
-    let behind = workload::advance(seed);
-    let index = workload::index_by(behind, count as u32) as usize;
-    workload::given(counts, clients, behind, numbers[index])
+    let behind = numbered_steps::advance(seed);
+    let index = numbered_steps::index_by(behind, count as u32) as usize;
+    numbered_steps::given(counts, clients, behind, numbers[index])
 }
 
 // The next step of a load, and the seed behind it, on tables known to be sound.

@@ -110,7 +110,7 @@ fn load_numbers(seed: u32, load: Load) -> LoadEnd
 pub extern "C" fn load_advance(seed: u32) -> u32
     ensures { λ r. ⌜ r ≡ advance seed ⌝ }
 {
-    workload::advance(seed)
+    numbered_steps::advance(seed)
 }
 
 // The next step of a load, and the seed behind it.

@@ -1,7 +1,7 @@
--- `workload::given` meets its contract: the step of the number, beside the seed.
+-- `numbered_steps::given` meets its contract: the step of the number, beside the seed.
 use borrow.Author.Needs.{needs}
-use Rattle.workload.proofs.given.Statement.{statement}
-use Rattle.workload.proofs.given.Tie as tie
+use Rattle.numbered_steps.proofs.given.Statement.{statement}
+use Rattle.numbered_steps.proofs.given.Tie as tie
 
 returns : tie.Need-returns
 returns c = λ links keys log. rw (c .numbered .ensures links keys log)

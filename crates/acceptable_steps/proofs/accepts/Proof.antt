@@ -1,9 +1,9 @@
--- `workload::accepts` meets its contract: by its number a step is one of four kinds, and each has its own test.
+-- `acceptable_steps::accepts` meets its contract: by its number a step is one of four kinds, and each has its own test.
 use Rattle.workload.specs.Cases.{at-write, at-read, at-request, at-reply}
 use Rattle.workload.specs.Accepts.{seen}
 use borrow.Author.Needs.{needs}
-use Rattle.workload.proofs.accepts.Statement.{statement}
-use Rattle.workload.proofs.accepts.Tie as tie
+use Rattle.acceptable_steps.proofs.accepts.Statement.{statement}
+use Rattle.acceptable_steps.proofs.accepts.Tie as tie
 
 returns : tie.Need-returns
 returns c =

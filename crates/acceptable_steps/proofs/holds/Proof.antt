@@ -1,10 +1,10 @@
--- `workload::holds` meets its contract: the first version that bears the key is among those held.
+-- `acceptable_steps::holds` meets its contract: the first version that bears the key is among those held.
 use mathlib.Core.Path.{_≡_}
 use borrow.Author.Needs.{needs}
-use Rattle.workload.proofs.holds.Statement.{statement}
-use Rattle.workload.proofs.holds.Tie as tie
-use Rattle.workload.proofs.holds.Reads as reads
-use Rattle.workload.proofs.holds.Lts as lts
+use Rattle.acceptable_steps.proofs.holds.Statement.{statement}
+use Rattle.acceptable_steps.proofs.holds.Tie as tie
+use Rattle.acceptable_steps.proofs.holds.Reads as reads
+use Rattle.acceptable_steps.proofs.holds.Lts as lts
 use Rattle.server.proofs.find.Reads as find-reads
 use Rattle.tables.proofs.counts.count_at.Reads as count-at-reads
 

@@ -1,10 +1,10 @@
--- `workload::numbered` meets its contract: by its number a step is one of four kinds.
+-- `numbered_steps::numbered` meets its contract: by its number a step is one of four kinds.
 use Rattle.workload.specs.Cases.{step-write, step-read, step-request, step-reply}
 use Rattle.workload.specs.Accepts.{seen}
 use native.Mathlib.Omega.{arith}
 use borrow.Author.Needs.{needs}
-use Rattle.workload.proofs.numbered.Statement.{statement}
-use Rattle.workload.proofs.numbered.Tie as tie
+use Rattle.numbered_steps.proofs.numbered.Statement.{statement}
+use Rattle.numbered_steps.proofs.numbered.Tie as tie
 
 add-t13 : tie.Need-add-t13
 add-t13 c =

@@ -1,9 +1,9 @@
--- `workload::index_by` meets its contract: the product fits 32 bits, and what is scaled down to a count stays below it.
+-- `numbered_steps::index_by` meets its contract: the product fits 32 bits, and what is scaled down to a count stays below it.
 use Rattle.workload.specs.ReadyLaws.{index-fits, index-below}
 use native.Mathlib.Omega.{arith}
 use borrow.Author.Needs.{needs}
-use Rattle.workload.proofs.index_by.Statement.{statement}
-use Rattle.workload.proofs.index_by.Tie as tie
+use Rattle.numbered_steps.proofs.index_by.Statement.{statement}
+use Rattle.numbered_steps.proofs.index_by.Tie as tie
 
 mul-result : tie.Need-mul-result
 mul-result c =

@@ -1,10 +1,10 @@
--- `workload::accepts_reply` meets its contract: by the content of the link and the fault of a delivery.
+-- `acceptable_steps::accepts_reply` meets its contract: by the content of the link and the fault of a delivery.
 use mathlib.Core.List.{[]}
 use Rattle.workload.specs.Accepts.{seen}
 use Rattle.workload.specs.Cases.{reply-none, reply-asked, reply-lost, reply-there}
 use borrow.Author.Needs.{needs}
-use Rattle.workload.proofs.accepts_reply.Statement.{statement}
-use Rattle.workload.proofs.accepts_reply.Tie as tie
+use Rattle.acceptable_steps.proofs.accepts_reply.Statement.{statement}
+use Rattle.acceptable_steps.proofs.accepts_reply.Tie as tie
 
 returns : tie.Need-returns
 returns c =

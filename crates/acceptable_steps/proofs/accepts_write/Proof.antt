@@ -1,11 +1,11 @@
--- `workload::accepts_write` meets its contract: the fault of a WRITE to all servers, 0 where there is none.
+-- `acceptable_steps::accepts_write` meets its contract: the fault of a WRITE to all servers, 0 where there is none.
 use Rattle.tables.specs.Tables.{tablesOf}
 use mathlib.Core.List.{[]}
 use Rattle.workload.specs.Accepts.{seen}
 use Rattle.workload.specs.Cases.{by-write}
 use borrow.Author.Needs.{needs}
-use Rattle.workload.proofs.accepts_write.Statement.{statement}
-use Rattle.workload.proofs.accepts_write.Tie as tie
+use Rattle.acceptable_steps.proofs.accepts_write.Statement.{statement}
+use Rattle.acceptable_steps.proofs.accepts_write.Tie as tie
 
 returns : tie.Need-returns
 returns c =

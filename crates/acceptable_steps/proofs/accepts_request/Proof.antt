@@ -1,12 +1,12 @@
--- `workload::accepts_request` meets its contract: by the content of the link, the fault of a delivery, the state of its client.
+-- `acceptable_steps::accepts_request` meets its contract: by the content of the link, the fault of a delivery, the state of its client.
 use Rattle.workload.specs.Cases.{request-none, request-replied, request-lost, request-refused, request-answered}
 use Rattle.workload.specs.Accepts.{seen}
 use Rattle.tables.specs.declared.links.Link.{Link}
 use mathlib.Core.List.{[]}
 use mathlib.Core.Path.{sym, _∙_, ap}
 use borrow.Author.Needs.{needs}
-use Rattle.workload.proofs.accepts_request.Statement.{statement}
-use Rattle.workload.proofs.accepts_request.Tie as tie
+use Rattle.acceptable_steps.proofs.accepts_request.Statement.{statement}
+use Rattle.acceptable_steps.proofs.accepts_request.Tie as tie
 
 returns : tie.Need-returns
 returns c =

@@ -1,10 +1,10 @@
--- `workload::accepts_read` meets its contract: the fault of a READ of all servers, 0 where there is none.
+-- `acceptable_steps::accepts_read` meets its contract: the fault of a READ of all servers, 0 where there is none.
 use mathlib.Core.List.{[]}
 use Rattle.workload.specs.Accepts.{seen}
 use Rattle.workload.specs.Cases.{by-read}
 use borrow.Author.Needs.{needs}
-use Rattle.workload.proofs.accepts_read.Statement.{statement}
-use Rattle.workload.proofs.accepts_read.Tie as tie
+use Rattle.acceptable_steps.proofs.accepts_read.Statement.{statement}
+use Rattle.acceptable_steps.proofs.accepts_read.Tie as tie
 
 returns : tie.Need-returns
 returns c =

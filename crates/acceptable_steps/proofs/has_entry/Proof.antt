@@ -1,7 +1,7 @@
--- `workload::has_entry` meets its contract: the first entry that bears the key is among those entered.
+-- `acceptable_steps::has_entry` meets its contract: the first entry that bears the key is among those entered.
 use borrow.Author.Needs.{needs}
-use Rattle.workload.proofs.has_entry.Statement.{statement}
-use Rattle.workload.proofs.has_entry.Tie as tie
+use Rattle.acceptable_steps.proofs.has_entry.Statement.{statement}
+use Rattle.acceptable_steps.proofs.has_entry.Tie as tie
 
 returns : tie.Need-returns
 returns c = rw (c .find .ensures, c .before .count-at .ensures)

@@ -1,9 +1,9 @@
--- `workload::answers` meets its contract: each state that asks is a case law of `answersIn`; a set and an enter have two, by the room.
+-- `acceptable_steps::answers` meets its contract: each state that asks is a case law of `answersIn`; a set and an enter have two, by the room.
 use native.Mathlib.Omega.{arith}
 use Rattle.workload.specs.Cases.{in-writing, in-writing-full, in-entering, in-entering-full, in-keys, in-setpoints, in-all}
 use borrow.Author.Needs.{needs}
-use Rattle.workload.proofs.answers.Statement.{statement}
-use Rattle.workload.proofs.answers.Tie as tie
+use Rattle.acceptable_steps.proofs.answers.Statement.{statement}
+use Rattle.acceptable_steps.proofs.answers.Tie as tie
 
 add-count-at : tie.Need-add-count-at
 add-count-at c = omega (arith, c .before .before .before .before .pre .set (c .if1 .taken) .server)
