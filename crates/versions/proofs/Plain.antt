@@ -28,17 +28,17 @@ use denote.Triple.Statement.{Contract}
 use Rattle.keys.specs.declared.Key.{Key}
 use Rattle.keys.proofs.Key as K
 use Rattle.keys.proofs.Key.Laws as K′
-use Rattle.versions.specs.declared.Version.{Version}
-use Rattle.versions.specs.declared.Reading.{Reading}
-use Rattle.versions.specs.declared.Trial.{Trial}
-use Rattle.versions.specs.Table.{readable, appendNumber, heldAfter, bears, foundAt, notHeld, trialMade}
+use Rattle.version_records.specs.declared.Version.{Version}
+use Rattle.version_records.specs.declared.Reading.{Reading}
+use Rattle.version_records.specs.declared.Trial.{Trial}
+use Rattle.version_records.specs.Table.{readable, appendNumber, heldAfter, bears, foundAt, notHeld, trialMade}
 use Rattle.versions.proofs.Steps.{Answers, has}
-use Rattle.versions.proofs.Version as T
-use Rattle.versions.proofs.Version.Laws as T′
-use Rattle.versions.proofs.Reading as R
-use Rattle.versions.proofs.Reading.Laws as R′
-use Rattle.versions.proofs.Trial as L
-use Rattle.versions.proofs.Trial.Laws as L′
+use Rattle.version_records.proofs.Version as T
+use Rattle.version_records.proofs.Version.Laws as T′
+use Rattle.version_records.proofs.Reading as R
+use Rattle.version_records.proofs.Reading.Laws as R′
+use Rattle.version_records.proofs.Trial as L
+use Rattle.version_records.proofs.Trial.Laws as L′
 use Rattle.versions.proofs.readable_of as readable-of
 use Rattle.versions.proofs.append_number as append-number
 use Rattle.versions.proofs.held_after as held-after

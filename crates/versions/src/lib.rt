@@ -4,23 +4,12 @@
 // decided to functions on plain values.
 ghost use mathlib.Core.Path.{_≡_};
 ghost use lib.ListN.{length};
-ghost use Rattle.versions.specs.Table.{lesser, readable, appendNumber, appendTable, bears, firstBearing, foundAt, notHeld, readingOf, heldAfter, trialMade, trialOf};
+ghost use Rattle.version_records.specs.Table.{lesser, readable, appendNumber, appendTable, bears, firstBearing, foundAt, notHeld, readingOf, heldAfter, trialMade, trialOf};
 use keys::Key;
 use tables::versions::PLACES;
-
-// A version: the key of the WRITE that it came with, its badge, and its setpoint.
-pub struct Version {
-    pub key: Key,
-    pub badge: u16,
-    pub setpoint: u32,
-}
-
-// The setpoint of a key and the badge that came with it, with number 0. Number 8 where no version held bears the key.
-pub struct Reading {
-    pub number: u8,
-    pub badge: u16,
-    pub setpoint: u32,
-}
+use version_records::Reading;
+use version_records::Trial;
+use version_records::Version;
 
 // Appends a version behind those held, and answers 0. Where the lent table has fewer than 256 places it answers 2, then where 256 are held 8,
 // and nothing changes. Where a version held bears the key already, as when a request was sent again, none is appended: `find` tells that
@@ -138,14 +127,6 @@ fn reading_missing() -> Reading
         badge: 0,
         setpoint: 0,
     }
-}
-
-// What a trial found: what the append answered, how many can be read then, where the key stands, and what is read of it.
-pub struct Trial {
-    pub number: u8,
-    pub readable: usize,
-    pub place: usize,
-    pub reading: Reading,
 }
 
 fn trial_of(number: u8, readable: usize, place: usize, reading: Reading) -> Trial

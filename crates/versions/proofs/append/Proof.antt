@@ -42,13 +42,13 @@ use denote.Triple.Statement.{Triple}
 use denote.Triple.Table.{entered, cited}
 use denote.Triple.Walked.{says, Stays, stay-slice, stay-none, walkOf, goes-slice, goes-none, Walks, ends-at, walked, walk-meets}
 use denote.Exit.{yes}
-use Rattle.versions.specs.declared.Version.{Version}
-use Rattle.versions.specs.Table.{appendNumber, appendTable}
-use Rattle.versions.specs.Cases.{done-place, done-table, refused-table}
+use Rattle.version_records.specs.declared.Version.{Version}
+use Rattle.version_records.specs.Table.{appendNumber, appendTable}
+use Rattle.version_records.specs.Cases.{done-place, done-table, refused-table}
 use Rattle.versions.proofs.Steps.{holds, fails, calls-plain, spent, spare}
 use Rattle.versions.proofs.Plain.{vals, versionSize, Number, number-answers, place-fits}
-use Rattle.versions.proofs.Version as T
-use Rattle.versions.proofs.Version.Laws as T′
+use Rattle.version_records.proofs.Version as T
+use Rattle.version_records.proofs.Version.Laws as T′
 use Rattle.versions.proofs.append_number.Symbol as number-def
 use Rattle.versions.proofs.append_number.Symbol.{name as #versions·append-number}
 use Rattle.versions.proofs.append_number.Met as number-thm

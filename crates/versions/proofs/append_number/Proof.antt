@@ -1,5 +1,5 @@
 -- `versions::append_number` meets its contract: too short, done or full, each a case law of `appendNumber`.
-use Rattle.versions.specs.Cases.{number-done, number-short, number-full}
+use Rattle.version_records.specs.Cases.{number-done, number-short, number-full}
 use Rattle.versions.proofs.append_number.Statement.{statement}
 use Rattle.versions.proofs.append_number.Tie as tie
 

@@ -50,13 +50,13 @@ use Rattle.ranges.specs.FirstLaws.{Sought, sought-none, sought-more, sought-fou
 use Rattle.keys.specs.declared.Key.{Key}
 use Rattle.keys.proofs.Key as K
 use Rattle.keys.proofs.Key.Laws as K′
-use Rattle.versions.specs.declared.Version.{Version}
-use Rattle.versions.specs.Table.{noVersion, versionAt, readable, bearsAt, firstBearing}
-use Rattle.versions.specs.Cases.{readable-within}
+use Rattle.version_records.specs.declared.Version.{Version}
+use Rattle.version_records.specs.Table.{noVersion, versionAt, readable, bearsAt, firstBearing}
+use Rattle.version_records.specs.Cases.{readable-within}
 use Rattle.versions.proofs.Steps.{holds, fails, calls-plain, spent, spare}
 use Rattle.versions.proofs.Plain.{vals, slice, versionSize, within, place-fits, Readable, readable-answers, Bears, bears-answers}
-use Rattle.versions.proofs.Version as T
-use Rattle.versions.proofs.Version.Laws as T′
+use Rattle.version_records.proofs.Version as T
+use Rattle.version_records.proofs.Version.Laws as T′
 use Rattle.versions.proofs.readable_of.Symbol as readable-def
 use Rattle.versions.proofs.readable_of.Symbol.{name as #versions·readable-of}
 use Rattle.versions.proofs.readable_of.Met as readable-thm

@@ -33,11 +33,11 @@ use denote.Triple.Statement.{Triple}
 use denote.Triple.Table.{entered, cited}
 use denote.Triple.Walked.{says, Stays, stay-none-slice, stay-none, walkOf, goes-none-slice, goes-none, Walks, ends-at, walked, walk-meets}
 use denote.Exit.{yes}
-use Rattle.versions.specs.declared.Version.{Version}
-use Rattle.versions.specs.Table.{readable}
+use Rattle.version_records.specs.declared.Version.{Version}
+use Rattle.version_records.specs.Table.{readable}
 use Rattle.versions.proofs.Steps.{calls-plain, spent}
 use Rattle.versions.proofs.Plain.{Readable, readable-answers}
-use Rattle.versions.proofs.Version as T
+use Rattle.version_records.proofs.Version as T
 use Rattle.versions.proofs.readable_of.Symbol as readable-def
 use Rattle.versions.proofs.readable_of.Symbol.{name as #versions·readable-of}
 use Rattle.versions.proofs.readable_of.Met as readable-thm

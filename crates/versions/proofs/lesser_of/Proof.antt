@@ -1,5 +1,5 @@
 -- `versions::lesser_of` meets its contract: each way out is a case law of `lesser`.
-use Rattle.versions.specs.Cases.{lesser-one, lesser-other}
+use Rattle.version_records.specs.Cases.{lesser-one, lesser-other}
 use Rattle.versions.proofs.lesser_of.Statement.{statement}
 use Rattle.versions.proofs.lesser_of.Tie as tie
 

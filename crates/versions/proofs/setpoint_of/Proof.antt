@@ -42,17 +42,17 @@ use denote.Exit.{yes}
 use Rattle.keys.specs.declared.Key.{Key}
 use Rattle.keys.proofs.Key as K
 use Rattle.keys.proofs.Key.Laws as K′
-use Rattle.versions.specs.declared.Version.{Version}
-use Rattle.versions.specs.declared.Reading.{Reading}
-use Rattle.versions.specs.Table.{noVersion, versionAt, readable, firstBearing, foundAt, notHeld, readingOf}
-use Rattle.versions.specs.Cases.{readable-within, reading-found, reading-missing}
+use Rattle.version_records.specs.declared.Version.{Version}
+use Rattle.version_records.specs.declared.Reading.{Reading}
+use Rattle.version_records.specs.Table.{noVersion, versionAt, readable, firstBearing, foundAt, notHeld, readingOf}
+use Rattle.version_records.specs.Cases.{readable-within, reading-found, reading-missing}
 use Rattle.versions.proofs.Steps.{holds, fails, calls-lent, calls-plain, spent, spare}
 use Rattle.versions.proofs.Plain.{vals, slice, versionSize, within, place-fits, Readable, readable-answers, Found, found-answers, Missing, missing-answers}
 use Rattle.versions.proofs.Shared.{Find, find-answers}
-use Rattle.versions.proofs.Version as T
-use Rattle.versions.proofs.Version.Laws as T′
-use Rattle.versions.proofs.Reading as R
-use Rattle.versions.proofs.Reading.Laws as R′
+use Rattle.version_records.proofs.Version as T
+use Rattle.version_records.proofs.Version.Laws as T′
+use Rattle.version_records.proofs.Reading as R
+use Rattle.version_records.proofs.Reading.Laws as R′
 use Rattle.versions.proofs.find.Symbol as find-def
 use Rattle.versions.proofs.find.Symbol.{name as #versions·find}
 use Rattle.versions.proofs.find.Met as find-thm

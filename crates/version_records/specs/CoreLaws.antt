@@ -20,10 +20,11 @@ use Rattle.tables.specs.Layout.{serverPlaces, heldField, valueWidth, valueRow, 
 use Rattle.tables.specs.Values.{badge-same, setpoint-same, value-other}
 use Rattle.server.specs.Held as held
 use Rattle.server.specs.Held.{Room, Appended, appended, heldBy}
-use Rattle.versions.specs.declared.Version.{Version}
-use Rattle.versions.specs.Table.{noVersion, versionAt, lesser, appendNumber, appendTable, heldAfter, readable, bearsAt, firstBearing, readingOf}
-use Rattle.versions.specs.Cases.{lesser-self, lesser-other}
-use Rattle.versions.specs.Core.{SameTable, versionOf, coreReading}
+use Rattle.version_records.specs.declared.Version.{Version}
+use Rattle.version_records.specs.Table.{noVersion, versionAt, lesser, appendNumber, appendTable, heldAfter, readable, bearsAt}
+use Rattle.version_records.specs.Table.{firstBearing, readingOf}
+use Rattle.version_records.specs.Cases.{lesser-self, lesser-other}
+use Rattle.version_records.specs.Core.{SameTable, versionOf, coreReading}
 
 -- two keys are the same where their words are
 pub same-word : (k l : Key) → FitsByte k → FitsByte l → sameKey k l ≡ eqb (keyWord k) (keyWord l)

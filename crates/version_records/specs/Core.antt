@@ -10,9 +10,9 @@ use Rattle.keys.specs.declared.Key.{Key}
 use Rattle.keys.specs.Keys.{keyWord, FitsByte}
 use Rattle.tables.specs.Layout.{serverPlaces, versionWord, versionBadge, versionSetpoint}
 use Rattle.server.specs.Held as held
-use Rattle.versions.specs.declared.Version.{Version}
-use Rattle.versions.specs.declared.Reading.{Reading}
-use Rattle.versions.specs.Table.{versionAt, notHeld}
+use Rattle.version_records.specs.declared.Version.{Version}
+use Rattle.version_records.specs.declared.Reading.{Reading}
+use Rattle.version_records.specs.Table.{versionAt, notHeld}
 
 -- The 256 places of server i hold, in the two slices, the words of the first 256 records of the table: the key as one word, the badge and
 -- the setpoint. A key's count and client fit a byte each, as they do in every table that the code is lent; so no two keys have one word.

@@ -10,8 +10,9 @@ use borrow.Author.Tests.{lt-ltb, le-ltb, le-leb, lt-leb, eq-eqb, ne-eqb, ltb-tru
 use Rattle.ranges.specs.Tests.{by-test, both-left, both-right}
 use Rattle.keys.specs.declared.Key.{Key}
 use Rattle.tables.specs.Layout.{serverPlaces}
-use Rattle.versions.specs.declared.Version.{Version}
-use Rattle.versions.specs.Table.{versionAt, roomFor, appendNumber, appendTable, heldAfter, lesser, readable, firstBearing, foundAt, notHeld, readingOf, trialMade, trialIn, trialOf}
+use Rattle.version_records.specs.declared.Version.{Version}
+use Rattle.version_records.specs.Table.{versionAt, roomFor, appendNumber, appendTable, heldAfter, lesser, readable, firstBearing}
+use Rattle.version_records.specs.Table.{foundAt, notHeld, readingOf, trialMade, trialIn, trialOf}
 
 module _ (m n : ℕ) where
   pub lesser-one : m < n → m ≡ lesser m n

@@ -9,9 +9,9 @@ use Rattle.ranges.specs.First.{firstBelow}
 use Rattle.keys.specs.declared.Key.{Key}
 use Rattle.keys.specs.Keys.{opening, sameKey}
 use Rattle.tables.specs.Layout.{serverPlaces}
-use Rattle.versions.specs.declared.Version.{Version}
-use Rattle.versions.specs.declared.Reading.{Reading}
-use Rattle.versions.specs.declared.Trial.{Trial}
+use Rattle.version_records.specs.declared.Version.{Version}
+use Rattle.version_records.specs.declared.Reading.{Reading}
+use Rattle.version_records.specs.declared.Trial.{Trial}
 
 -- what `getD` gives past the end of a table: only places that can be read are looked at
 abbrev pub noVersion : Version
