@@ -39,12 +39,12 @@ use Rattle.version_records.proofs.Reading as R
 use Rattle.version_records.proofs.Reading.Laws as R′
 use Rattle.version_records.proofs.Trial as L
 use Rattle.version_records.proofs.Trial.Laws as L′
-use Rattle.versions.proofs.readable_of as readable-of
-use Rattle.versions.proofs.append_number as append-number
+use Rattle.version_decisions.proofs.readable_of as readable-of
+use Rattle.version_decisions.proofs.append_number as append-number
 use Rattle.versions.proofs.held_after as held-after
-use Rattle.versions.proofs.bears_key as bears-key
-use Rattle.versions.proofs.reading_found as reading-found
-use Rattle.versions.proofs.reading_missing as reading-missing
+use Rattle.version_decisions.proofs.bears_key as bears-key
+use Rattle.version_decisions.proofs.reading_found as reading-found
+use Rattle.version_decisions.proofs.reading_missing as reading-missing
 use Rattle.versions.proofs.trial_of as trial-of
 
 -- the machine's values of a version, and the type of a slice of versions

@@ -1,7 +1,7 @@
--- `versions::lesser_of` meets its contract: each way out is a case law of `lesser`.
+-- `version_decisions::lesser_of` meets its contract: each way out is a case law of `lesser`.
 use Rattle.version_records.specs.Cases.{lesser-one, lesser-other}
-use Rattle.versions.proofs.lesser_of.Statement.{statement}
-use Rattle.versions.proofs.lesser_of.Tie as tie
+use Rattle.version_decisions.proofs.lesser_of.Statement.{statement}
+use Rattle.version_decisions.proofs.lesser_of.Tie as tie
 
 returns : tie.Need-returns
 returns c = lesser-one (c .before .args .one) (c .before .args .other) (c .if1 .taken)

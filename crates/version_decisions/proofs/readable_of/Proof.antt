@@ -1,7 +1,7 @@
--- `versions::readable_of` meets its contract: the lesser of two, twice.
+-- `version_decisions::readable_of` meets its contract: the lesser of two, twice.
 use borrow.Author.Needs.{needs}
-use Rattle.versions.proofs.readable_of.Statement.{statement}
-use Rattle.versions.proofs.readable_of.Tie as tie
+use Rattle.version_decisions.proofs.readable_of.Statement.{statement}
+use Rattle.version_decisions.proofs.readable_of.Tie as tie
 
 returns : tie.Need-returns
 returns c = rw (c .lesser-of2 .ensures, c .before .lesser-of .ensures)

@@ -1,7 +1,7 @@
--- `versions::append_number` meets its contract: too short, done or full, each a case law of `appendNumber`.
+-- `version_decisions::append_number` meets its contract: too short, done or full, each a case law of `appendNumber`.
 use Rattle.version_records.specs.Cases.{number-done, number-short, number-full}
-use Rattle.versions.proofs.append_number.Statement.{statement}
-use Rattle.versions.proofs.append_number.Tie as tie
+use Rattle.version_decisions.proofs.append_number.Statement.{statement}
+use Rattle.version_decisions.proofs.append_number.Tie as tie
 
 returns : tie.Need-returns
 returns c = let a = c .before .args in number-short (a .held) (a .places) (c .if1 .taken)
