@@ -1,4 +1,4 @@
--- `begins::send_asks` meets its contract: the loop has sent to the masked servers it has passed.
+-- `sending::send_asks` meets its contract: the loop has sent to the masked servers it has passed.
 use Prim.Native.Nat.{_≤_, _-_}
 use mathlib.Core.Path.{_≡_}
 use native.Mathlib.Omega.{arith}
@@ -8,8 +8,8 @@ use Rattle.ranges.specs.Picked.{picked}
 use Rattle.keys.specs.Masks.{hasServer}
 use Rattle.rules.specs.Begin.{sendAsk, sentAsks}
 use borrow.Author.Needs.{needs}
-use Rattle.begins.proofs.send_asks.Statement.{statement}
-use Rattle.begins.proofs.send_asks.Tie as tie
+use Rattle.sending.proofs.send_asks.Statement.{statement}
+use Rattle.sending.proofs.send_asks.Tie as tie
 
 abbrev Inv-loop : tie.InvT-loop
 Inv-loop links₀ client mask servers server₀ links server = (server ≤ servers) × ((length links ≡ length links₀) × (links ≡ sentAsks client mask server links₀))

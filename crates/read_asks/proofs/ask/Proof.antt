@@ -1,10 +1,10 @@
--- `begins::ask` meets its contract: each method is a case of `askingBy`.
+-- `read_asks::ask` meets its contract: each method is a case of `askingBy`.
 use Rattle.tables.specs.Tables.{tablesOf}
-use Rattle.begins.specs.Cases.{by-b, by-c}
+use Rattle.read_asks.specs.Cases.{by-b, by-c}
 use borrow.Author.Needs.{needs}
-use Rattle.begins.proofs.ask.Statement.{statement}
-use Rattle.begins.proofs.ask.Tie as tie
-use Rattle.begins.proofs.ask.Reads as reads
+use Rattle.read_asks.proofs.ask.Statement.{statement}
+use Rattle.read_asks.proofs.ask.Tie as tie
+use Rattle.read_asks.proofs.ask.Reads as reads
 
 returns : tie.Need-returns
 returns c =

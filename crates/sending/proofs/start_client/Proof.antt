@@ -1,7 +1,7 @@
--- `begins::start_client` meets its contract: three words of the client's row are put.
+-- `sending::start_client` meets its contract: three words of the client's row are put.
 use borrow.Author.Needs.{needs}
-use Rattle.begins.proofs.start_client.Statement.{statement}
-use Rattle.begins.proofs.start_client.Tie as tie
+use Rattle.sending.proofs.start_client.Statement.{statement}
+use Rattle.sending.proofs.start_client.Tie as tie
 
 returns : tie.Need-returns
 returns c = rw (c .before .before .put-client-word3 .ensures, c .before .before .before .before .before .before .put-client-word2 .ensures, c .before .before .before .before .before .before .before .before .before .before .put-client-word .ensures)

@@ -1,8 +1,8 @@
--- `begins::ask_by_c` meets its contract: what its calls left is `askingByC`.
+-- `read_asks::ask_by_c` meets its contract: what its calls left is `askingByC`.
 use borrow.Author.Needs.{needs}
-use Rattle.begins.proofs.ask_by_c.Statement.{statement}
-use Rattle.begins.proofs.ask_by_c.Tie as tie
-use Rattle.begins.proofs.ask_by_c.Reads as reads
+use Rattle.read_asks.proofs.ask_by_c.Statement.{statement}
+use Rattle.read_asks.proofs.ask_by_c.Tie as tie
+use Rattle.read_asks.proofs.ask_by_c.Reads as reads
 
 returns : tie.Need-returns
 returns c =

@@ -1,8 +1,8 @@
--- `begins::send_masked` meets its contract: sent or not, by the mask.
+-- `sending::send_masked` meets its contract: sent or not, by the mask.
 use mathlib.Core.Path.{sym, _∙_}
 use borrow.Author.Needs.{needs}
-use Rattle.begins.proofs.send_masked.Statement.{statement}
-use Rattle.begins.proofs.send_masked.Tie as tie
+use Rattle.sending.proofs.send_masked.Statement.{statement}
+use Rattle.sending.proofs.send_masked.Tie as tie
 
 returns : tie.Need-returns
 returns c =

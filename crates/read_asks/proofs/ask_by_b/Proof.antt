@@ -1,8 +1,8 @@
--- `begins::ask_by_b` meets its contract: what its calls left is `askingByB`.
+-- `read_asks::ask_by_b` meets its contract: what its calls left is `askingByB`.
 use borrow.Author.Needs.{needs}
-use Rattle.begins.proofs.ask_by_b.Statement.{statement}
-use Rattle.begins.proofs.ask_by_b.Tie as tie
-use Rattle.begins.proofs.ask_by_b.Reads as reads
+use Rattle.read_asks.proofs.ask_by_b.Statement.{statement}
+use Rattle.read_asks.proofs.ask_by_b.Tie as tie
+use Rattle.read_asks.proofs.ask_by_b.Reads as reads
 
 returns : tie.Need-returns
 returns c = λ keys values log writes reads. rw (c .before .before .send .ensures, c .before .before .before .before .before .before .start-client .ensures, c .before .before .before .before .before .before .before .count-at .ensures)
