@@ -4,14 +4,13 @@ use mathlib.Core.Path.{_≡_, refl, ap}
 use mathlib.Core.Bool.{Bool, true, false, cond}
 use mathlib.Core.List.{List}
 use lib.ListN.{length}
-use borrow.Author.Tests.{eq-eqb, ne-eqb}
 use Rattle.keys.specs.declared.Key.{Key}
 use Rattle.keys.specs.Keys.{keyOf, keyWord}
 use Rattle.tables.specs.Layout.{writesField, readsField, tagsField, askedField, putClientWord, entryKey}
 use Rattle.tables.specs.Links.{putLink}
 use Rattle.tables.specs.Tables.{Tables, tablesOf, methodOf, serversOf, writesOf, countOf}
 use Rattle.rules.specs.Common.{request, begunCounts, begunRecords}
-use Rattle.rules.specs.Begin.{storedSetpoints, sentSets, startedWriter, begunWrite, Asking, asking, askingByB, askingByC}
+use Rattle.rules.specs.Begin.{storedSetpoints, sentSets, startedWriter, begunWrite, asking}
 use Rattle.rules.specs.Begin.{askingBy}
 use Rattle.rules.specs.Begin.{begunRead}
 
@@ -34,14 +33,6 @@ at-tag true f x e = ap f (e refl)
 at-tag false f x e = refl
 
 module _ (q mask : ℕ) (t : Tables) where
-  -- the methods; m is what was read of the counts, x what was asked
-  module _ {m : ℕ} {x : Asking} (d : m ≡ methodOf t) where
-    pub by-b : m ≡ 2 → x ≡ askingByB q mask t → x ≡ askingBy (methodOf t) q mask t
-    by-b e f = rw (← d, eq-eqb m 2 e) f
-
-    pub by-c : (m ≡ 2 → ⊥) → x ≡ askingByC q mask t → x ≡ askingBy (methodOf t) q mask t
-    by-c e f = rw (← d, ne-eqb m 2 e) f
-
   pub read-begun : {counts clients links reads : List ℕ} → asking clients links ≡ askingBy (methodOf t) q mask t →
       counts ≡ begunCounts readsField (t .counts) → reads ≡ begunRecords readsField (t .counts) q mask 0 (t .reads) →
       tablesOf counts clients links (t .keys) (t .values) (t .log) (t .writes) reads ≡ begunRead q mask t

@@ -1,6 +1,4 @@
--- What C's choice relies on, the cases of it, the table of holders, and the walk up the log.
+-- What C's choice relies on, the values that it takes, and the cases of it.
 pub mod Values
 pub mod Ready
 pub mod Cases
-pub mod Holders
-pub mod Walk

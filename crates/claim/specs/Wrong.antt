@@ -1,6 +1,6 @@
--- That the claim rules wrong stores out, field by field: for each field and each kind of pair of real time a wrong store and a list of
--- steps on which it fails, and all the others hold. `whole` and `complete` say the same, and whatever a machine answers, no WRITE stands
--- before one that had finished when it began (`serial/proofs/Always.antt`).
+-- That the claim rules wrong stores out: the stores and the lists of steps, as few and as short as will do, at which a changed claim or
+-- history is noticed. On each list the named fields of the claim fail, and all the others hold. The crate `computed_runs` has more stores,
+-- so that each field has one.
 use mathlib.Core.Path.{_≡_, refl, ap}
 use mathlib.Core.List.{List, [], _∷_, _++_}
 use Prim.Native.Nat.{ℕ}
@@ -25,136 +25,16 @@ use Rattle.refusals.specs.Refusals.{openRefusal, writeRefusal, readRefusal, del
 use Rattle.refusals.specs.Steps.{open′, beginWrite, beginRead, deliverRequest, deliverReply, lose, resend}
 use Rattle.refusals.specs.Former.{formerlyBegunRead, formerOpenRefusal, formerWriteRefusal, formerReadRefusal, formerOpen}
 use Rattle.refusals.specs.Former.{formerBeginWrite, formerBeginRead}
-use Rattle.claim.specs.Steps.{Step, beginning-write, beginning-read, request, reply, losing, resending, opened, play}
+use Rattle.claim.specs.Steps.{opened, play}
 use Rattle.claim.specs.Former.{playFormerly}
 use Rattle.claim.specs.History.{changed}
 use Rattle.claim.specs.Row.{readsOf, rowTo}
-use Rattle.claim.specs.Fields.{walk, whole, complete, readAfterRead, writeAfterRead, readAfterWrite}
-use Rattle.claim.specs.Fields.{answered, ends, unfinished, tags, whose}
+use Rattle.claim.specs.Fields.{walk, whole, complete, ends, whose}
 use Rattle.claim.specs.Sample.{zeros}
 use Rattle.claim.specs.WrongStores as store
-use Rattle.claim.specs.WrongStores.{first, second}
+use Rattle.claim.specs.WrongStores.{first}
+use Rattle.claim.specs.Lists.{writeOne, readByB, thenReadByB, acknowledged, lostReply, askedAgain}
 use Rattle.claim.specs.Broken.{played, Breaks, Computed, breaks}
-
--- ---- the lists of steps
-
--- a request and its reply at each of some targets, one after another
-abbrev visits : ℕ → List ℕ → List Step
-visits q [] = []
-visits q (i ∷ targets) = request q i ∷ reply q i ∷ visits q targets
-
--- of each method a READ of both servers
-abbrev readByA : ℕ → List Step
-readByA q = beginning-read q 3 ∷ visits q (0 ∷ 1 ∷ [])
-
-abbrev readByB : ℕ → List Step
-readByB q = beginning-read q 3 ∷ visits q (16 ∷ 0 ∷ 1 ∷ [])
-
-abbrev readByC : ℕ → List Step
-readByC q = beginning-read q 3 ∷ visits q (0 ∷ 1 ∷ 16 ∷ [])
-
--- a WRITE of both, and one of server 0; every WRITE here has badge 7
-abbrev writeBoth : ℕ → List Step
-writeBoth q = beginning-write q 3 7 second ∷ visits q (0 ∷ 1 ∷ 16 ∷ [])
-
-abbrev writeOne : ℕ → List Step
-writeOne q = beginning-write q 1 7 second ∷ visits q (0 ∷ 16 ∷ [])
-
--- a WRITE and then a READ, by each method; client 0 reads by A and writes by B and C
-abbrev pub thenReadByA : List Step
-thenReadByA = writeBoth 1 ++ readByA 0
-
-abbrev pub thenReadByB : List Step
-thenReadByB = writeBoth 0 ++ readByB 1
-
-abbrev pub thenReadByC : List Step
-thenReadByC = writeBoth 0 ++ readByC 1
-
--- by C, a WRITE of server 0 and then a READ of both
-abbrev pub thenReadOfBoth : List Step
-thenReadOfBoth = writeOne 0 ++ readByC 1
-
--- by C, a WRITE that has its tag and not its answer; then two READs, one after the other
-abbrev pub twoReads : List Step
-twoReads = beginning-write 0 3 7 second ∷ visits 0 (0 ∷ 1 ∷ []) ++ (request 0 16 ∷ readByC 1 ++ readByC 1)
-
--- by B, a READ of server 1, and then a WRITE of server 0
-abbrev pub thenWrite : List Step
-thenWrite = beginning-read 1 2 ∷ visits 1 (16 ∷ 1 ∷ []) ++ writeOne 0
-
--- by C, a WRITE that the coordinator has before server 1, and then a READ
-abbrev pub hasty : List Step
-hasty = beginning-write 0 3 7 second ∷ visits 0 (0 ∷ 16 ∷ []) ++ readByC 1
-
--- by B, a READ that has its keys, and then a setpoint that comes to server 0 before the READ does
-abbrev pub crossing : List Step
-crossing = beginning-read 1 3 ∷ visits 1 (16 ∷ []) ++ (beginning-write 0 3 7 second ∷ request 0 0 ∷ visits 1 (0 ∷ 1 ∷ []))
-
--- a READ that has a reply more than it needs, and one that has not all
-abbrev pub replyMore : List Step
-replyMore = readByA 0 ++ (reply 0 1 ∷ [])
-
-abbrev pub replyLess : List Step
-replyLess = beginning-read 1 3 ∷ visits 1 (16 ∷ 0 ∷ [])
-
--- a WRITE whose request was delivered, and one whose acknowledgements are in
-abbrev pub requestOnly : List Step
-requestOnly = beginning-write 0 1 7 second ∷ request 0 0 ∷ []
-
-abbrev pub acknowledged : ℕ → List Step
-acknowledged q = beginning-write q 1 7 second ∷ visits q (0 ∷ [])
-
--- two WRITEs, the second begun when the first was acknowledged, that come to the coordinator the other way round
-abbrev pub overtaken : List Step
-overtaken = acknowledged 0 ++ (acknowledged 1 ++ (request 1 16 ∷ request 0 16 ∷ []))
-
--- a begin of a client that is at a WRITE, and of one that is at a READ
-abbrev pub writeTwice : List Step
-writeTwice = beginning-write 1 1 7 second ∷ beginning-write 1 2 7 second ∷ []
-
-abbrev pub readTwice : List Step
-readTwice = beginning-read 1 1 ∷ beginning-read 1 2 ∷ []
-
--- a reply to a client that is at nothing
-abbrev pub replyOnly : List Step
-replyOnly = reply 1 0 ∷ []
-
--- the request at each of some targets is lost and sent again, and so is its reply, once each; then both come
-abbrev lossyVisits : ℕ → List ℕ → List Step
-lossyVisits q [] = []
-lossyVisits q (i ∷ targets) =
-    losing q i ∷ resending q i ∷ request q i ∷ losing q i ∷ resending q i ∷ request q i ∷ reply q i ∷ lossyVisits q targets
-
--- a WRITE of server 0 and then a READ of both, by each method
-abbrev lossyWrite : ℕ → List Step
-lossyWrite q = beginning-write q 1 7 second ∷ lossyVisits q (0 ∷ 16 ∷ [])
-
-abbrev pub lossyByA : List Step
-lossyByA = lossyWrite 1 ++ (beginning-read 0 3 ∷ lossyVisits 0 (0 ∷ 1 ∷ []))
-
-abbrev pub lossyByB : List Step
-lossyByB = lossyWrite 0 ++ (beginning-read 1 3 ∷ lossyVisits 1 (16 ∷ 0 ∷ 1 ∷ []))
-
-abbrev pub lossyByC : List Step
-lossyByC = lossyWrite 0 ++ (beginning-read 1 3 ∷ lossyVisits 1 (0 ∷ 1 ∷ 16 ∷ []))
-
--- by C, a WRITE whose request at server 1 is lost and not sent again, and then a READ
-abbrev pub lostRequest : List Step
-lostRequest = beginning-write 0 3 7 second ∷ losing 0 1 ∷ visits 0 (0 ∷ 16 ∷ []) ++ readByC 1
-
--- a READ that loses a reply and does not ask again, and one that loses a request and asks again, with a reply more than it needs
-abbrev pub lostReply : List Step
-lostReply = beginning-read 0 3 ∷ request 0 0 ∷ losing 0 0 ∷ reply 0 0 ∷ visits 0 (1 ∷ [])
-
-abbrev pub askedAgain : List Step
-askedAgain = beginning-read 0 1 ∷ losing 0 0 ∷ resending 0 0 ∷ visits 0 (0 ∷ []) ++ (reply 0 0 ∷ [])
-
--- a WRITE that has its tag, whose reply is lost, and that asks for it again; and a whole WRITE of client 1 in between
-abbrev pub enteredAgain : List Step
-enteredAgain = acknowledged 0 ++ (request 0 16 ∷ losing 0 16 ∷ resending 0 16 ∷ visits 0 (16 ∷ []))
-
-abbrev pub enteredBetween : List Step
-enteredBetween = acknowledged 0 ++ (request 0 16 ∷ losing 0 16 ∷ resending 0 16 ∷ writeOne 1 ++ visits 0 (16 ∷ []))
 
 -- ---- what the tests of every field say of each, computed
 
@@ -162,44 +42,12 @@ record Tested : Type 0 where
   byA : formerOpen 1 2 2 first zeros .answer ≡ Ok
   byB : open′ 2 2 2 first zeros .answer ≡ Ok
   byC : open′ 3 2 2 first zeros .answer ≡ Ok
-  right-by-A : Computed [] playFormerly 1 thenReadByA
-  right-by-B : Computed [] play 2 thenReadByB
-  right-by-C : Computed [] play 3 thenReadByC
   right-of-one : Computed [] play 2 (writeOne 0 ++ readByB 1)
-  right-of-two : Computed [] play 3 twoReads
-  right-then-write : Computed [] play 2 thenWrite
-  right-lossy-by-A : Computed [] playFormerly 1 lossyByA
-  right-lossy-by-B : Computed [] play 2 lossyByB
-  right-lossy-by-C : Computed [] play 3 lossyByC
-  right-between : Computed [] play 3 enteredBetween
-  not-opening-shown : Computed (walk ∷ []) (store.openingShown playFormerly) 1 thenReadByA
   not-opening-at-server-1 : Computed (walk ∷ []) (store.openingAtServer1 play) 2 thenReadByB
-  not-latest : Computed (walk ∷ []) (store.showingLatest play) 2 crossing
-  not-own-tag : Computed (walk ∷ []) (store.ownTag play) 3 thenReadOfBoth
-  not-mixed : Computed (walk ∷ []) (store.mixingBadges play) 2 crossing
   not-beyond : Computed (whole ∷ complete ∷ []) (store.tagTooLarge play) 2 (readByB 1)
-  not-opening-again : Computed (readAfterRead ∷ []) (store.openingAgain play) 3 twoReads
-  not-to-come : Computed (writeAfterRead ∷ []) (store.tagTooLarge play) 2 thenWrite
-  not-opening-always : Computed (readAfterWrite ∷ []) (store.openingAlways play) 2 thenReadByB
-  not-opening-always-by-A : Computed (readAfterWrite ∷ []) (store.openingAlways playFormerly) 1 thenReadByA
-  not-opening-always-by-C : Computed (readAfterWrite ∷ []) (store.openingAlways play) 3 thenReadByC
-  not-hurried : Computed (readAfterWrite ∷ []) (store.hurrying play) 3 hasty
-  not-unanswered : Computed (answered ∷ []) (store.unanswering play) 2 requestOnly
-  not-late : Computed (ends ∷ []) (store.endingLate playFormerly) 1 replyMore
-  not-early : Computed (ends ∷ []) (store.endingEarly play) 2 replyLess
-  not-waiting : Computed (unfinished ∷ []) (store.waitingForEver play) 3 (readByC 1)
-  not-invented : Computed (tags ∷ []) (store.inventing play) 3 (writeBoth 0)
   not-unentered : Computed (whose ∷ []) (store.writtenUnentered play) 3 (acknowledged 0)
-  not-overtaken : Computed (whose ∷ []) (store.writtenUnentered play) 2 overtaken
-  not-written-for-read : Computed (whose ∷ []) (store.writtenForRead playFormerly) 1 (readByA 0)
-  not-writing-twice : Computed (whose ∷ []) (store.beginningAlways playFormerly) 1 writeTwice
-  not-reading-twice : Computed (whose ∷ []) (store.beginningAlways play) 2 readTwice
-  not-waiting-at-nothing : Computed (whose ∷ []) (store.waitingAtNothing play) 3 replyOnly
-  not-arrived : Computed (readAfterWrite ∷ []) (store.lossArrives play) 3 lostRequest
   not-early-by-a-reply : Computed (ends ∷ []) (store.losingNothing playFormerly) 1 lostReply
   not-late-by-a-request : Computed (ends ∷ []) (store.endingLate playFormerly) 1 askedAgain
-  not-entered-twice : Computed (tags ∷ []) (store.enteringTwice play) 3 enteredAgain
-  not-last-tag : Computed (tags ∷ []) (store.answeringLastTag play) 3 enteredBetween
 
 tested : Tested
 unfolding formerlyBegunRead formerOpenRefusal formerWriteRefusal formerReadRefusal formerOpen formerBeginWrite formerBeginRead
@@ -213,167 +61,42 @@ tested = record {
   byA = refl;
   byB = refl;
   byC = refl;
-  right-by-A = refl;
-  right-by-B = refl;
-  right-by-C = refl;
   right-of-one = refl;
-  right-of-two = refl;
-  right-then-write = refl;
-  right-lossy-by-A = refl;
-  right-lossy-by-B = refl;
-  right-lossy-by-C = refl;
-  right-between = refl;
-  not-opening-shown = refl;
   not-opening-at-server-1 = refl;
-  not-latest = refl;
-  not-own-tag = refl;
-  not-mixed = refl;
   not-beyond = refl;
-  not-opening-again = refl;
-  not-to-come = refl;
-  not-opening-always = refl;
-  not-opening-always-by-A = refl;
-  not-opening-always-by-C = refl;
-  not-hurried = refl;
-  not-unanswered = refl;
-  not-late = refl;
-  not-early = refl;
-  not-waiting = refl;
-  not-invented = refl;
   not-unentered = refl;
-  not-overtaken = refl;
-  not-written-for-read = refl;
-  not-writing-twice = refl;
-  not-reading-twice = refl;
-  not-waiting-at-nothing = refl;
-  not-arrived = refl;
   not-early-by-a-reply = refl;
   not-late-by-a-request = refl;
-  not-entered-twice = refl;
-  not-last-tag = refl;
 }
 
 -- each opens as the store does, or by A as it did
-opensA : opened 1 2 2 first (formerOpen 1 2 2 first zeros .answer) ≡ opened 1 2 2 first Ok
+pub opensA : opened 1 2 2 first (formerOpen 1 2 2 first zeros .answer) ≡ opened 1 2 2 first Ok
 opensA = ap (opened 1 2 2 first) (tested .byA)
 
-opensB : opened 2 2 2 first (open′ 2 2 2 first zeros .answer) ≡ opened 2 2 2 first Ok
+pub opensB : opened 2 2 2 first (open′ 2 2 2 first zeros .answer) ≡ opened 2 2 2 first Ok
 opensB = ap (opened 2 2 2 first) (tested .byB)
 
-opensC : opened 3 2 2 first (open′ 3 2 2 first zeros .answer) ≡ opened 3 2 2 first Ok
+pub opensC : opened 3 2 2 first (open′ 3 2 2 first zeros .answer) ≡ opened 3 2 2 first Ok
 opensC = ap (opened 3 2 2 first) (tested .byC)
 
--- ---- the store itself passes every test on such lists
+-- ---- the store itself passes every test on a WRITE of one station and a READ of both
 
-pub passes : Computed [] playFormerly 1 thenReadByA ×
-    Computed [] play 2 thenReadByB ×
-    Computed [] play 3 thenReadByC ×
-    Computed [] play 2 (writeOne 0 ++ readByB 1) ×
-    Computed [] play 3 twoReads ×
-    Computed [] play 2 thenWrite
-passes = (tested .right-by-A, tested .right-by-B, tested .right-by-C, tested .right-of-one, tested .right-of-two, tested .right-then-write)
-
--- and with every request and every reply lost once
-pub passes-lossy : Computed [] playFormerly 1 lossyByA ×
-    Computed [] play 2 lossyByB ×
-    Computed [] play 3 lossyByC ×
-    Computed [] play 3 enteredBetween
-passes-lossy = (tested .right-lossy-by-A, tested .right-lossy-by-B, tested .right-lossy-by-C, tested .right-between)
+pub right-of-one : Computed [] play 2 (writeOne 0 ++ readByB 1)
+right-of-one = tested .right-of-one
 
 -- ---- the wrong stores, by field
-
--- a READ under A shows the opening, at its tag
-pub not-opening-shown : Breaks (walk ∷ []) (store.openingShown playFormerly) 1 thenReadByA
-not-opening-shown = breaks (store.openingShown playFormerly) 1 thenReadByA walk [] opensA (tested .not-opening-shown)
 
 -- a READ shows the opening, at server 1 only
 pub not-opening-at-server-1 : Breaks (walk ∷ []) (store.openingAtServer1 play) 2 thenReadByB
 not-opening-at-server-1 = breaks (store.openingAtServer1 play) 2 thenReadByB walk [] opensB (tested .not-opening-at-server-1)
 
--- a station shows its latest arrival
-pub not-latest : Breaks (walk ∷ []) (store.showingLatest play) 2 crossing
-not-latest = breaks (store.showingLatest play) 2 crossing walk [] opensB (tested .not-latest)
-
--- a READ shows right setpoints with a wrong tag: its own, with a setpoint that the opening put there
-pub not-own-tag : Breaks (walk ∷ []) (store.ownTag play) 3 thenReadOfBoth
-not-own-tag = breaks (store.ownTag play) 3 thenReadOfBoth walk [] opensC (tested .not-own-tag)
-
--- a READ shows right setpoints and tags with the badge of another WRITE
-pub not-mixed : Breaks (walk ∷ []) (store.mixingBadges play) 2 crossing
-not-mixed = breaks (store.mixingBadges play) 2 crossing walk [] opensB (tested .not-mixed)
-
 -- a READ answers a tag beyond the last
 pub not-beyond : Breaks (whole ∷ complete ∷ []) (store.tagTooLarge play) 2 (readByB 1)
 not-beyond = breaks (store.tagTooLarge play) 2 (readByB 1) whole (complete ∷ []) opensB (tested .not-beyond)
 
--- the second of two READs shows the opening, the first did not
-pub not-opening-again : Breaks (readAfterRead ∷ []) (store.openingAgain play) 3 twoReads
-not-opening-again = breaks (store.openingAgain play) 3 twoReads readAfterRead [] opensC (tested .not-opening-again)
-
--- a READ answers the tag of a WRITE that begins when it has ended
-pub not-to-come : Breaks (writeAfterRead ∷ []) (store.tagTooLarge play) 2 thenWrite
-not-to-come = breaks (store.tagTooLarge play) 2 thenWrite writeAfterRead [] opensB (tested .not-to-come)
-
--- a READ always shows the opening at tag 0: by A, B, C
-pub not-opening-always : Breaks (readAfterWrite ∷ []) (store.openingAlways play) 2 thenReadByB
-not-opening-always = breaks (store.openingAlways play) 2 thenReadByB readAfterWrite [] opensB (tested .not-opening-always)
-
-pub not-opening-always-by-A : Breaks (readAfterWrite ∷ []) (store.openingAlways playFormerly) 1 thenReadByA
-not-opening-always-by-A = breaks (store.openingAlways playFormerly) 1 thenReadByA readAfterWrite [] opensA (tested .not-opening-always-by-A)
-
-pub not-opening-always-by-C : Breaks (readAfterWrite ∷ []) (store.openingAlways play) 3 thenReadByC
-not-opening-always-by-C = breaks (store.openingAlways play) 3 thenReadByC readAfterWrite [] opensC (tested .not-opening-always-by-C)
-
--- the head's entry before the last acknowledgement
-pub not-hurried : Breaks (readAfterWrite ∷ []) (store.hurrying play) 3 hasty
-not-hurried = breaks (store.hurrying play) 3 hasty readAfterWrite [] opensC (tested .not-hurried)
-
--- *ok* to a request, and no reply on its link
-pub not-unanswered : Breaks (answered ∷ []) (store.unanswering play) 2 requestOnly
-not-unanswered = breaks (store.unanswering play) 2 requestOnly answered [] opensB (tested .not-unanswered)
-
--- a READ ends a delivery late
-pub not-late : Breaks (ends ∷ []) (store.endingLate playFormerly) 1 replyMore
-not-late = breaks (store.endingLate playFormerly) 1 replyMore ends [] opensA (tested .not-late)
-
--- a READ ends early
-pub not-early : Breaks (ends ∷ []) (store.endingEarly play) 2 replyLess
-not-early = breaks (store.endingEarly play) 2 replyLess ends [] opensB (tested .not-early)
-
--- *wait* for ever
-pub not-waiting : Breaks (unfinished ∷ []) (store.waitingForEver play) 3 (readByC 1)
-not-waiting = breaks (store.waitingForEver play) 3 (readByC 1) unfinished [] opensC (tested .not-waiting)
-
--- an invented tag
-pub not-invented : Breaks (tags ∷ []) (store.inventing play) 3 (writeBoth 0)
-not-invented = breaks (store.inventing play) 3 (writeBoth 0) tags [] opensC (tested .not-invented)
-
 -- *write* before the entry
 pub not-unentered : Breaks (whose ∷ []) (store.writtenUnentered play) 3 (acknowledged 0)
 not-unentered = breaks (store.writtenUnentered play) 3 (acknowledged 0) whose [] opensC (tested .not-unentered)
-
--- and so a WRITE that was told *write* has a tag above that of one which began then: a WRITE after a WRITE in the wrong order
-pub not-overtaken : Breaks (whose ∷ []) (store.writtenUnentered play) 2 overtaken
-not-overtaken = breaks (store.writtenUnentered play) 2 overtaken whose [] opensB (tested .not-overtaken)
-
--- *write* at the end of a READ
-pub not-written-for-read : Breaks (whose ∷ []) (store.writtenForRead playFormerly) 1 (readByA 0)
-not-written-for-read = breaks (store.writtenForRead playFormerly) 1 (readByA 0) whose [] opensA (tested .not-written-for-read)
-
--- a begin is accepted while the client is busy
-pub not-writing-twice : Breaks (whose ∷ []) (store.beginningAlways playFormerly) 1 writeTwice
-not-writing-twice = breaks (store.beginningAlways playFormerly) 1 writeTwice whose [] opensA (tested .not-writing-twice)
-
-pub not-reading-twice : Breaks (whose ∷ []) (store.beginningAlways play) 2 readTwice
-not-reading-twice = breaks (store.beginningAlways play) 2 readTwice whose [] opensB (tested .not-reading-twice)
-
--- a delivery is accepted while the client is idle
-pub not-waiting-at-nothing : Breaks (whose ∷ []) (store.waitingAtNothing play) 3 replyOnly
-not-waiting-at-nothing = breaks (store.waitingAtNothing play) 3 replyOnly whose [] opensC (tested .not-waiting-at-nothing)
-
--- a lost link is taken for an arrived acknowledgement: the WRITE ends, and server 1 does not have it
-pub not-arrived : Breaks (readAfterWrite ∷ []) (store.lossArrives play) 3 lostRequest
-not-arrived = breaks (store.lossArrives play) 3 lostRequest readAfterWrite [] opensC (tested .not-arrived)
 
 -- a READ ends a delivery early: its lost reply came all the same
 pub not-early-by-a-reply : Breaks (ends ∷ []) (store.losingNothing playFormerly) 1 lostReply
@@ -382,11 +105,3 @@ not-early-by-a-reply = breaks (store.losingNothing playFormerly) 1 lostReply end
 -- a READ ends a delivery late: it lost a request, and no reply
 pub not-late-by-a-request : Breaks (ends ∷ []) (store.endingLate playFormerly) 1 askedAgain
 not-late-by-a-request = breaks (store.endingLate playFormerly) 1 askedAgain ends [] opensA (tested .not-late-by-a-request)
-
--- a resent enter is entered twice
-pub not-entered-twice : Breaks (tags ∷ []) (store.enteringTwice play) 3 enteredAgain
-not-entered-twice = breaks (store.enteringTwice play) 3 enteredAgain tags [] opensC (tested .not-entered-twice)
-
--- a resent enter is answered with the last tag
-pub not-last-tag : Breaks (tags ∷ []) (store.answeringLastTag play) 3 enteredBetween
-not-last-tag = breaks (store.answeringLastTag play) 3 enteredBetween tags [] opensC (tested .not-last-tag)

@@ -28,8 +28,8 @@ use Rattle.claim.specs.History.{changed}
 use Rattle.claim.specs.Row as row
 use Rattle.claim.specs.Sample.{zeros, laterFirst}
 use Rattle.claim.specs.WrongStores.{first, enteringTwice}
-use Rattle.claim.specs.Wrong.{thenReadByB, thenReadByC, twoReads, replyLess, requestOnly, overtaken, lossyByB}
-use Rattle.claim.specs.Wrong.{enteredAgain, enteredBetween}
+use Rattle.claim.specs.Lists.{thenReadByB, thenReadByC, twoReads, replyLess, requestOnly, overtaken, lossyByB}
+use Rattle.claim.specs.Lists.{enteredAgain, enteredBetween}
 use Rattle.register_order.specs.Parts as part
 use Rattle.register_order.specs.Parts.{lines, rowed, Differs, Computed, differs}
 use Rattle.register_order.specs.Parts.{Part}

@@ -67,7 +67,7 @@ fn send_entry(clients: &mut [u32], links: &mut [u32], client: usize)
     let count = clients::client_word(clients, client, clients::COUNT);
     let mask = clients::client_word(clients, client, clients::MASK);
     clients::put_client_word(clients, client, clients::STATE, states::ENTERING);
-    begins::send(
+    sending::send(
         links,
         client,
         links::COORDINATOR,

@@ -18,7 +18,8 @@ use Rattle.soundness.specs.Facts.{Sound}
 use Rattle.soundness.specs.Room.{few-servers, server-fits, keys-row, values-row, client-fits, client-row, client-links, link-row}
 use Rattle.soundness.specs.Room.{write-row, next-write, next-read}
 use Rattle.history.specs.Ready.{BeginReady}
-use Rattle.begins.specs.Ready.{AskReady, WriteReady}
+use Rattle.read_asks.specs.Ready.{AskReady}
+use Rattle.begins.specs.Ready.{WriteReady}
 use Rattle.server_requests.specs.Ready.{AtServer}
 use Rattle.requests.specs.Ready.{Asks, RequestReady}
 use Rattle.losses.specs.Ready.{Sends, ResendReady}

@@ -16,11 +16,11 @@ use Rattle.server.specs.Held.{Room, Appended, appended}
 use Rattle.rules.specs.Answers.{Left}
 use Rattle.rules.specs.Common.{gotReply}
 use Rattle.rules.specs.Request.{answeredBy, answered, refused, storedBy, onNewSet, onSet, onGet}
-use Rattle.versions.specs.declared.Version.{Version}
-use Rattle.versions.specs.declared.Reading.{Reading}
-use Rattle.versions.specs.Table.{appendNumber, appendTable, readable, firstBearing, readingOf}
-use Rattle.versions.specs.Core.{SameTable, versionOf, coreReading}
-use Rattle.versions.specs.CoreLaws.{readable-same, find-same, reading-same, number-same, append-same}
+use Rattle.version_records.specs.declared.Version.{Version}
+use Rattle.version_records.specs.declared.Reading.{Reading}
+use Rattle.version_records.specs.Table.{appendNumber, appendTable, readable, firstBearing, readingOf}
+use Rattle.version_records.specs.Core.{SameTable, versionOf, coreReading}
+use Rattle.version_records.specs.CoreLaws.{readable-same, find-same, reading-same, number-same, append-same}
 
 -- what a delivered get request makes of what was read of its key: the reply with badge and setpoint, or the refusal by its number
 abbrev pub gotBy : Reading → ℕ → ℕ → Tables → Left

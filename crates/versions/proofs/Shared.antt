@@ -29,12 +29,12 @@ use denote.Triple.Statement.{Contract}
 use Rattle.keys.specs.declared.Key.{Key}
 use Rattle.keys.proofs.Key as K
 use Rattle.keys.proofs.Key.Laws as K′
-use Rattle.versions.specs.declared.Version.{Version}
-use Rattle.versions.specs.Table.{readable, firstBearing, readingOf}
+use Rattle.version_records.specs.declared.Version.{Version}
+use Rattle.version_records.specs.Table.{readable, firstBearing, readingOf}
 use Rattle.versions.proofs.Steps.{Answers, has}
-use Rattle.versions.proofs.Version as T
-use Rattle.versions.proofs.Reading as R
-use Rattle.versions.proofs.Reading.Laws as R′
+use Rattle.version_records.proofs.Version as T
+use Rattle.version_records.proofs.Reading as R
+use Rattle.version_records.proofs.Reading.Laws as R′
 use Rattle.versions.proofs.held_now as held-now
 use Rattle.versions.proofs.find as find
 use Rattle.versions.proofs.setpoint_of as setpoint-of

@@ -4,23 +4,12 @@
 // decided to functions on plain values.
 ghost use mathlib.Core.Path.{_≡_};
 ghost use lib.ListN.{length};
-ghost use Rattle.versions.specs.Table.{lesser, readable, appendNumber, appendTable, bears, firstBearing, foundAt, notHeld, readingOf, heldAfter, trialMade, trialOf};
+ghost use Rattle.version_records.specs.Table.{readable, appendNumber, appendTable, firstBearing, readingOf, heldAfter, trialMade, trialOf};
 use keys::Key;
 use tables::versions::PLACES;
-
-// A version: the key of the WRITE that it came with, its badge, and its setpoint.
-pub struct Version {
-    pub key: Key,
-    pub badge: u16,
-    pub setpoint: u32,
-}
-
-// The setpoint of a key and the badge that came with it, with number 0. Number 8 where no version held bears the key.
-pub struct Reading {
-    pub number: u8,
-    pub badge: u16,
-    pub setpoint: u32,
-}
+use version_records::Reading;
+use version_records::Trial;
+use version_records::Version;
 
 // Appends a version behind those held, and answers 0. Where the lent table has fewer than 256 places it answers 2, then where 256 are held 8,
 // and nothing changes. Where a version held bears the key already, as when a request was sent again, none is appended: `find` tells that
@@ -28,7 +17,7 @@ pub struct Reading {
 pub fn append(versions: &mut [Version], held: usize, version: Version) -> u8
     ensures { λ r. ⌜ (r ≡ appendNumber held (length (now (versions .entry)))) × (now (versions .exit) ≡ appendTable (now (versions .entry)) held version) ⌝ }
 {
-    let number = append_number(held, versions.len());
+    let number = version_decisions::append_number(held, versions.len());
     if number == 0 {
         versions[held] = version;
     }
@@ -51,17 +40,17 @@ pub fn held_after(held: usize, number: u8) -> usize
 pub fn held_now(versions: &[Version], held: usize) -> usize
     ensures { λ r. ⌜ r ≡ readable held (length (now (versions .entry))) ⌝ }
 {
-    readable_of(held, versions.len())
+    version_decisions::readable_of(held, versions.len())
 }
 
 // The first version held that bears a key, and the number that can be read where none does.
 pub fn find(versions: &[Version], held: usize, key: Key) -> usize
     ensures { λ r. ⌜ r ≡ firstBearing (now (versions .entry)) held key ⌝ }
 {
-    let readable = readable_of(held, versions.len());
+    let readable = version_decisions::readable_of(held, versions.len());
     let mut place = 0;
     while place < readable {
-        if bears_key(versions[place], key) {
+        if version_decisions::bears_key(versions[place], key) {
             return place;
         }
         place += 1;
@@ -74,80 +63,13 @@ pub fn setpoint_of(versions: &[Version], held: usize, key: Key) -> Reading
     ensures { λ r. ⌜ r ≡ readingOf (now (versions .entry)) held key ⌝ }
 {
     let place = find(versions, held, key);
-    if place < readable_of(held, versions.len()) {
-        return reading_found(versions[place]);
+    if place < version_decisions::readable_of(held, versions.len()) {
+        return version_decisions::reading_found(versions[place]);
     }
-    reading_missing()
+    version_decisions::reading_missing()
 }
 
-// What is decided, on plain values.
-
-// How many of the held versions can be read: the lent table may be shorter than the number beside it says.
-fn readable_of(held: usize, places: usize) -> usize
-    ensures { λ r. ⌜ r ≡ readable held places ⌝ }
-{
-    lesser_of(held, lesser_of(places, PLACES))
-}
-
-fn lesser_of(one: usize, other: usize) -> usize
-    ensures { λ r. ⌜ r ≡ lesser one other ⌝ }
-{
-    if one < other {
-        return one;
-    }
-    other
-}
-
-// The number that an append answers: 2 where the table is too short for a server, 8 where no place is left, 0 where it is done.
-fn append_number(held: usize, places: usize) -> u8
-    ensures { λ r. ⌜ r ≡ appendNumber held places ⌝ }
-{
-    if places < PLACES {
-        return 2;
-    }
-    if held < PLACES {
-        return 0;
-    }
-    8
-}
-
-// Whether a version bears a key.
-fn bears_key(version: Version, key: Key) -> bool
-    ensures { λ r. ⌜ r ≡ bears version key ⌝ }
-{
-    let own = version.key;
-    own.same(key)
-}
-
-// What a look-up answers where a version bears the key, and where none does.
-fn reading_found(version: Version) -> Reading
-    ensures { λ r. ⌜ r ≡ foundAt version ⌝ }
-{
-    Reading {
-        number: 0,
-        badge: version.badge,
-        setpoint: version.setpoint,
-    }
-}
-
-fn reading_missing() -> Reading
-    ensures { λ r. ⌜ r ≡ notHeld ⌝ }
-{
-    Reading {
-        number: 8,
-        badge: 0,
-        setpoint: 0,
-    }
-}
-
-// What a trial found: what the append answered, how many can be read then, where the key stands, and what is read of it.
-pub struct Trial {
-    pub number: u8,
-    pub readable: usize,
-    pub place: usize,
-    pub reading: Reading,
-}
-
+// What a trial found, as one value.
 fn trial_of(number: u8, readable: usize, place: usize, reading: Reading) -> Trial
     ensures { λ r. ⌜ r ≡ trialMade number readable place reading ⌝ }
 {

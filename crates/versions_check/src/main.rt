@@ -3,12 +3,12 @@
 // `stdout` holds what the rules say of each line, worked out by hand.
 ghost use mathlib.Core.Path.{_≡_};
 ghost use Rattle.keys.specs.Keys.{keyOf};
-ghost use Rattle.versions.specs.Table.{trialOf};
-ghost use Rattle.versions.specs.Core.{versionOf};
+ghost use Rattle.version_records.specs.Table.{trialOf};
+ghost use Rattle.version_records.specs.Core.{versionOf};
 use keys::Key;
 use libc::STDOUT_FILENO;
-use versions::Trial;
-use versions::Version;
+use version_records::Trial;
+use version_records::Version;
 
 fn version_of(count: u8, client: u8, badge: u16, setpoint: u32) -> Version
     ensures { λ r. ⌜ r ≡ versionOf (keyOf count client) badge setpoint ⌝ }

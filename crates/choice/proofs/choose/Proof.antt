@@ -12,7 +12,7 @@ use Rattle.ranges.specs.Picked.{laidOver}
 use Rattle.rules.specs.WordsLaws.{laid-length}
 use Rattle.rules.specs.Reply.{receivedIn}
 use Rattle.choice.specs.Values.{Rows}
-use Rattle.choice.specs.Walk.{Tried, tried-newest, tried-chosen, few-wanted, same-choice}
+use Rattle.qualifying_tag.specs.Walk.{Tried, tried-newest, tried-chosen, few-wanted, same-choice}
 use borrow.Author.Needs.{needs}
 use Rattle.choice.proofs.choose.Statement.{statement}
 use Rattle.choice.proofs.choose.Tie as tie

@@ -3,7 +3,7 @@ use mathlib.Core.Path.{refl}
 use native.Mathlib.Omega.{arith}
 use Rattle.rules.specs.Choice.{chosenSetpoint, chosenBadge}
 use Rattle.rules.specs.Reply.{receivedIn}
-use Rattle.choice.specs.Walk.{chosen-below}
+use Rattle.qualifying_tag.specs.Walk.{chosen-below}
 use Rattle.choice.specs.Cases.{row-concluded}
 use borrow.Author.Needs.{needs}
 use Rattle.choice.proofs.conclude.Statement.{statement}

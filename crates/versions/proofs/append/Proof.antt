@@ -42,16 +42,16 @@ use denote.Triple.Statement.{Triple}
 use denote.Triple.Table.{entered, cited}
 use denote.Triple.Walked.{says, Stays, stay-slice, stay-none, walkOf, goes-slice, goes-none, Walks, ends-at, walked, walk-meets}
 use denote.Exit.{yes}
-use Rattle.versions.specs.declared.Version.{Version}
-use Rattle.versions.specs.Table.{appendNumber, appendTable}
-use Rattle.versions.specs.Cases.{done-place, done-table, refused-table}
+use Rattle.version_records.specs.declared.Version.{Version}
+use Rattle.version_records.specs.Table.{appendNumber, appendTable}
+use Rattle.version_records.specs.Cases.{done-place, done-table, refused-table}
 use Rattle.versions.proofs.Steps.{holds, fails, calls-plain, spent, spare}
 use Rattle.versions.proofs.Plain.{vals, versionSize, Number, number-answers, place-fits}
-use Rattle.versions.proofs.Version as T
-use Rattle.versions.proofs.Version.Laws as T′
-use Rattle.versions.proofs.append_number.Symbol as number-def
-use Rattle.versions.proofs.append_number.Symbol.{name as #versions·append-number}
-use Rattle.versions.proofs.append_number.Met as number-thm
+use Rattle.version_records.proofs.Version as T
+use Rattle.version_records.proofs.Version.Laws as T′
+use Rattle.version_decisions.proofs.append_number.Symbol as number-def
+use Rattle.version_decisions.proofs.append_number.Symbol.{name as #version-decisions·append-number}
+use Rattle.version_decisions.proofs.append_number.Met as number-thm
 use Rattle.versions.proofs.append.Key.{name as #versions·append}
 use Rattle.versions.proofs.append as f
 use Rattle.versions.proofs.append.Statement as stated
@@ -93,7 +93,7 @@ module _ {M : Type 1} (𝓤 : URA M) (H : Heap 𝓤) (A : Atoms 𝓤) (W : Given
       frame ! $ fjoin ! $ pureI ! (at-slice T.the-row (x zs) (at .0)) (tt, (tt, tt)) (ap (λ (m : ℕ). sliceVal (b, o) m ∷ []) (sym e), subst (Room T.the-row) (sym e) room) $ fjoin ! $ fjoin ! $ frame ! $
       owned ! u8 (Is u8) (uint-makes 𝓤 H A W w8) number _ (refl, fits) $ done !
 
-  module _ (𝓣 : Tables 𝓤 H) (known : Triple 𝓤 (𝓣 .C #versions·append-number) (Number 𝓤 H A mem run)) where
+  module _ (𝓣 : Tables 𝓤 H) (known : Triple 𝓤 (𝓣 .C #version-decisions·append-number) (Number 𝓤 H A mem run)) where
     abbrev En : (l₀ l₁ l₂ l₃ l₄ l₅ l₆ l₇ l₈ : ℕ) → Env 𝓤 H
     En l₀ l₁ l₂ l₃ l₄ l₅ l₆ l₇ l₈ = (tyInt w8, l₀) ∷ (sliceTy (tyRef (named 0) mut (pointee (T.the-row .written))), l₁) ∷ (tyInt w64, l₂) ∷ (T′.mir, l₃) ∷ (tyInt w8, l₄) ∷ (tyInt w64, l₅) ∷ (tyBool, l₆) ∷ (tyInt w64, l₇) ∷ (tyPtr, l₈) ∷ []
 
@@ -133,7 +133,7 @@ module _ {M : Type 1} (𝓤 : URA M) (H : Heap 𝓤) (A : Atoms 𝓤) (W : Given
         returns ! (look ! 22 refl) $ spent ! 22 refl refl $ spent ! 20 refl refl $ spent ! 18 refl refl $ spent ! 16 refl refl $ spent ! 14 refl refl $ spent ! 12 refl refl $ spent ! 10 refl refl $ spare ! 8 refl refl $ spare ! 6 refl refl $ free0 ! $
         keep ! (0 ∷ 1 ∷ 2 ∷ 5 ∷ []) $ by ! (exits ys refl (refused-table ys i v z) (is .1) room))))))))))))
 
-module _ {M : Type 1} (𝓤 : URA M) (H : Heap 𝓤) (A : Atoms 𝓤) (W : Given 𝓤 H A) (mem : Memory → SProp 𝓤) (run : Routine → Fun 𝓤) (𝓣 : Tables 𝓤 H) (known : Triple 𝓤 (𝓣 .C #versions·append-number) (Number 𝓤 H A mem run)) where
+module _ {M : Type 1} (𝓤 : URA M) (H : Heap 𝓤) (A : Atoms 𝓤) (W : Given 𝓤 H A) (mem : Memory → SProp 𝓤) (run : Routine → Fun 𝓤) (𝓣 : Tables 𝓤 H) (known : Triple 𝓤 (𝓣 .C #version-decisions·append-number) (Number 𝓤 H A mem run)) where
   append-walks : Walks 𝓤 H A f.ended stayed (WpFn 𝓤 H (𝓣 .C) (𝓣 .Λ) code.function) (f.clauses 𝓤 H A mem run)
   append-walks = walked 𝓤 H A f.ended stayed (f.clauses 𝓤 H A mem run) (WpFn 𝓤 H (𝓣 .C) (𝓣 .Λ) code.function) (λ κs. (slice-vals, (uint-vals w64, (vals, tt)))) (λ κs. (mut-slice-tells (named 0) (κs .0) T.the-row, (uint-tells w64, (LL.tells T.the-type T′.the-laws, tt))))
       (λ κs qs bounds a g are. via 𝓤 _ (fst∗ 𝓤 _ (emp 𝓤))
@@ -148,4 +148,4 @@ append-spec 𝓤 H 𝓜 𝓖 𝓡 =
     entered 𝓤 H (tripleOf 𝓤 H (𝓖 .A) f.signature (f.spec 𝓤 H (𝓖 .A) (𝓜 .mem) (𝓡 .run)))
     (tables 𝓤 H 𝓜 𝓡 code.env .C) (tables 𝓤 H 𝓜 𝓡 code.env .Λ) #versions·append code.function (code.unfolded 𝓤 H 𝓜 𝓡)
     (append-meets 𝓤 H (𝓖 .A) (givenOf 𝓤 H 𝓜 𝓖) (𝓜 .mem) (𝓡 .run) (tablesOf 𝓤 H 𝓜 (tables 𝓤 H 𝓜 𝓡 code.env))
-    (cited 𝓤 H (Number 𝓤 H (𝓖 .A) (𝓜 .mem) (𝓡 .run)) 𝓜 𝓡 code.env #versions·append-number number-def.routine code.calls-versions·append-number (number-thm.met 𝓤 H 𝓜 𝓖 𝓡)))
+    (cited 𝓤 H (Number 𝓤 H (𝓖 .A) (𝓜 .mem) (𝓡 .run)) 𝓜 𝓡 code.env #version-decisions·append-number number-def.routine code.calls-version-decisions·append-number (number-thm.met 𝓤 H 𝓜 𝓖 𝓡)))

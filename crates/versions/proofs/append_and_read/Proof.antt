@@ -50,20 +50,20 @@ use denote.Exit.{yes}
 use Rattle.keys.specs.declared.Key.{Key}
 use Rattle.keys.proofs.Key as K
 use Rattle.keys.proofs.Key.Laws as K′
-use Rattle.versions.specs.declared.Version.{Version}
-use Rattle.versions.specs.declared.Trial.{Trial}
-use Rattle.versions.specs.Table.{appendNumber, appendTable, heldAfter, readable, firstBearing, readingOf, trialMade, trialOf}
-use Rattle.versions.specs.Cases.{append-length, trial-is, trial-filled}
+use Rattle.version_records.specs.declared.Version.{Version}
+use Rattle.version_records.specs.declared.Trial.{Trial}
+use Rattle.version_records.specs.Table.{appendNumber, appendTable, heldAfter, readable, firstBearing, readingOf, trialMade, trialOf}
+use Rattle.version_records.specs.Cases.{append-length, trial-is, trial-filled}
 use Rattle.versions.proofs.Lent.{array-lies, array-room, big-lit}
 use Rattle.versions.proofs.Steps.{calls-lent, calls-plain, spent}
 use Rattle.versions.proofs.Plain.{vals, versionSize, After, after-answers, Made, made-answers}
 use Rattle.versions.proofs.Shared.{Now, now-answers, Find, find-answers, Setpoint, setpoint-answers}
-use Rattle.versions.proofs.Version as T
-use Rattle.versions.proofs.Version.Laws as T′
-use Rattle.versions.proofs.Reading as R
-use Rattle.versions.proofs.Reading.Laws as R′
-use Rattle.versions.proofs.Trial as L
-use Rattle.versions.proofs.Trial.Laws as L′
+use Rattle.version_records.proofs.Version as T
+use Rattle.version_records.proofs.Version.Laws as T′
+use Rattle.version_records.proofs.Reading as R
+use Rattle.version_records.proofs.Reading.Laws as R′
+use Rattle.version_records.proofs.Trial as L
+use Rattle.version_records.proofs.Trial.Laws as L′
 use Rattle.versions.proofs.append as app
 use Rattle.versions.proofs.append.Symbol as app-def
 use Rattle.versions.proofs.append.Symbol.{name as #versions·append}

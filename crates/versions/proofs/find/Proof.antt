@@ -50,19 +50,19 @@ use Rattle.ranges.specs.FirstLaws.{Sought, sought-none, sought-more, sought-fou
 use Rattle.keys.specs.declared.Key.{Key}
 use Rattle.keys.proofs.Key as K
 use Rattle.keys.proofs.Key.Laws as K′
-use Rattle.versions.specs.declared.Version.{Version}
-use Rattle.versions.specs.Table.{noVersion, versionAt, readable, bearsAt, firstBearing}
-use Rattle.versions.specs.Cases.{readable-within}
+use Rattle.version_records.specs.declared.Version.{Version}
+use Rattle.version_records.specs.Table.{noVersion, versionAt, readable, bearsAt, firstBearing}
+use Rattle.version_records.specs.Cases.{readable-within}
 use Rattle.versions.proofs.Steps.{holds, fails, calls-plain, spent, spare}
 use Rattle.versions.proofs.Plain.{vals, slice, versionSize, within, place-fits, Readable, readable-answers, Bears, bears-answers}
-use Rattle.versions.proofs.Version as T
-use Rattle.versions.proofs.Version.Laws as T′
-use Rattle.versions.proofs.readable_of.Symbol as readable-def
-use Rattle.versions.proofs.readable_of.Symbol.{name as #versions·readable-of}
-use Rattle.versions.proofs.readable_of.Met as readable-thm
-use Rattle.versions.proofs.bears_key.Symbol as bears-def
-use Rattle.versions.proofs.bears_key.Symbol.{name as #versions·bears-key}
-use Rattle.versions.proofs.bears_key.Met as bears-thm
+use Rattle.version_records.proofs.Version as T
+use Rattle.version_records.proofs.Version.Laws as T′
+use Rattle.version_decisions.proofs.readable_of.Symbol as readable-def
+use Rattle.version_decisions.proofs.readable_of.Symbol.{name as #version-decisions·readable-of}
+use Rattle.version_decisions.proofs.readable_of.Met as readable-thm
+use Rattle.version_decisions.proofs.bears_key.Symbol as bears-def
+use Rattle.version_decisions.proofs.bears_key.Symbol.{name as #version-decisions·bears-key}
+use Rattle.version_decisions.proofs.bears_key.Met as bears-thm
 use Rattle.versions.proofs.find.Key.{name as #versions·find}
 use Rattle.versions.proofs.find as f
 use Rattle.versions.proofs.find.Statement as stated
@@ -132,7 +132,7 @@ module _ {M : Type 1} (𝓤 : URA M) (H : Heap 𝓤) (A : Atoms 𝓤) (W : Given
   Nearer-wf : WellFounded Nearer
   Nearer-wf = InvImage·wf (λ (s : State). s .1 .0) (Nat·lt-wfRel .wf)
 
-  module _ (𝓣 : Tables 𝓤 H) (known : Triple 𝓤 (𝓣 .C #versions·bears-key) (Bears 𝓤 H A mem run)) (room : Room T.the-row (length ys)) (gn : n < 2 ^ 64) (gk : Is K.the-row k (LL.vals K.the-type K′.the-laws k)) (l₀ l₁ l₂ l₃ l₄ l₅ l₆ l₇ l₈ l₉ l₁₀ l₁₁ : ℕ) where
+  module _ (𝓣 : Tables 𝓤 H) (known : Triple 𝓤 (𝓣 .C #version-decisions·bears-key) (Bears 𝓤 H A mem run)) (room : Room T.the-row (length ys)) (gn : n < 2 ^ 64) (gk : Is K.the-row k (LL.vals K.the-type K′.the-laws k)) (l₀ l₁ l₂ l₃ l₄ l₅ l₆ l₇ l₈ l₉ l₁₀ l₁₁ : ℕ) where
     abbrev C : Calls 𝓤 H
     C = 𝓣 .C
 
@@ -198,7 +198,7 @@ module _ {M : Type 1} (𝓤 : URA M) (H : Heap 𝓤) (A : Atoms 𝓤) (W : Given
     runs-loop : Sq W (At start) (runs C Λ En pieces.t-4 (atRet En Post))
     runs-loop = first ! $ blocks ! $ loops ! 𝓣 Nearer Nearer-wf At (λ s. turns (s .0) (s .1 .0) (s .1 .1 .0) (s .1 .1 .1)) start
 
-  walk : (𝓣 : Tables 𝓤 H) → Triple 𝓤 (𝓣 .C #versions·readable-of) (Readable 𝓤 H A mem run) → Triple 𝓤 (𝓣 .C #versions·bears-key) (Bears 𝓤 H A mem run) → Room T.the-row (length ys) → held < 2 ^ 64 → Is K.the-row k (key-mach ∷ [])
+  walk : (𝓣 : Tables 𝓤 H) → Triple 𝓤 (𝓣 .C #version-decisions·readable-of) (Readable 𝓤 H A mem run) → Triple 𝓤 (𝓣 .C #version-decisions·bears-key) (Bears 𝓤 H A mem run) → Room T.the-row (length ys) → held < 2 ^ 64 → Is K.the-row k (key-mach ∷ [])
       → ent 𝓤 (onEntry 𝓤 H A f.signature (κ, tt) (q, tt) x at) (WpFn 𝓤 H (𝓣 .C) (𝓣 .Λ) code.function (sliceVal (b, o) (length ys) ∷ vint w64 held ∷ key-mach ∷ []) Post)
   walk 𝓣 known-readable known-bears room gh gk =
       qed W ((‵ (flft κ q) ⊛ ‵ ftrue) ∷ ‵ (owns (ShrSlice (named 0) κ T.the-row ∷ usize ∷ K.the-row ∷ []) x at) ∷ []) ∵ enter ! (𝓣 .C) (𝓣 .Λ) code.function (sliceVal (b, o) (length ys) ∷ vint w64 held ∷ key-mach ∷ []) _ $
@@ -214,7 +214,7 @@ module _ {M : Type 1} (𝓤 : URA M) (H : Heap 𝓤) (A : Atoms 𝓤) (W : Given
       assigns ! (of-opd ! (lit ! tt)) (from ! (stop !)) (init ! 18 refl (tt, record { fits = lit< tt })) $
       runs-loop 𝓣 known-bears room (is .1) gk l₀ l₁ l₂ l₃ l₄ l₅ l₆ l₇ l₈ l₉ l₁₀ l₁₁)))))))))))))
 
-module _ {M : Type 1} (𝓤 : URA M) (H : Heap 𝓤) (A : Atoms 𝓤) (W : Given 𝓤 H A) (mem : Memory → SProp 𝓤) (run : Routine → Fun 𝓤) (𝓣 : Tables 𝓤 H) (known-readable : Triple 𝓤 (𝓣 .C #versions·readable-of) (Readable 𝓤 H A mem run)) (known-bears : Triple 𝓤 (𝓣 .C #versions·bears-key) (Bears 𝓤 H A mem run)) where
+module _ {M : Type 1} (𝓤 : URA M) (H : Heap 𝓤) (A : Atoms 𝓤) (W : Given 𝓤 H A) (mem : Memory → SProp 𝓤) (run : Routine → Fun 𝓤) (𝓣 : Tables 𝓤 H) (known-readable : Triple 𝓤 (𝓣 .C #version-decisions·readable-of) (Readable 𝓤 H A mem run)) (known-bears : Triple 𝓤 (𝓣 .C #version-decisions·bears-key) (Bears 𝓤 H A mem run)) where
   find-walks : Walks 𝓤 H A f.ended stayed (WpFn 𝓤 H (𝓣 .C) (𝓣 .Λ) code.function) (f.clauses 𝓤 H A mem run)
   find-walks = walked 𝓤 H A f.ended stayed (f.clauses 𝓤 H A mem run) (WpFn 𝓤 H (𝓣 .C) (𝓣 .Λ) code.function) (λ κs. (slice-vals, (uint-vals w64, (LL.vals K.the-type K′.the-laws, tt)))) (λ κs. (shr-slice-tells (named 0) (κs .0) T.the-row, (uint-tells w64, (LL.tells K.the-type K′.the-laws, tt))))
       (λ κs qs bounds a g are. via 𝓤 _ (fst∗ 𝓤 _ (emp 𝓤))
@@ -229,5 +229,5 @@ find-spec 𝓤 H 𝓜 𝓖 𝓡 =
     entered 𝓤 H (tripleOf 𝓤 H (𝓖 .A) f.signature (f.spec 𝓤 H (𝓖 .A) (𝓜 .mem) (𝓡 .run)))
     (tables 𝓤 H 𝓜 𝓡 code.env .C) (tables 𝓤 H 𝓜 𝓡 code.env .Λ) #versions·find code.function (code.unfolded 𝓤 H 𝓜 𝓡)
     (find-meets 𝓤 H (𝓖 .A) (givenOf 𝓤 H 𝓜 𝓖) (𝓜 .mem) (𝓡 .run) (tablesOf 𝓤 H 𝓜 (tables 𝓤 H 𝓜 𝓡 code.env))
-    (cited 𝓤 H (Readable 𝓤 H (𝓖 .A) (𝓜 .mem) (𝓡 .run)) 𝓜 𝓡 code.env #versions·readable-of readable-def.routine code.calls-versions·readable-of (readable-thm.met 𝓤 H 𝓜 𝓖 𝓡))
-    (cited 𝓤 H (Bears 𝓤 H (𝓖 .A) (𝓜 .mem) (𝓡 .run)) 𝓜 𝓡 code.env #versions·bears-key bears-def.routine code.calls-versions·bears-key (bears-thm.met 𝓤 H 𝓜 𝓖 𝓡)))
+    (cited 𝓤 H (Readable 𝓤 H (𝓖 .A) (𝓜 .mem) (𝓡 .run)) 𝓜 𝓡 code.env #version-decisions·readable-of readable-def.routine code.calls-version-decisions·readable-of (readable-thm.met 𝓤 H 𝓜 𝓖 𝓡))
+    (cited 𝓤 H (Bears 𝓤 H (𝓖 .A) (𝓜 .mem) (𝓡 .run)) 𝓜 𝓡 code.env #version-decisions·bears-key bears-def.routine code.calls-version-decisions·bears-key (bears-thm.met 𝓤 H 𝓜 𝓖 𝓡)))

@@ -1,6 +1,6 @@
 -- `versions::held_after` meets its contract: each way out is a case law of `heldAfter`.
 use borrow.Author.Needs.{needs}
-use Rattle.versions.specs.Cases.{after-done, after-full, after-refused}
+use Rattle.version_records.specs.Cases.{after-done, after-full, after-refused}
 use Rattle.versions.proofs.held_after.Statement.{statement}
 use Rattle.versions.proofs.held_after.Tie as tie
 

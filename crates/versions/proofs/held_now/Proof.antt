@@ -33,14 +33,14 @@ use denote.Triple.Statement.{Triple}
 use denote.Triple.Table.{entered, cited}
 use denote.Triple.Walked.{says, Stays, stay-none-slice, stay-none, walkOf, goes-none-slice, goes-none, Walks, ends-at, walked, walk-meets}
 use denote.Exit.{yes}
-use Rattle.versions.specs.declared.Version.{Version}
-use Rattle.versions.specs.Table.{readable}
+use Rattle.version_records.specs.declared.Version.{Version}
+use Rattle.version_records.specs.Table.{readable}
 use Rattle.versions.proofs.Steps.{calls-plain, spent}
 use Rattle.versions.proofs.Plain.{Readable, readable-answers}
-use Rattle.versions.proofs.Version as T
-use Rattle.versions.proofs.readable_of.Symbol as readable-def
-use Rattle.versions.proofs.readable_of.Symbol.{name as #versions·readable-of}
-use Rattle.versions.proofs.readable_of.Met as readable-thm
+use Rattle.version_records.proofs.Version as T
+use Rattle.version_decisions.proofs.readable_of.Symbol as readable-def
+use Rattle.version_decisions.proofs.readable_of.Symbol.{name as #version-decisions·readable-of}
+use Rattle.version_decisions.proofs.readable_of.Met as readable-thm
 use Rattle.versions.proofs.held_now.Key.{name as #versions·held-now}
 use Rattle.versions.proofs.held_now as f
 use Rattle.versions.proofs.held_now.Statement as stated
@@ -71,7 +71,7 @@ module _ {M : Type 1} (𝓤 : URA M) (H : Heap 𝓤) (A : Atoms 𝓤) (W : Given
       suffices ! _ (ends-at 𝓤 H A f.ended stayed (f.clauses 𝓤 H A mem run) W (((κ, tt), (q, tt), tt, x, at), tt) (vint w64 answer) answer (tt, (tt, tt)) (tt, (tt, tt))) $ says ! refl $
       frame ! $ frame ! $ owned ! usize (Is usize) (uint-makes 𝓤 H A W w64) answer _ (refl, fits) $ done !
 
-  module _ (𝓣 : Tables 𝓤 H) (known : Triple 𝓤 (𝓣 .C #versions·readable-of) (Readable 𝓤 H A mem run)) where
+  module _ (𝓣 : Tables 𝓤 H) (known : Triple 𝓤 (𝓣 .C #version-decisions·readable-of) (Readable 𝓤 H A mem run)) where
     walk : Room T.the-row (length ys) → n < 2 ^ 64 → ent 𝓤 (onEntry 𝓤 H A f.signature (κ, tt) (q, tt) x at) (WpFn 𝓤 H (𝓣 .C) (𝓣 .Λ) code.function (sliceVal (b, o) (length ys) ∷ vint w64 n ∷ []) Post)
     walk room gn =
         qed W ((‵ (flft κ q) ⊛ ‵ ftrue) ∷ ‵ (owns (ShrSlice (named 0) κ T.the-row ∷ usize ∷ []) x at) ∷ []) ∵ enter ! (𝓣 .C) (𝓣 .Λ) code.function (sliceVal (b, o) (length ys) ∷ vint w64 n ∷ []) _ $
@@ -85,7 +85,7 @@ module _ {M : Type 1} (𝓤 : URA M) (H : Heap 𝓤) (A : Atoms 𝓤) (W : Given
         -- the answer is returned, and the locals are freed
         returns ! (look ! 6 refl) $ spent ! 6 refl refl $ spent ! 4 refl refl $ spent ! 2 refl refl $ spent ! 0 refl refl $ free0 ! $ by ! (exits (is .1)))))))
 
-module _ {M : Type 1} (𝓤 : URA M) (H : Heap 𝓤) (A : Atoms 𝓤) (W : Given 𝓤 H A) (mem : Memory → SProp 𝓤) (run : Routine → Fun 𝓤) (𝓣 : Tables 𝓤 H) (known : Triple 𝓤 (𝓣 .C #versions·readable-of) (Readable 𝓤 H A mem run)) where
+module _ {M : Type 1} (𝓤 : URA M) (H : Heap 𝓤) (A : Atoms 𝓤) (W : Given 𝓤 H A) (mem : Memory → SProp 𝓤) (run : Routine → Fun 𝓤) (𝓣 : Tables 𝓤 H) (known : Triple 𝓤 (𝓣 .C #version-decisions·readable-of) (Readable 𝓤 H A mem run)) where
   held-now-walks : Walks 𝓤 H A f.ended stayed (WpFn 𝓤 H (𝓣 .C) (𝓣 .Λ) code.function) (f.clauses 𝓤 H A mem run)
   held-now-walks = walked 𝓤 H A f.ended stayed (f.clauses 𝓤 H A mem run) (WpFn 𝓤 H (𝓣 .C) (𝓣 .Λ) code.function) (λ κs. (slice-vals, (uint-vals w64, tt))) (λ κs. (shr-slice-tells (named 0) (κs .0) T.the-row, (uint-tells w64, tt)))
       (λ κs qs bounds a g are. via 𝓤 _ (fst∗ 𝓤 _ (emp 𝓤))
@@ -100,4 +100,4 @@ held-now-spec 𝓤 H 𝓜 𝓖 𝓡 =
     entered 𝓤 H (tripleOf 𝓤 H (𝓖 .A) f.signature (f.spec 𝓤 H (𝓖 .A) (𝓜 .mem) (𝓡 .run)))
     (tables 𝓤 H 𝓜 𝓡 code.env .C) (tables 𝓤 H 𝓜 𝓡 code.env .Λ) #versions·held-now code.function (code.unfolded 𝓤 H 𝓜 𝓡)
     (held-now-meets 𝓤 H (𝓖 .A) (givenOf 𝓤 H 𝓜 𝓖) (𝓜 .mem) (𝓡 .run) (tablesOf 𝓤 H 𝓜 (tables 𝓤 H 𝓜 𝓡 code.env))
-    (cited 𝓤 H (Readable 𝓤 H (𝓖 .A) (𝓜 .mem) (𝓡 .run)) 𝓜 𝓡 code.env #versions·readable-of readable-def.routine code.calls-versions·readable-of (readable-thm.met 𝓤 H 𝓜 𝓖 𝓡)))
+    (cited 𝓤 H (Readable 𝓤 H (𝓖 .A) (𝓜 .mem) (𝓡 .run)) 𝓜 𝓡 code.env #version-decisions·readable-of readable-def.routine code.calls-version-decisions·readable-of (readable-thm.met 𝓤 H 𝓜 𝓖 𝓡)))

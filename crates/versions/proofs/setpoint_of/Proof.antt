@@ -42,29 +42,29 @@ use denote.Exit.{yes}
 use Rattle.keys.specs.declared.Key.{Key}
 use Rattle.keys.proofs.Key as K
 use Rattle.keys.proofs.Key.Laws as K′
-use Rattle.versions.specs.declared.Version.{Version}
-use Rattle.versions.specs.declared.Reading.{Reading}
-use Rattle.versions.specs.Table.{noVersion, versionAt, readable, firstBearing, foundAt, notHeld, readingOf}
-use Rattle.versions.specs.Cases.{readable-within, reading-found, reading-missing}
+use Rattle.version_records.specs.declared.Version.{Version}
+use Rattle.version_records.specs.declared.Reading.{Reading}
+use Rattle.version_records.specs.Table.{noVersion, versionAt, readable, firstBearing, foundAt, notHeld, readingOf}
+use Rattle.version_records.specs.Cases.{readable-within, reading-found, reading-missing}
 use Rattle.versions.proofs.Steps.{holds, fails, calls-lent, calls-plain, spent, spare}
 use Rattle.versions.proofs.Plain.{vals, slice, versionSize, within, place-fits, Readable, readable-answers, Found, found-answers, Missing, missing-answers}
 use Rattle.versions.proofs.Shared.{Find, find-answers}
-use Rattle.versions.proofs.Version as T
-use Rattle.versions.proofs.Version.Laws as T′
-use Rattle.versions.proofs.Reading as R
-use Rattle.versions.proofs.Reading.Laws as R′
+use Rattle.version_records.proofs.Version as T
+use Rattle.version_records.proofs.Version.Laws as T′
+use Rattle.version_records.proofs.Reading as R
+use Rattle.version_records.proofs.Reading.Laws as R′
 use Rattle.versions.proofs.find.Symbol as find-def
 use Rattle.versions.proofs.find.Symbol.{name as #versions·find}
 use Rattle.versions.proofs.find.Met as find-thm
-use Rattle.versions.proofs.readable_of.Symbol as readable-def
-use Rattle.versions.proofs.readable_of.Symbol.{name as #versions·readable-of}
-use Rattle.versions.proofs.readable_of.Met as readable-thm
-use Rattle.versions.proofs.reading_found.Symbol as found-def
-use Rattle.versions.proofs.reading_found.Symbol.{name as #versions·reading-found}
-use Rattle.versions.proofs.reading_found.Met as found-thm
-use Rattle.versions.proofs.reading_missing.Symbol as missing-def
-use Rattle.versions.proofs.reading_missing.Symbol.{name as #versions·reading-missing}
-use Rattle.versions.proofs.reading_missing.Met as missing-thm
+use Rattle.version_decisions.proofs.readable_of.Symbol as readable-def
+use Rattle.version_decisions.proofs.readable_of.Symbol.{name as #version-decisions·readable-of}
+use Rattle.version_decisions.proofs.readable_of.Met as readable-thm
+use Rattle.version_decisions.proofs.reading_found.Symbol as found-def
+use Rattle.version_decisions.proofs.reading_found.Symbol.{name as #version-decisions·reading-found}
+use Rattle.version_decisions.proofs.reading_found.Met as found-thm
+use Rattle.version_decisions.proofs.reading_missing.Symbol as missing-def
+use Rattle.version_decisions.proofs.reading_missing.Symbol.{name as #version-decisions·reading-missing}
+use Rattle.version_decisions.proofs.reading_missing.Met as missing-thm
 use Rattle.versions.proofs.setpoint_of.Key.{name as #versions·setpoint-of}
 use Rattle.versions.proofs.setpoint_of as f
 use Rattle.versions.proofs.setpoint_of.Statement as stated
@@ -111,7 +111,7 @@ module _ {M : Type 1} (𝓤 : URA M) (H : Heap 𝓤) (A : Atoms 𝓤) (W : Given
       nothing ! $ move ! (1 ∷ 0 ∷ []) $ join ! $ move ! (1 ∷ 2 ∷ []) $ fjoin ! $ move ! (1 ∷ 0 ∷ []) $
       frame ! $ frame ! $ owned ! R.the-row (Is R.the-row) (LL.makes R.the-type R′.the-plain 𝓤 H A) r _ g $ done !
 
-  module _ (𝓣 : Tables 𝓤 H) (known-found : Triple 𝓤 (𝓣 .C #versions·reading-found) (Found 𝓤 H A mem run)) (known-missing : Triple 𝓤 (𝓣 .C #versions·reading-missing) (Missing 𝓤 H A mem run)) (room : Room T.the-row (length ys)) (l₀ l₁ l₂ l₃ l₄ l₅ l₆ l₇ l₈ l₉ l₁₀ : ℕ) where
+  module _ (𝓣 : Tables 𝓤 H) (known-found : Triple 𝓤 (𝓣 .C #version-decisions·reading-found) (Found 𝓤 H A mem run)) (known-missing : Triple 𝓤 (𝓣 .C #version-decisions·reading-missing) (Missing 𝓤 H A mem run)) (room : Room T.the-row (length ys)) (l₀ l₁ l₂ l₃ l₄ l₅ l₆ l₇ l₈ l₉ l₁₀ : ℕ) where
     abbrev C : Calls 𝓤 H
     C = 𝓣 .C
 
@@ -159,7 +159,7 @@ module _ {M : Type 1} (𝓤 : URA M) (H : Heap 𝓤) (A : Atoms 𝓤) (W : Given
         move ! (2 ∷ 1 ∷ []) $ fjoin ! $ move ! (2 ∷ 0 ∷ []) $ fjoin ! $ keep ! (1 ∷ 0 ∷ 3 ∷ []) $ by ! (exits (foundAt (versionAt ys found)) is (reading-found ys held k l))))))
         (λ t. skips ! $ exec ! C Λ En pieces.t-6 (atRet En Post) $ missing (ltb-false found n (fails (ltb found n) t)))
 
-  walk : (𝓣 : Tables 𝓤 H) → Triple 𝓤 (𝓣 .C #versions·find) (Find 𝓤 H A mem run) → Triple 𝓤 (𝓣 .C #versions·readable-of) (Readable 𝓤 H A mem run) → Triple 𝓤 (𝓣 .C #versions·reading-found) (Found 𝓤 H A mem run) → Triple 𝓤 (𝓣 .C #versions·reading-missing) (Missing 𝓤 H A mem run)
+  walk : (𝓣 : Tables 𝓤 H) → Triple 𝓤 (𝓣 .C #versions·find) (Find 𝓤 H A mem run) → Triple 𝓤 (𝓣 .C #version-decisions·readable-of) (Readable 𝓤 H A mem run) → Triple 𝓤 (𝓣 .C #version-decisions·reading-found) (Found 𝓤 H A mem run) → Triple 𝓤 (𝓣 .C #version-decisions·reading-missing) (Missing 𝓤 H A mem run)
       → Room T.the-row (length ys) → ent 𝓤 (onEntry 𝓤 H A f.signature (κ, tt) (q, tt) x at) (WpFn 𝓤 H (𝓣 .C) (𝓣 .Λ) code.function (sliceVal (b, o) (length ys) ∷ vint w64 held ∷ key-mach ∷ []) Post)
   walk 𝓣 known-find known-readable known-found known-missing room =
       qed W ((‵ (flft κ q) ⊛ ‵ ftrue) ∷ ‵ (owns (ShrSlice (named 0) κ T.the-row ∷ usize ∷ K.the-row ∷ []) x at) ∷ []) ∵ enter ! (𝓣 .C) (𝓣 .Λ) code.function (sliceVal (b, o) (length ys) ∷ vint w64 held ∷ key-mach ∷ []) _ $
@@ -178,7 +178,7 @@ module _ {M : Type 1} (𝓤 : URA M) (H : Heap 𝓤) (A : Atoms 𝓤) (W : Given
       assigns ! (bin ! (load ! (from ! (stop !)) (look ! 15 refl)) (load ! (from ! (stop !)) (look ! 13 refl)) tt) (from ! (stop !)) (init ! 9 refl (tt, tt)) $
       tests 𝓣 known-found known-missing room l₀ l₁ l₂ l₃ l₄ l₅ l₆ l₇ l₈ l₉ l₁₀)))))))))))))
 
-module _ {M : Type 1} (𝓤 : URA M) (H : Heap 𝓤) (A : Atoms 𝓤) (W : Given 𝓤 H A) (mem : Memory → SProp 𝓤) (run : Routine → Fun 𝓤) (𝓣 : Tables 𝓤 H) (known-find : Triple 𝓤 (𝓣 .C #versions·find) (Find 𝓤 H A mem run)) (known-readable : Triple 𝓤 (𝓣 .C #versions·readable-of) (Readable 𝓤 H A mem run)) (known-found : Triple 𝓤 (𝓣 .C #versions·reading-found) (Found 𝓤 H A mem run)) (known-missing : Triple 𝓤 (𝓣 .C #versions·reading-missing) (Missing 𝓤 H A mem run)) where
+module _ {M : Type 1} (𝓤 : URA M) (H : Heap 𝓤) (A : Atoms 𝓤) (W : Given 𝓤 H A) (mem : Memory → SProp 𝓤) (run : Routine → Fun 𝓤) (𝓣 : Tables 𝓤 H) (known-find : Triple 𝓤 (𝓣 .C #versions·find) (Find 𝓤 H A mem run)) (known-readable : Triple 𝓤 (𝓣 .C #version-decisions·readable-of) (Readable 𝓤 H A mem run)) (known-found : Triple 𝓤 (𝓣 .C #version-decisions·reading-found) (Found 𝓤 H A mem run)) (known-missing : Triple 𝓤 (𝓣 .C #version-decisions·reading-missing) (Missing 𝓤 H A mem run)) where
   setpoint-of-walks : Walks 𝓤 H A f.ended stayed (WpFn 𝓤 H (𝓣 .C) (𝓣 .Λ) code.function) (f.clauses 𝓤 H A mem run)
   setpoint-of-walks = walked 𝓤 H A f.ended stayed (f.clauses 𝓤 H A mem run) (WpFn 𝓤 H (𝓣 .C) (𝓣 .Λ) code.function) (λ κs. (slice-vals, (uint-vals w64, (LL.vals K.the-type K′.the-laws, tt)))) (λ κs. (shr-slice-tells (named 0) (κs .0) T.the-row, (uint-tells w64, (LL.tells K.the-type K′.the-laws, tt))))
       (λ κs qs bounds a g are. via 𝓤 _ (fst∗ 𝓤 _ (emp 𝓤))
@@ -194,6 +194,6 @@ setpoint-of-spec 𝓤 H 𝓜 𝓖 𝓡 =
     (tables 𝓤 H 𝓜 𝓡 code.env .C) (tables 𝓤 H 𝓜 𝓡 code.env .Λ) #versions·setpoint-of code.function (code.unfolded 𝓤 H 𝓜 𝓡)
     (setpoint-of-meets 𝓤 H (𝓖 .A) (givenOf 𝓤 H 𝓜 𝓖) (𝓜 .mem) (𝓡 .run) (tablesOf 𝓤 H 𝓜 (tables 𝓤 H 𝓜 𝓡 code.env))
     (cited 𝓤 H (Find 𝓤 H (𝓖 .A) (𝓜 .mem) (𝓡 .run)) 𝓜 𝓡 code.env #versions·find find-def.routine code.calls-versions·find (find-thm.met 𝓤 H 𝓜 𝓖 𝓡))
-    (cited 𝓤 H (Readable 𝓤 H (𝓖 .A) (𝓜 .mem) (𝓡 .run)) 𝓜 𝓡 code.env #versions·readable-of readable-def.routine code.calls-versions·readable-of (readable-thm.met 𝓤 H 𝓜 𝓖 𝓡))
-    (cited 𝓤 H (Found 𝓤 H (𝓖 .A) (𝓜 .mem) (𝓡 .run)) 𝓜 𝓡 code.env #versions·reading-found found-def.routine code.calls-versions·reading-found (found-thm.met 𝓤 H 𝓜 𝓖 𝓡))
-    (cited 𝓤 H (Missing 𝓤 H (𝓖 .A) (𝓜 .mem) (𝓡 .run)) 𝓜 𝓡 code.env #versions·reading-missing missing-def.routine code.calls-versions·reading-missing (missing-thm.met 𝓤 H 𝓜 𝓖 𝓡)))
+    (cited 𝓤 H (Readable 𝓤 H (𝓖 .A) (𝓜 .mem) (𝓡 .run)) 𝓜 𝓡 code.env #version-decisions·readable-of readable-def.routine code.calls-version-decisions·readable-of (readable-thm.met 𝓤 H 𝓜 𝓖 𝓡))
+    (cited 𝓤 H (Found 𝓤 H (𝓖 .A) (𝓜 .mem) (𝓡 .run)) 𝓜 𝓡 code.env #version-decisions·reading-found found-def.routine code.calls-version-decisions·reading-found (found-thm.met 𝓤 H 𝓜 𝓖 𝓡))
+    (cited 𝓤 H (Missing 𝓤 H (𝓖 .A) (𝓜 .mem) (𝓡 .run)) 𝓜 𝓡 code.env #version-decisions·reading-missing missing-def.routine code.calls-version-decisions·reading-missing (missing-thm.met 𝓤 H 𝓜 𝓖 𝓡)))

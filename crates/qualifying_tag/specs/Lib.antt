@@ -1,0 +1,2 @@
+-- The walk up the log.
+pub mod Walk
