@@ -10,8 +10,8 @@ ghost use Rattle.tables.specs.Tables.{Tables, withCounts, withClients, withLink
 ghost use Rattle.soundness.specs.Sound.{stateAllowed, askedSound, keptSound, clientSound};
 ghost use Rattle.soundness.specs.Parts.{countSound, maskSound, tagSound, rowSound};
 ghost use Rattle.soundness.specs.Asked.{Counted, ClientThere, ClientsThere};
-use soundness::scalars;
-use soundness::states;
+use sound_numbers::scalars;
+use sound_numbers::states;
 use tables::clients;
 use tables::counts;
 

@@ -11,8 +11,8 @@ ghost use Rattle.soundness.specs.Sound.{keyOn, requestSound, replySound, badgeS
 ghost use Rattle.soundness.specs.Parts.{numberOn, badgeOn, expects};
 ghost use Rattle.soundness.specs.Asked.{Counted, LinkThere, ClientThere};
 use super::messages;
-use soundness::scalars;
-use soundness::states;
+use sound_numbers::scalars;
+use sound_numbers::states;
 use tables::clients;
 use tables::links;
 

@@ -5,7 +5,7 @@ ghost use Rattle.tables.specs.Tables.{Tables, withCounts};
 ghost use Rattle.soundness.specs.Sound.{holding, ownKey, requestSound, replySound, badgeSound};
 ghost use Rattle.soundness.specs.Asked.{Counted};
 use rules::states;
-use soundness::scalars;
+use sound_numbers::scalars;
 use tables::counts;
 use tables::links;
 

@@ -13,8 +13,8 @@ ghost use Rattle.soundness.specs.Sound.{writeSound, readSound, isOpen, openSoun
 ghost use Rattle.soundness.specs.Parts.{countsSound, historySound};
 ghost use Rattle.soundness.specs.Asked.{Counted, RecordsThere, RowsThere};
 ghost use Rattle.sound_records.specs.Opens.{OpenCounts};
-use soundness::scalars;
-use soundness::states;
+use sound_numbers::scalars;
+use sound_numbers::states;
 use tables::clients;
 use tables::counts;
 use tables::records;

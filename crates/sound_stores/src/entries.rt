@@ -7,7 +7,7 @@ ghost use Rattle.tables.specs.Tables.{Tables, withCounts, withLog, entriesOf};
 ghost use Rattle.soundness.specs.Sound.{entrySound, logSound};
 ghost use Rattle.soundness.specs.Asked.{Counted, LogThere};
 ghost use Rattle.soundness.specs.Parts.{firstEntrySound};
-use soundness::scalars;
+use sound_numbers::scalars;
 use tables::counts;
 use tables::log;
 

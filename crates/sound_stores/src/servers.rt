@@ -8,7 +8,7 @@ ghost use Rattle.tables.specs.Tables.{Tables, withCounts, withVersions, servers
 ghost use Rattle.soundness.specs.Sound.{keyInRange, badgeFits, serverSound};
 ghost use Rattle.soundness.specs.Parts.{keyOwned, keyCounted};
 ghost use Rattle.soundness.specs.Asked.{Counted, VersionsThere};
-use soundness::scalars;
+use sound_numbers::scalars;
 use tables::counts;
 use tables::versions;
 

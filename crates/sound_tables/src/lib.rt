@@ -5,7 +5,7 @@ ghost use Rattle.tables.specs.Tables.{tablesOf, serversOf, clientsOf};
 ghost use Rattle.soundness.specs.Sound.{longEnough, sound};
 ghost use Rattle.soundness.specs.Parts.{restSound};
 ghost use Rattle.soundness.specs.Asked.{TablesThere};
-use soundness::lengths;
+use sound_lengths::lengths;
 use tables::counts;
 
 mod progress;

@@ -6,7 +6,7 @@ ghost use Rattle.tables.specs.Layout.{countWords};
 ghost use Rattle.tables.specs.Tables.{Tables, withCounts, methodOf, serversOf, clientsOf};
 ghost use Rattle.soundness.specs.Sound.{pressFits, scalarsSound};
 ghost use Rattle.soundness.specs.Parts.{progressSound};
-use soundness::scalars;
+use sound_numbers::scalars;
 use tables::counts;
 use tables::log;
 use tables::records;

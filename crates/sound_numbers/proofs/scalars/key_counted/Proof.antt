@@ -1,9 +1,9 @@
--- `soundness::scalars::key_counted` meets its contract: not between 1 and 255.
+-- `sound_numbers::scalars::key_counted` meets its contract: not between 1 and 255.
 use mathlib.Core.Path.{ap}
 use mathlib.Core.Bool.{Bool, not}
 use borrow.Author.Needs.{needs}
-use Rattle.soundness.proofs.scalars.key_counted.Statement.{statement}
-use Rattle.soundness.proofs.scalars.key_counted.Tie as tie
+use Rattle.sound_numbers.proofs.scalars.key_counted.Statement.{statement}
+use Rattle.sound_numbers.proofs.scalars.key_counted.Tie as tie
 
 returns : tie.Need-returns
 returns c = ap (λ (b : Bool). not b) (c .between .ensures)

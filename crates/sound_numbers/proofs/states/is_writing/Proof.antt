@@ -1,7 +1,7 @@
--- `soundness::states::is_writing` meets its contract: one state or the other.
+-- `sound_numbers::states::is_writing` meets its contract: one state or the other.
 use borrow.Author.Tests.{eq-eqb, ne-eqb}
-use Rattle.soundness.proofs.states.is_writing.Statement.{statement}
-use Rattle.soundness.proofs.states.is_writing.Tie as tie
+use Rattle.sound_numbers.proofs.states.is_writing.Statement.{statement}
+use Rattle.sound_numbers.proofs.states.is_writing.Tie as tie
 
 returns : tie.Need-returns
 returns c = rw (eq-eqb _ _ (c .if1 .taken))

@@ -1,7 +1,7 @@
--- `soundness::scalars::between` meets its contract: each way out is one value of the first test.
+-- `sound_numbers::scalars::between` meets its contract: each way out is one value of the first test.
 use borrow.Author.Tests.{le-leb, lt-leb}
-use Rattle.soundness.proofs.scalars.between.Statement.{statement}
-use Rattle.soundness.proofs.scalars.between.Tie as tie
+use Rattle.sound_numbers.proofs.scalars.between.Statement.{statement}
+use Rattle.sound_numbers.proofs.scalars.between.Tie as tie
 
 returns : tie.Need-returns
 returns c = rw (le-leb _ _ (c .if1 .taken))

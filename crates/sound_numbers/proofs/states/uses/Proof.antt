@@ -1,10 +1,10 @@
--- `soundness::states::uses` meets its contract: each state is one case of the definition.
+-- `sound_numbers::states::uses` meets its contract: each state is one case of the definition.
 use borrow.Author.Tests.{ne-eqb}
 use mathlib.Core.Path.{sym, _∙_}
 use Rattle.soundness.specs.Sound.{uses}
 use borrow.Author.Needs.{needs}
-use Rattle.soundness.proofs.states.uses.Statement.{statement}
-use Rattle.soundness.proofs.states.uses.Tie as tie
+use Rattle.sound_numbers.proofs.states.uses.Statement.{statement}
+use Rattle.sound_numbers.proofs.states.uses.Tie as tie
 
 returns : tie.Need-returns
 unfolding uses

@@ -1,10 +1,10 @@
--- `soundness::states::state_allowed` meets its contract: the ways out are the cases of method and part.
+-- `sound_numbers::states::state_allowed` meets its contract: the ways out are the cases of method and part.
 use borrow.Author.Tests.{eq-eqb, ne-eqb}
 use mathlib.Core.Path.{sym, _∙_}
 use Rattle.soundness.specs.Sound.{stateAllowed}
 use borrow.Author.Needs.{needs}
-use Rattle.soundness.proofs.states.state_allowed.Statement.{statement}
-use Rattle.soundness.proofs.states.state_allowed.Tie as tie
+use Rattle.sound_numbers.proofs.states.state_allowed.Statement.{statement}
+use Rattle.sound_numbers.proofs.states.state_allowed.Tie as tie
 
 returns : tie.Need-returns
 unfolding stateAllowed

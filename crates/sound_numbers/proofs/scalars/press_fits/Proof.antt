@@ -1,10 +1,10 @@
--- `soundness::scalars::press_fits` meets its contract: each way out is one more test passed.
+-- `sound_numbers::scalars::press_fits` meets its contract: each way out is one more test passed.
 use borrow.Author.Tests.{eq-eqb, ne-eqb}
 use Rattle.ranges.specs.Tests.{fails, holds}
 use Rattle.soundness.specs.Sound.{pressFits}
 use borrow.Author.Needs.{needs}
-use Rattle.soundness.proofs.scalars.press_fits.Statement.{statement}
-use Rattle.soundness.proofs.scalars.press_fits.Tie as tie
+use Rattle.sound_numbers.proofs.scalars.press_fits.Statement.{statement}
+use Rattle.sound_numbers.proofs.scalars.press_fits.Tie as tie
 
 returns : tie.Need-returns
 unfolding pressFits

@@ -1,11 +1,11 @@
--- `soundness::lengths::long_enough` meets its contract: each way out is one more length that is enough.
+-- `sound_lengths::lengths::long_enough` meets its contract: each way out is one more length that is enough.
 use Prim.Native.Nat.{_*_}
 use borrow.Author.Tests.{le-leb, lt-leb}
 use Rattle.tables.specs.Layout.{countWords, entryWidth, logPlaces, recordWidth, recordPlaces}
 use Rattle.soundness.specs.Sound.{longEnough}
 use borrow.Author.Needs.{needs}
-use Rattle.soundness.proofs.lengths.long_enough.Statement.{statement}
-use Rattle.soundness.proofs.lengths.long_enough.Tie as tie
+use Rattle.sound_lengths.proofs.lengths.long_enough.Statement.{statement}
+use Rattle.sound_lengths.proofs.lengths.long_enough.Tie as tie
 
 returns : tie.Need-returns
 unfolding longEnough

@@ -1,10 +1,10 @@
--- `soundness::scalars::key_in_range` meets its contract: 0, or both tests.
+-- `sound_numbers::scalars::key_in_range` meets its contract: 0, or both tests.
 use borrow.Author.Tests.{eq-eqb, ne-eqb}
 use Rattle.ranges.specs.Tests.{fails, holds}
 use Rattle.soundness.specs.Sound.{keyInRange}
 use borrow.Author.Needs.{needs}
-use Rattle.soundness.proofs.scalars.key_in_range.Statement.{statement}
-use Rattle.soundness.proofs.scalars.key_in_range.Tie as tie
+use Rattle.sound_numbers.proofs.scalars.key_in_range.Statement.{statement}
+use Rattle.sound_numbers.proofs.scalars.key_in_range.Tie as tie
 
 returns : tie.Need-returns
 unfolding keyInRange

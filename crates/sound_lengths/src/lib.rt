@@ -1,0 +1,2 @@
+// What sound tables ask of lengths alone.
+pub mod lengths;

@@ -1,0 +1,3 @@
+// What sound tables ask of numbers and of states alone.
+pub mod scalars;
+pub mod states;
