@@ -370,7 +370,7 @@ pub fn read_frame(
         × (now (numbers .exit)
         ≡ numbersRead (found (now (bytes .entry))) (now (keys .entry)) (now (badges .entry)) (now (numbers .entry))) ⌝ }
 {
-    let scan = formats::reading::scan_frame(bytes);
+    let scan = format_reading::scan_frame(bytes);
     let fault = scan.fault;
     let fields = scan.fields;
     let fixed = scan.fixed;

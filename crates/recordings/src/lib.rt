@@ -45,7 +45,7 @@ fn wide(n: u32) -> usize
 fn is_readable(bytes: &[u8]) -> bool
     ensures { λ r. ⌜ r ≡ readable (now (bytes .entry)) ⌝ }
 {
-    let scan = formats::reading::scan_frame(bytes);
+    let scan = format_reading::scan_frame(bytes);
     scan.fault == 0
 }
 

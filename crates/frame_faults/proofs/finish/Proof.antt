@@ -2,9 +2,9 @@
 use borrow.Author.Needs.{needs}
 use mathlib.Core.Path.{sym, _∙_}
 use Rattle.fields.specs.ByBytes.{field-by-bytes}
 use Rattle.formats.specs.Reading.{end-long, end-zero, end-some}
-use Rattle.formats.proofs.reading.finish.Statement.{statement}
-use Rattle.formats.proofs.reading.finish.Tie as tie
+use Rattle.frame_faults.proofs.finish.Statement.{statement}
+use Rattle.frame_faults.proofs.finish.Tie as tie
 
 returns : tie.Need-returns
 returns c = let a = c .before .before .args in end-long (a .bytes .now) (a .at) (c .if1 .taken)

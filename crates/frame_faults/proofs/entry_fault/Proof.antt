@@ -1,8 +1,8 @@
 -- The key's fault, or else the number's.
 use borrow.Author.Needs.{needs}
 use Rattle.formats.specs.Judging.{entry-first, entry-second}
-use Rattle.formats.proofs.reading.entry_fault.Statement.{statement}
-use Rattle.formats.proofs.reading.entry_fault.Tie as tie
+use Rattle.frame_faults.proofs.entry_fault.Statement.{statement}
+use Rattle.frame_faults.proofs.entry_fault.Tie as tie
 
 returns : tie.Need-returns
 returns c =

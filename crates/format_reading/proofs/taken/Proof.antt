@@ -2,10 +2,10 @@
 use borrow.Author.Needs.{needs}
 use mathlib.Core.Path.{sym, ap, _∙_}
 use native.Mathlib.Omega.{arith}
 use Rattle.formats.specs.declared.reading.Took.{Took}
 use Rattle.formats.specs.Reading.{tookAt, took-nothing}
-use Rattle.formats.proofs.reading.taken.Statement.{statement}
-use Rattle.formats.proofs.reading.taken.Tie as tie
+use Rattle.format_reading.proofs.taken.Statement.{statement}
+use Rattle.format_reading.proofs.taken.Tie as tie
 
 returns : tie.Need-returns
 returns c =

@@ -4,9 +4,9 @@ use mathlib.Core.Path.{_≡_, refl, _∙_}
 use Prim.Native.Nat.{_+_, _-_, _*_, _≤_}
 use native.Mathlib.Omega.{arith}
 use Rattle.frame_table.specs.Entry.{keyBits}
 use Rattle.formats.specs.Judging.{entriesFault, entries-stop, entries-on, entries-end, entry-more}
-use Rattle.formats.proofs.reading.entries_fault.Statement.{statement}
-use Rattle.formats.proofs.reading.entries_fault.Tie as tie
+use Rattle.frame_faults.proofs.entries_fault.Statement.{statement}
+use Rattle.frame_faults.proofs.entries_fault.Tie as tie
 
 abbrev Inv-loop : tie.InvT-loop
 Inv-loop bytes first width least entries at₀ left₀ at left =

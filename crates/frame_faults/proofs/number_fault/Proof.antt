@@ -4,9 +4,9 @@ use mathlib.Core.Path.{_≡_, sym, ap, _∙_}
 use native.Mathlib.Omega.{arith}
 use Rattle.fields.specs.Bits.{fieldAt}
 use Rattle.fields.specs.ByBytes.{field-by-bytes}
 use Rattle.formats.specs.Judging.{number-cut, number-low, number-right}
-use Rattle.formats.proofs.reading.number_fault.Statement.{statement}
-use Rattle.formats.proofs.reading.number_fault.Tie as tie
+use Rattle.frame_faults.proofs.number_fault.Statement.{statement}
+use Rattle.frame_faults.proofs.number_fault.Tie as tie
 
 returns : tie.Need-returns
 returns c = let a = c .before .before .args in number-cut (a .bytes .now) (a .at) (a .width) (a .least) (c .if1 .taken)

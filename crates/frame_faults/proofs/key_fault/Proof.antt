@@ -5,9 +5,9 @@ use native.Mathlib.Omega.{arith}
 use Rattle.fields.specs.Bits.{fieldAt}
 use Rattle.fields.specs.ByBytes.{field-by-bytes}
 use Rattle.frame_table.specs.Entry.{keyBits}
 use Rattle.formats.specs.Judging.{key-cut, key-counted, key-none, key-broken}
-use Rattle.formats.proofs.reading.key_fault.Statement.{statement}
-use Rattle.formats.proofs.reading.key_fault.Tie as tie
+use Rattle.frame_faults.proofs.key_fault.Statement.{statement}
+use Rattle.frame_faults.proofs.key_fault.Tie as tie
 
 returns : tie.Need-returns
 returns c = let a = c .before .before .args in key-cut (a .bytes .now) (a .at) (c .if1 .taken)

@@ -1,9 +1,9 @@
 -- The entries' fault, or else that of what stands behind them; entries without a fault lie within the bytes.
 use borrow.Author.Needs.{needs}
 use mathlib.Core.Path.{sym, _∙_}
 use Rattle.formats.specs.Judging.{rest-first, rest-second, entries-inside}
-use Rattle.formats.proofs.reading.rest_fault.Statement.{statement}
-use Rattle.formats.proofs.reading.rest_fault.Tie as tie
+use Rattle.frame_faults.proofs.rest_fault.Statement.{statement}
+use Rattle.frame_faults.proofs.rest_fault.Tie as tie
 
 returns : tie.Need-returns
 returns c =

@@ -4,9 +4,9 @@ use mathlib.Core.Path.{_≡_, _∙_}
 use native.Mathlib.Omega.{arith}
 use Rattle.fields.specs.Bits.{fieldAt}
 use Rattle.fields.specs.ByBytes.{field-by-bytes}
 use Rattle.formats.specs.Reading.{took-cut, took-is, fault-low, fault-high, fault-none}
-use Rattle.formats.proofs.reading.take.Statement.{statement}
-use Rattle.formats.proofs.reading.take.Tie as tie
+use Rattle.format_reading.proofs.take.Statement.{statement}
+use Rattle.format_reading.proofs.take.Tie as tie
 
 returns : tie.Need-returns
 returns c = let a = c .before .before .args in took-cut (a .bytes .now) (a .at) (a .field) (c .if1 .taken)

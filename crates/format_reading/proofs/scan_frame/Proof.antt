@@ -6,18 +6,18 @@ use Prim.Native.Nat.{ℕ, _+_, _-_}
 use native.Mathlib.Omega.{arith}
 use lib.ListN.{getD, length-replicate}
 use Rattle.fields.specs.ByBytes.{field-by-bytes}
 use Rattle.formats.specs.declared.state.State.{State}
 use Rattle.frame_table.specs.declared.Shape.{Shape}
 use Rattle.frame_table.specs.Table.{manyPlace, entryPlace, badgePlace, numberPlace, fixedFields, entriesIn}
 use Rattle.frame_table.specs.TableLaws.{target-is}
 use Rattle.formats.specs.FormatLaws.{Rowed, rowed-start, rowed-tells, next-place, place-inner}
 use Rattle.frame_table.specs.Entry.{behindOf, Slim}
 use Rattle.formats.specs.EntryFields.{Ahead}
 use Rattle.frame_table.specs.TableLaws.{sort-known}
 use Rattle.formats.specs.Reading.{scanOf, Come, Said, come-none, come-unknown, come-start, turn-fault, turn-on, turn-rowed, turn-said}
 use Rattle.formats.specs.Judging.{entries-said, behind-limits, said-few, rest-asked, rest-refused, rest-read}
-use Rattle.formats.proofs.reading.scan_frame.Statement.{statement}
-use Rattle.formats.proofs.reading.scan_frame.Tie as tie
+use Rattle.format_reading.proofs.scan_frame.Statement.{statement}
+use Rattle.format_reading.proofs.scan_frame.Tie as tie
 
 abbrev Inv-loop : tie.InvT-loop
 Inv-loop bytes kind row fixed₀ state₀ at₀ fixed state at =

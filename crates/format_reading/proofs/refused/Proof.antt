@@ -1,8 +1,8 @@
 -- A refusal tells its number alone.
 use mathlib.Core.Path.{refl}
 use Rattle.formats.specs.Reading.{scanOf}
-use Rattle.formats.proofs.reading.refused.Statement.{statement}
-use Rattle.formats.proofs.reading.refused.Tie as tie
+use Rattle.format_reading.proofs.refused.Statement.{statement}
+use Rattle.format_reading.proofs.refused.Tie as tie
 
 returns : tie.Need-returns
 unfolding scanOf
