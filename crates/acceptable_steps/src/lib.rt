@@ -13,6 +13,7 @@ ghost use Rattle.workload.specs.Accepts.{accepts};
 ghost use Rattle.workload.specs.Ready.{Searched, Logged, Served, Scanned};
 use keys::Key;
 use rules::states;
+use tables::clients;
 use tables::counts;
 use tables::links;
 use tables::links::Contents;

@@ -1,6 +1,7 @@
 // The load's steps by number, and which of so many a seed picks.
 ghost use mathlib.Core.Path.{_≡_};
-ghost use Prim.Native.Nat.{_/_, _≤_, _<_};
+ghost use mathlib.Core.List.{List};
+ghost use Prim.Native.Nat.{ℕ, _/_, _≤_, _<_};
 ghost use Rattle.tables.specs.Layout.{countAt, clientsField};
 ghost use Rattle.workload.specs.declared.Next.the-variants.{Given};
 ghost use Rattle.workload.specs.Load.{advance, indexBy, numbered, numberedCount};

@@ -7,6 +7,7 @@ ghost use Rattle.playing.specs.Played.{showing, arrivedPlayed, maskOrZero, play
 ghost use Rattle.playing.specs.Playable.{Playable};
 use playing::Shown;
 use printing::Word;
+use rules::Delivered;
 use schedule::Step;
 use tables::counts::METHOD;
 
@@ -28,7 +29,7 @@ fn deliver_reply(
         ≡ arrivedPlayed (maskOrZero (now (clients .entry)) client) (deliverReply client target (tablesOf (now (counts .entry)) (now (clients .entry)) (now (links .entry)) (now (keys .entry)) (now (values .entry)) (now (log .entry)) (now (writes .entry)) (now (reads .entry)))) ⌝ }
 {
     let mask = step_showing::mask_of(&*clients, client);
-    let delivered = sound_steps::deliver_reply_sound(
+    let delivered: Delivered = sound_steps::deliver_reply_sound(
         counts,
         clients,
         links,
