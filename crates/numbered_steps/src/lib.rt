@@ -5,6 +5,7 @@ ghost use Prim.Native.Nat.{ℕ, _/_, _≤_, _<_};
 ghost use Rattle.tables.specs.Layout.{countAt, clientsField};
 ghost use Rattle.workload.specs.declared.Next.the-variants.{Given};
 ghost use Rattle.workload.specs.Load.{advance, indexBy, numbered, numberedCount};
+ghost use Rattle.workload.specs.Accepts.{seen};
 ghost use Rattle.workload.specs.Ready.{Numberable};
 use schedule::Step;
 use tables::clients;
