@@ -7,6 +7,7 @@ ghost use Rattle.tables.specs.Tables.{tablesOf};
 ghost use Rattle.soundness.specs.Facts.{Sound};
 ghost use Rattle.workload.specs.Load.{loadPlayed};
 ghost use Rattle.workload_run.specs.Run.{stepWidth, taken, takeStep, begun, running, pickOne, load, loaded, ended, playLoad};
+use playing::Shown;
 use schedule::Step;
 use tables::counts;
 use workload::LoadStep;
@@ -35,7 +36,7 @@ fn play_given(
     let servers = counts::count_at(counts, counts::SERVERS) as usize;
     let setpoints = [picked.setpoint; 16];
     let step: Step = picked.step;
-    step_playing::play_step(
+    let _shown: Shown = step_playing::play_step(
         counts,
         clients,
         links,
