@@ -29,5 +29,5 @@ pub play-line-spec : {M : Type 1} → statement M
 play-line-spec =
     tie.close
     (tie.spec
-    (λ c κs. search needs) print-shown-requires (λ c. search needs) (λ c. search needs) (λ c. search needs) (λ c. search needs)
-    (λ c. search needs) (λ c. search needs) (λ c. search needs) (λ c. search needs) (λ c. search needs) (λ c. search needs) returns)
+    (λ c κs. search needs) print-shown-requires (λ c. search) (λ c. search) (λ c. search) (λ c. search)
+    (λ c. search) (λ c. search) (λ c. search) (λ c. search) (λ c. search) (λ c. search) returns)

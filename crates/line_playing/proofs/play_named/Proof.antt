@@ -34,5 +34,5 @@ play-named-spec =
     tie.close
     (tie.spec
     (λ c κs. search needs) slice-reshare-prefix-play-step slice-aggregate-play-step (λ c κs. search needs)
-    (λ c. search needs) (λ c. search needs) (λ c. search needs) (λ c. search needs) (λ c. search needs)
-    (λ c. search needs) (λ c. search needs) (λ c. search needs) (λ c. search needs) returns)
+    (λ c. search) (λ c. search) (λ c. search) (λ c. search) (λ c. search)
+    (λ c. search) (λ c. search) (λ c. search) (λ c. search) returns)

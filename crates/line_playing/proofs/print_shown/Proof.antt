@@ -42,6 +42,6 @@ pub print-shown-spec : {M : Type 1} → statement M
 print-shown-spec =
     tie.close
     (tie.spec
-    (λ c κs. search needs) (λ c κs. search needs) (λ c. search needs) returns
+    (λ c κs. search needs) (λ c κs. search needs) (λ c. search) returns
     slice-aggregate-print-answer slice-aggregate-print-answer-2 slice-aggregate-print-answer-3 print-answer-requires
-    (λ c. search needs) (λ c. search needs))
+    (λ c. search) (λ c. search))

@@ -53,6 +53,6 @@ returns-2 c =
 pub begin-load-spec : {M : Type 1} → statement M
 begin-load-spec =
     tie.close
-    (tie.spec (λ c. search needs) (λ c κs. search needs) (λ c. search needs) (λ c κs. search needs) array-share-prefix-zeros
-    slice-aggregate-open (λ c κs. search needs) print-opening-requires (λ c. search needs) returns (λ c. search needs) (λ c. search needs)
-    (λ c. search needs) (λ c. search needs) (λ c. search needs) (λ c. search needs) (λ c. search needs) returns-2)
+    (tie.spec (λ c. search) (λ c κs. search needs) (λ c. search) (λ c κs. search needs) array-share-prefix-zeros
+    slice-aggregate-open (λ c κs. search needs) print-opening-requires (λ c. search) returns (λ c. search) (λ c. search)
+    (λ c. search) (λ c. search) (λ c. search) (λ c. search) (λ c. search) returns-2)

@@ -45,5 +45,5 @@ pub give-step-spec : {M : Type 1} → statement M
 give-step-spec =
     tie.close
     (tie.spec (λ c κs. search needs) (λ c κs. search needs) (λ c κs. search needs) print-next-requires
-    (λ c. search needs) (λ c. search needs) (λ c. search needs) (λ c. search needs) (λ c. search needs)
-    (λ c. search needs) (λ c. search needs) (λ c. search needs) (λ c. search needs) returns)
+    (λ c. search) (λ c. search) (λ c. search) (λ c. search) (λ c. search)
+    (λ c. search) (λ c. search) (λ c. search) (λ c. search) returns)

@@ -78,9 +78,9 @@ pub print-load-spec : {M : Type 1} → statement M
 print-load-spec =
     tie.close
     (tie.spec Inv-loop μ-loop
-    (λ c. search needs) (λ c κs. search needs) (λ c. search needs) (λ c. search needs) (λ c κs. search needs) (λ c κs. search needs)
-    (λ c. search needs) (λ c. search needs) (λ c. search needs) (λ c. search needs) (λ c. search needs)
-    (λ c. search needs) (λ c. search needs) (λ c. search needs) (λ c. search needs) (λ c κs. search needs) loop-holds
-    (λ c. search needs) (λ c. search needs) (λ c. search needs) (λ c. search needs) (λ c. search needs)
-    (λ c. search needs) (λ c. search needs) (λ c. search needs) (λ c. search needs) give-step-requires loop-less loop-again
-    (λ c. search needs) slice-aggregate-write-all (λ c κs. search needs) (λ c. search needs))
+    (λ c. search) (λ c κs. search needs) (λ c. search) (λ c. search) (λ c κs. search needs) (λ c κs. search needs)
+    (λ c. search) (λ c. search) (λ c. search) (λ c. search) (λ c. search)
+    (λ c. search) (λ c. search) (λ c. search) (λ c. search) (λ c κs. search needs) loop-holds
+    (λ c. search) (λ c. search) (λ c. search) (λ c. search) (λ c. search)
+    (λ c. search) (λ c. search) (λ c. search) (λ c. search) give-step-requires loop-less loop-again
+    (λ c. search) slice-aggregate-write-all (λ c κs. search needs) (λ c. search))

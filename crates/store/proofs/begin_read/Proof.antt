@@ -17,4 +17,4 @@ begin-read-sound-requires c κs = let a = c .before .before .before .before .bef
 pub begin-read-spec : {M : Type 1} → statement M
 begin-read-spec =
     tie.close
-    (tie.spec (λ c κs. search needs) (λ c. search needs) (λ c. search needs) (λ c. search needs) (λ c. search needs) returns begin-read-sound-requires (λ c. search needs) (λ c. search needs) (λ c. search needs) (λ c. search needs) (λ c. search needs))
+    (tie.spec (λ c κs. search needs) (λ c. search) (λ c. search) (λ c. search) (λ c. search) returns begin-read-sound-requires (λ c. search) (λ c. search) (λ c. search) (λ c. search) (λ c. search))

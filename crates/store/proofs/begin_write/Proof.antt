@@ -21,4 +21,4 @@ begin-write-sound-requires c κs = let a = c .before .before .before .before .be
 pub begin-write-spec : {M : Type 1} → statement M
 begin-write-spec =
     tie.close
-    (tie.spec (λ c κs. search needs) (λ c. search needs) (λ c. search needs) (λ c. search needs) (λ c. search needs) returns begin-write-sound-requires (λ c. search needs) (λ c. search needs) (λ c. search needs) (λ c. search needs) (λ c. search needs))
+    (tie.spec (λ c κs. search needs) (λ c. search) (λ c. search) (λ c. search) (λ c. search) returns begin-write-sound-requires (λ c. search) (λ c. search) (λ c. search) (λ c. search) (λ c. search))

@@ -27,5 +27,5 @@ lose-sound-requires c κs =
 pub lose-spec : {M : Type 1} → statement M
 lose-spec =
     tie.close
-    (tie.spec (λ c κs. search needs) (λ c. search needs) (λ c. search needs) returns lose-sound-requires (λ c. search needs)
-    (λ c. search needs) (λ c. search needs))
+    (tie.spec (λ c κs. search needs) (λ c. search) (λ c. search) returns lose-sound-requires (λ c. search)
+    (λ c. search) (λ c. search))

@@ -27,5 +27,5 @@ resend-sound-requires c κs =
 pub resend-spec : {M : Type 1} → statement M
 resend-spec =
     tie.close
-    (tie.spec (λ c κs. search needs) (λ c. search needs) (λ c. search needs) returns resend-sound-requires (λ c. search needs)
-    (λ c. search needs) (λ c. search needs))
+    (tie.spec (λ c κs. search needs) (λ c. search) (λ c. search) returns resend-sound-requires (λ c. search)
+    (λ c. search) (λ c. search))

@@ -59,9 +59,9 @@ pub replay-spec : {M : Type 1} → statement M
 replay-spec =
     tie.close
     (tie.spec
-    Inv-loop μ-loop loop-holds (λ c. search needs) (λ c. search needs) (λ c. search needs) (λ c. search needs) (λ c. search needs)
-    (λ c. search needs) (λ c. search needs) (λ c. search needs) (λ c. search needs) (λ c. search needs) (λ c. search needs)
-    turn-requires loop-less loop-again (λ c. search needs) slice-aggregate-write-all (λ c κs. search needs) (λ c. search needs)
-    (λ c. search needs) (λ c. search needs) (λ c. search needs) (λ c. search needs) (λ c. search needs) (λ c. search needs)
-    (λ c. search needs) (λ c. search needs) print-end-requires array-share-prefix-out-2 slice-aggregate-write-all-2
-    (λ c κs. search needs) (λ c. search needs))
+    Inv-loop μ-loop loop-holds (λ c. search) (λ c. search) (λ c. search) (λ c. search) (λ c. search)
+    (λ c. search) (λ c. search) (λ c. search) (λ c. search) (λ c. search) (λ c. search)
+    turn-requires loop-less loop-again (λ c. search needs) slice-aggregate-write-all (λ c κs. search needs) (λ c. search)
+    (λ c. search) (λ c. search) (λ c. search) (λ c. search) (λ c. search) (λ c. search)
+    (λ c. search) (λ c. search) print-end-requires array-share-prefix-out-2 slice-aggregate-write-all-2
+    (λ c κs. search needs) (λ c. search))

@@ -78,7 +78,7 @@ pub turn-spec : {M : Type 1} → statement M
 turn-spec =
     tie.close
     (tie.spec
-    (λ c. search needs) slice-aggregate-line-at (λ c κs. search needs) (λ c. search needs) (λ c κs. search needs) read-on-requires
-    (λ c. search needs) returns (λ c κs. search needs) answer-line-requires
-    (λ c. search needs) (λ c. search needs) (λ c. search needs) (λ c. search needs) (λ c. search needs) (λ c. search needs)
-    (λ c. search needs) (λ c. search needs) (λ c. search needs) (λ c. search needs) (λ c. search needs) returns-2)
+    (λ c. search needs) slice-aggregate-line-at (λ c κs. search needs) (λ c. search) (λ c κs. search needs) read-on-requires
+    (λ c. search) returns (λ c κs. search needs) answer-line-requires
+    (λ c. search) (λ c. search) (λ c. search) (λ c. search) (λ c. search) (λ c. search)
+    (λ c. search) (λ c. search) (λ c. search) (λ c. search) (λ c. search) returns-2)

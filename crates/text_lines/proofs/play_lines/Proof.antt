@@ -129,6 +129,6 @@ returns c =
 pub play-lines-spec : {M : Type 1} → statement M
 play-lines-spec =
     tie.close
-    (tie.spec Inv-loop μ-loop loop-holds (λ c κs. search needs) add-play-line (λ c. search needs) play-line-requires add-start add-start-2 add-lines
-    loop-less loop-again (λ c. search needs) (λ c. search needs) (λ c. search needs) (λ c. search needs) (λ c. search needs)
-    (λ c. search needs) (λ c. search needs) (λ c. search needs) (λ c. search needs) returns)
+    (tie.spec Inv-loop μ-loop loop-holds (λ c κs. search needs) add-play-line (λ c. search) play-line-requires add-start add-start-2 add-lines
+    loop-less loop-again (λ c. search) (λ c. search) (λ c. search) (λ c. search) (λ c. search)
+    (λ c. search) (λ c. search) (λ c. search) (λ c. search) returns)
