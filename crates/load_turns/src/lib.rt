@@ -96,7 +96,7 @@ pub fn give_step(
 {
     let at = window::room_from(run.used, &*out);
     let servers = counts::count_at(&*counts, counts::SERVERS);
-    let next: Next = load_run::take_step(
+    let next: Next = load_steps::take_step(
         counts,
         clients,
         links,

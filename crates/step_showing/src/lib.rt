@@ -1,14 +1,13 @@
-// What is shown of a step, by its answer; and the steps before any opening, which change nothing but where they open.
+// What is shown of a step, by its answer.
 ghost use mathlib.Core.Path.{_≡_};
-ghost use Rattle.tables.specs.Tables.{Tables, tablesOf, methodOf};
+ghost use Rattle.tables.specs.Tables.{Tables};
 ghost use Rattle.rules.specs.Answers.{left, arrived};
-ghost use Rattle.playing.specs.Played.{answerWord, arrivalWord, showing, noted, plainly, leftPlayed, arrivedPlayed, maskOrZero, played};
+ghost use Rattle.playing.specs.Played.{answerWord, arrivalWord, showing, noted, plainly, leftPlayed, arrivedPlayed, maskOrZero};
 use playing::Shown;
 use printing::Word;
 use rules::Answer;
 use rules::Arrival;
 use rules::Delivered;
-use schedule::Step;
 use tables::clients::MASK;
 use tables::clients::WIDTH;
 
@@ -36,7 +35,7 @@ fn arrival_word(arrival: Arrival) -> Word
 }
 
 // What is printed of a step that shows nothing.
-fn noted(word: Word, mask: u32) -> Shown
+pub fn noted(word: Word, mask: u32) -> Shown
     ensures { λ r. ⌜ r ≡ noted word mask ⌝ }
 {
     Shown {
@@ -88,50 +87,4 @@ pub fn mask_of(clients: &[u32], client: u32) -> u32
         return 0;
     }
     tables::clients::client_word(clients, row, MASK)
-}
-
-// One step before any opening: a readable one but an opening is 2.
-pub fn play_unopened(
-    counts: &mut [u32],
-    clients: &mut [u32],
-    links: &mut [u32],
-    keys: &mut [u32],
-    values: &mut [u32],
-    log: &mut [u32],
-    writes: &mut [u32],
-    reads: &mut [u32],
-    step: Step,
-    setpoints: &[u32],
-) -> Shown
-    requires { ⌜ methodOf (tablesOf (now counts) (now clients) (now links) (now keys) (now values) (now log) (now writes) (now reads)) ≡ 0 ⌝ }
-    ensures { λ r. ⌜ showing r (tablesOf (now (counts .exit)) (now (clients .exit)) (now (links .exit)) (now (keys .exit)) (now (values .exit)) (now (log .exit)) (now (writes .exit)) (now (reads .exit)))
-        ≡ played step (now (setpoints .entry)) (tablesOf (now (counts .entry)) (now (clients .entry)) (now (links .entry)) (now (keys .entry)) (now (values .entry)) (now (log .entry)) (now (writes .entry)) (now (reads .entry))) ⌝ }
-{
-    match step {
-        Step::Unreadable => plain(Word::No(13)),
-        Step::Open(method, servers, panels) => answered(sound_steps::open(
-            counts,
-            clients,
-            links,
-            keys,
-            values,
-            log,
-            &*writes,
-            &*reads,
-            method,
-            servers,
-            panels,
-            setpoints,
-        )),
-        Step::BeginWrite(_, _, _) => plain(Word::No(2)),
-        Step::BeginRead(_, _) => plain(Word::No(2)),
-        Step::Request(_, _) => plain(Word::No(2)),
-        Step::Reply(client, _) => {
-            // A delivered reply has its client's mask beside it, refused or not.
-            let mask = mask_of(&*clients, client);
-            noted(Word::No(2), mask)
-        }
-        Step::Lose(_, _) => plain(Word::No(2)),
-        Step::Resend(_, _) => plain(Word::No(2)),
-    }
 }

@@ -3,8 +3,8 @@ use Rattle.playing.specs.Played.{played}
 use Rattle.playing.specs.PlayedLaws.{left-played}
 use Rattle.playing.specs.PlayableLaws.{begin-write-early, begin-read-early, request-early, reply-early, lose-early, resend-early}
 use borrow.Author.Needs.{needs}
-use Rattle.step_showing.proofs.play_unopened.Statement.{statement}
-use Rattle.step_showing.proofs.play_unopened.Tie as tie
+use Rattle.unopened_playing.proofs.play_unopened.Statement.{statement}
+use Rattle.unopened_playing.proofs.play_unopened.Tie as tie
 
 returns : tie.Need-returns
 unfolding played
@@ -52,17 +52,17 @@ pub play-unopened-spec : {M : Type 1} → statement M
 play-unopened-spec =
     tie.close
     (tie.spec
-    (λ c. search needs) (λ c κs. search needs)
-    (λ c. search needs) (λ c κs. search needs) (λ c κs. search needs)
-    (λ c. search needs) (λ c κs. search needs)
-    (λ c. search needs) (λ c κs. search needs)
-    (λ c. search needs) (λ c κs. search needs)
-    (λ c. search needs) (λ c κs. search needs) (λ c κs. search needs)
-    (λ c. search needs) (λ c κs. search needs)
-    (λ c. search needs) (λ c κs. search needs)
+    (λ c. search) (λ c κs. search needs)
+    (λ c. search) (λ c κs. search needs) (λ c κs. search needs)
+    (λ c. search) (λ c κs. search needs)
+    (λ c. search) (λ c κs. search needs)
+    (λ c. search) (λ c κs. search needs)
+    (λ c. search) (λ c κs. search needs) (λ c κs. search needs)
+    (λ c. search) (λ c κs. search needs)
+    (λ c. search) (λ c κs. search needs)
     returns
-    (λ c. search needs) (λ c. search needs) (λ c. search needs) (λ c. search needs)
-    (λ c. search needs) (λ c. search needs) (λ c. search needs) (λ c. search needs) returns-2
+    (λ c. search) (λ c. search) (λ c. search) (λ c. search)
+    (λ c. search) (λ c. search) (λ c. search) (λ c. search) returns-2
     returns-3 returns-4 returns-5
-    (λ c. search needs) returns-6
+    (λ c. search) returns-6
     returns-7 returns-8)

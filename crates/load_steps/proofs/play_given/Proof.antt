@@ -1,4 +1,4 @@
--- `load_run::play_given` meets its contract: the setpoint stands for each server, and the step is played as a line.
+-- `load_steps::play_given` meets its contract: the setpoint stands for each server, and the step is played as a line.
 use lib.Seq.{length-take-le}
 use lib.ListN.{replicate}
 use mathlib.Core.Path.{sym}
@@ -7,8 +7,8 @@ use Rattle.soundness.specs.Room.{few-servers}
 use Rattle.tables.specs.Tables.{tablesOf}
 use native.Mathlib.Omega.{arith}
 use borrow.Author.Needs.{needs}
-use Rattle.load_run.proofs.play_given.Statement.{statement}
-use Rattle.load_run.proofs.play_given.Tie as tie
+use Rattle.load_steps.proofs.play_given.Statement.{statement}
+use Rattle.load_steps.proofs.play_given.Tie as tie
 
 slice-aggregate-play-step : tie.Need-slice-aggregate-play-step
 slice-aggregate-play-step c =
@@ -57,12 +57,12 @@ play-given-spec =
     (λ c. search needs)
     slice-aggregate-play-step
     (λ c κs. search needs)
-    (λ c. search needs)
-    (λ c. search needs)
-    (λ c. search needs)
-    (λ c. search needs)
-    (λ c. search needs)
-    (λ c. search needs)
-    (λ c. search needs)
-    (λ c. search needs)
+    (λ c. search)
+    (λ c. search)
+    (λ c. search)
+    (λ c. search)
+    (λ c. search)
+    (λ c. search)
+    (λ c. search)
+    (λ c. search)
     returns)
