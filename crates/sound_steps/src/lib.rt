@@ -2,45 +2,22 @@
 // say. But for the opening they ask for sound tables and do not check them: who has opened a store and keeps its tables to himself calls
 // these. `store` has the same steps on any tables.
 ghost use mathlib.Core.Path.{_≡_};
-ghost use mathlib.Core.Bool.{_&&_};
-ghost use lib.Dec.{eqb};
 ghost use lib.ListN.{replicate};
 ghost use Rattle.tables.specs.Tables.{tablesOf};
 ghost use Rattle.rules.specs.Answers.{left, arrived};
 ghost use Rattle.soundness.specs.Facts.{Sound};
-ghost use Rattle.refusals.specs.Refusals.{pressOpens};
 ghost use Rattle.sound_steps.specs.Replies.{Replied};
 ghost use Rattle.refusals.specs.Steps.{open′, beginWrite, beginRead, deliverRequest, deliverReply, lose, resend};
+use refusal_tests::openings;
 use replies::Outcome;
 use rules::Answer;
 use rules::Arrival;
 use rules::Delivered;
 use rules::states;
 use sound_lengths::lengths;
-use sound_numbers::scalars;
 use step_parts::words;
 use tables::clients;
 use tables::links;
-
-// Whether a press may be opened: its method is not retired, and method, servers and clients fit.
-fn opens_press(method: u32, servers: u32, panels: u32) -> bool
-    ensures { λ r. ⌜ r ≡ pressOpens method servers panels ⌝ }
-{
-    if refusal_tests::is_retired(method) {
-        return false;
-    }
-    scalars::press_fits(method, servers, panels)
-}
-
-// Whether a press may be opened, and there is a setpoint for each server.
-fn fits_press(method: u32, servers: u32, panels: u32, given: usize) -> bool
-    ensures { λ r. ⌜ r ≡ (pressOpens method servers panels && eqb given servers) ⌝ }
-{
-    if opens_press(method, servers, panels) {
-        return given == servers as usize;
-    }
-    false
-}
 
 // Opens the store: refused by 1 or 2. Old contents need not be sound. The number of clients is called panels here, since clients are their
 // rows.
@@ -61,7 +38,7 @@ pub fn open(
     ensures { λ r. ⌜ left r (tablesOf (now (counts .exit)) (now (clients .exit)) (now (links .exit)) (now (keys .exit)) (now (values .exit)) (now (log .exit)) (now (writes .entry)) (now (reads .entry)))
         ≡ open′ method servers panels (now (setpoints .entry)) (tablesOf (now (counts .entry)) (now (clients .entry)) (now (links .entry)) (now (keys .entry)) (now (values .entry)) (now (log .entry)) (now (writes .entry)) (now (reads .entry))) ⌝ }
 {
-    if !fits_press(method, servers, panels, setpoints.len()) {
+    if !openings::fits_press(method, servers, panels, setpoints.len()) {
         return Answer::Refused(1);
     }
     if !lengths::long_enough(

@@ -1,8 +1,8 @@
--- `sound_steps::fits_press` meets its contract: each way out is one value of the first test.
+-- `refusal_tests::openings::fits_press` meets its contract: each way out is one value of the first test.
 use mathlib.Core.Path.{sym, _∙_}
 use borrow.Author.Needs.{needs}
-use Rattle.sound_steps.proofs.fits_press.Statement.{statement}
-use Rattle.sound_steps.proofs.fits_press.Tie as tie
+use Rattle.refusal_tests.proofs.openings.fits_press.Statement.{statement}
+use Rattle.refusal_tests.proofs.openings.fits_press.Tie as tie
 
 returns : tie.Need-returns
 returns c = rw (sym (c .before .opens-press .ensures) ∙ c .if1 .taken)

@@ -1,8 +1,8 @@
--- `sound_steps::opens_press` meets its contract: each way out is one value of the first test.
+-- `refusal_tests::openings::opens_press` meets its contract: each way out is one value of the first test.
 use mathlib.Core.Path.{sym, _∙_}
 use borrow.Author.Needs.{needs}
-use Rattle.sound_steps.proofs.opens_press.Statement.{statement}
-use Rattle.sound_steps.proofs.opens_press.Tie as tie
+use Rattle.refusal_tests.proofs.openings.opens_press.Statement.{statement}
+use Rattle.refusal_tests.proofs.openings.opens_press.Tie as tie
 
 returns : tie.Need-returns
 returns c = rw (sym (c .before .is-retired .ensures) ∙ c .if1 .taken)
