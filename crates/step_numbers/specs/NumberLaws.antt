@@ -5,8 +5,8 @@ use Rattle.tables.specs.Tables.{Tables}
 use Rattle.rules.specs.declared.Answer.{Answer}
 use Rattle.rules.specs.declared.Delivered.{Delivered}
 use Rattle.rules.specs.Answers.{Left, left, Arrived, arrived}
-use Rattle.store_exports.specs.Numbers.{answerNumber, crossingOf, numbered, inNumbers, crossed, inCrossing}
-use Rattle.store_exports.specs.declared.Crossing.{Crossing}
+use Rattle.step_numbers.specs.Numbers.{answerNumber, crossingOf, numbered, inNumbers, crossed, inCrossing}
+use Rattle.step_numbers.specs.declared.Crossing.{Crossing}
 
 pub answered : {n : ℕ} {a : Answer} {t : Tables} {l : Left} → n ≡ answerNumber a → left a t ≡ l → numbered n t ≡ inNumbers l
 answered {t = t} same leaves = ap (λ m. numbered m t) same ∙ ap inNumbers leaves

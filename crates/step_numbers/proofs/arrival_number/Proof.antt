@@ -1,7 +1,7 @@
--- `store_exports::arrival_number` meets its contract: each answer is its number, with its tag added where it has one.
+-- `step_numbers::arrival_number` meets its contract: each answer is its number, with its tag added where it has one.
 use borrow.Author.Needs.{needs}
-use Rattle.store_exports.proofs.arrival_number.Statement.{statement}
-use Rattle.store_exports.proofs.arrival_number.Tie as tie
+use Rattle.step_numbers.proofs.arrival_number.Statement.{statement}
+use Rattle.step_numbers.proofs.arrival_number.Tie as tie
 
 returns-3 : tie.Need-returns-3
 returns-3 c = rw (c .before .arrival .given .1)

@@ -7,7 +7,7 @@ use Rattle.rules.specs.declared.Arrival.{Arrival}
 use Rattle.rules.specs.declared.Arrival.the-variants as arrival
 use Rattle.rules.specs.declared.Delivered.{Delivered}
 use Rattle.rules.specs.Answers.{Left, Arrived}
-use Rattle.store_exports.specs.declared.Crossing.{Crossing}
+use Rattle.step_numbers.specs.declared.Crossing.{Crossing}
 
 -- 0 for ok, or the number of the refusal
 abbrev pub answerNumber : Answer → ℕ

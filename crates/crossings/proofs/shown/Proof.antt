@@ -1,7 +1,7 @@
--- `sound_exports::shown` meets its contract: the number is the arrival's, and the two rows are what the client's row shows.
+-- `crossings::shown` meets its contract: the number is the arrival's, and the two rows are what the client's row shows.
 use borrow.Author.Needs.{needs}
-use Rattle.sound_exports.proofs.shown.Statement.{statement}
-use Rattle.sound_exports.proofs.shown.Tie as tie
+use Rattle.crossings.proofs.shown.Statement.{statement}
+use Rattle.crossings.proofs.shown.Tie as tie
 
 returns : tie.Need-returns
 returns c = λ e.
