@@ -11,8 +11,8 @@ use Rattle.workload.specs.declared.Next.the-variants as next
 use Rattle.workload_run.specs.declared.Load.{Load}
 use Rattle.workload_run.specs.declared.Load.the-variants as load
 use Rattle.workload_run.specs.Run.{stepWords, Loaded, loaded, playLoad}
-use Rattle.workload_exports.specs.declared.LoadPick.{LoadPick}
-use Rattle.workload_exports.specs.declared.LoadEnd.{LoadEnd}
+use Rattle.load_numbers.specs.declared.LoadPick.{LoadPick}
+use Rattle.load_numbers.specs.declared.LoadEnd.{LoadEnd}
 
 -- a step with the seed behind it, by the words of its row in a list
 abbrev pub pickWords : ℕ → List ℕ → LoadPick

@@ -1,8 +1,8 @@
--- `workload_exports::given_pick` meets its contract: each kind of step is its row of words.
-use Rattle.workload_exports.specs.Numbers.{given-by}
+-- `load_numbers::given_pick` meets its contract: each kind of step is its row of words.
+use Rattle.load_numbers.specs.Numbers.{given-by}
 use borrow.Author.Needs.{needs}
-use Rattle.workload_exports.proofs.given_pick.Statement.{statement}
-use Rattle.workload_exports.proofs.given_pick.Tie as tie
+use Rattle.load_numbers.proofs.given_pick.Statement.{statement}
+use Rattle.load_numbers.proofs.given_pick.Tie as tie
 
 returns : tie.Need-returns
 returns c =

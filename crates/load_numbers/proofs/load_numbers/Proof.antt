@@ -1,9 +1,9 @@
--- `workload_exports::load_numbers` meets its contract: each answer has its numbers.
-use Rattle.workload_exports.specs.Numbers.{load-by}
+-- `load_numbers::load_numbers` meets its contract: each answer has its numbers.
+use Rattle.load_numbers.specs.Numbers.{load-by}
 use mathlib.Core.Path.{refl}
 use borrow.Author.Needs.{needs}
-use Rattle.workload_exports.proofs.load_numbers.Statement.{statement}
-use Rattle.workload_exports.proofs.load_numbers.Tie as tie
+use Rattle.load_numbers.proofs.load_numbers.Statement.{statement}
+use Rattle.load_numbers.proofs.load_numbers.Tie as tie
 
 returns : tie.Need-returns
 returns c = load-by (c .before .before .before .args .seed) (c .before .load .given .1) refl

@@ -1,8 +1,8 @@
--- `workload_exports::next_numbers` meets its contract: each case of a pick has its numbers.
-use Rattle.workload_exports.specs.Numbers.{next-by}
+-- `load_numbers::next_numbers` meets its contract: each case of a pick has its numbers.
+use Rattle.load_numbers.specs.Numbers.{next-by}
 use borrow.Author.Needs.{needs}
-use Rattle.workload_exports.proofs.next_numbers.Statement.{statement}
-use Rattle.workload_exports.proofs.next_numbers.Tie as tie
+use Rattle.load_numbers.proofs.next_numbers.Statement.{statement}
+use Rattle.load_numbers.proofs.next_numbers.Tie as tie
 
 returns : tie.Need-returns
 returns c = next-by (c .before .before .before .before .args .seed) (c .before .before .next .given .1) (c .no-pick .ensures)
