@@ -7,7 +7,7 @@ ghost use Rattle.tables.specs.Tables.{tablesOf};
 ghost use Rattle.soundness.specs.Facts.{Sound};
 ghost use Rattle.refusals.specs.Steps.{beginWrite, beginRead, deliverRequest, deliverReply, lose, resend};
 ghost use Rattle.step_numbers.specs.Numbers.{numbered, inNumbers, crossed, inCrossing};
-use replies::Outcome;
+use reply_parts::Outcome;
 use rules::Answer;
 use step_numbers::Crossing;
 

@@ -9,7 +9,7 @@ ghost use Rattle.soundness.specs.Facts.{Sound};
 ghost use Rattle.sound_steps.specs.Replies.{Replied};
 ghost use Rattle.refusals.specs.Steps.{open′, beginWrite, beginRead, deliverRequest, deliverReply, lose, resend};
 use refusal_tests::openings;
-use replies::Outcome;
+use reply_parts::Outcome;
 use rules::Answer;
 use rules::Arrival;
 use rules::Delivered;
@@ -191,33 +191,49 @@ pub fn take_reply(
 {
     let fault = refusal_tests::delivery_fault(&*counts, client, target);
     if fault != 0 {
-        return replies::plain(Arrival::Refused(fault));
+        return reply_parts::plain(Arrival::Refused(fault));
     }
     let client = client as usize;
     let target = target as usize;
     let link = links::link_at(&*links, client, target);
     let content = link.content;
     let links::Content::Reply(contents) = content else {
-        return replies::plain(Arrival::Refused(9));
+        return reply_parts::plain(Arrival::Refused(9));
     };
     let state = clients::client_word(clients, client, clients::STATE);
     if state == states::WRITING {
-        let arrival = replies::set_done(counts, clients, links, client, target);
-        return replies::plain(arrival);
+        let arrival = write_replies::set_done(counts, clients, links, client, target);
+        return reply_parts::plain(arrival);
     }
     if state == states::ENTERING {
-        let arrival = replies::entered(counts, clients, links, writes, client, target, contents);
-        return replies::plain(arrival);
+        let arrival = write_replies::entered(
+            counts,
+            clients,
+            links,
+            writes,
+            client,
+            target,
+            contents,
+        );
+        return reply_parts::plain(arrival);
     }
     if state == states::ASKING_KEYS {
-        let arrival = replies::keys_told(counts, clients, links, log, client, target, contents);
-        return replies::plain(arrival);
+        let arrival = read_replies::keys_told(
+            counts,
+            clients,
+            links,
+            log,
+            client,
+            target,
+            contents,
+        );
+        return reply_parts::plain(arrival);
     }
     if state == states::ASKING_SETPOINTS {
         let mask = clients::client_word(clients, client, clients::MASK);
         let tag = clients::client_word(clients, client, clients::TAG);
-        if replies::got(counts, clients, links, reads, client, target, contents) {
-            return replies::plain(Arrival::Wait);
+        if read_replies::got(counts, clients, links, reads, client, target, contents) {
+            return reply_parts::plain(Arrival::Wait);
         }
         words::show_words(&*clients, client, clients::TAGS, mask, tags);
         return Outcome {
@@ -226,7 +242,7 @@ pub fn take_reply(
             mask: mask,
         };
     }
-    replies::all_told(
+    choice_replies::all_told(
         counts,
         clients,
         links,
@@ -276,7 +292,7 @@ pub fn deliver_reply_sound(
         target,
         &mut tags,
     );
-    replies::shown(&*clients, client as usize, outcome, tags)
+    reply_parts::shown(&*clients, client as usize, outcome, tags)
 }
 
 // Loses what a link holds, on tables known to be sound: refused by 3, 7 or 14. What no loss changes is lent all the same: its soundness
