@@ -1,4 +1,5 @@
 // The number that refuses a step, on tables known to be sound: the tests in the order of their numbers. 0 refuses nothing.
+// An opening is judged by its numbers (`openings`) and asks for no sound tables.
 ghost use mathlib.Core.Path.{_≡_};
 ghost use mathlib.Core.List.{List};
 ghost use mathlib.Core.Bool.{_&&_};
@@ -15,6 +16,8 @@ use tables::clients;
 use tables::counts;
 use tables::links;
 use tables::records;
+
+pub mod openings;
 
 // Whether a number names a target: a server below their number, or the coordinator.
 pub fn is_target(servers: u32, target: u32) -> bool

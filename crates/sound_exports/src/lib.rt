@@ -1,54 +1,15 @@
 // What other languages call on tables known to be sound, on numbers and slices: six steps that check no tables. They are named
-// `_unchecked`, since nothing checks a caller in another language.
+// `_unchecked`, since nothing checks a caller in another language. `step_numbers` and `crossings` make the numbers of their answers.
 // They stand in a library of their own. Beside the public steps each step of `store` would have two callers, so that the compiler would leave
 // it a call, with each slice handed over by the address of a copy; here it has one, and is inlined.
 ghost use mathlib.Core.Path.{_≡_};
-ghost use mathlib.Core.Bool.{true};
-ghost use Rattle.tables.specs.Rows.{HasRow};
-ghost use Rattle.tables.specs.Layout.{clientWidth};
 ghost use Rattle.tables.specs.Tables.{tablesOf};
-ghost use Rattle.rules.specs.Answers.{nothingShown};
 ghost use Rattle.soundness.specs.Facts.{Sound};
 ghost use Rattle.refusals.specs.Steps.{beginWrite, beginRead, deliverRequest, deliverReply, lose, resend};
-ghost use Rattle.replies.specs.Shown.{shownBy};
-ghost use Rattle.store_exports.specs.Numbers.{crossingOf, numbered, inNumbers, crossed, inCrossing};
-use replies::Outcome;
+ghost use Rattle.step_numbers.specs.Numbers.{numbered, inNumbers, crossed, inCrossing};
+use reply_parts::Outcome;
 use rules::Answer;
-use rules::Arrival;
-use step_parts::words;
-use store_exports::Crossing;
-use tables::clients;
-
-// An answer that shows nothing, as it crosses.
-fn plain(arrival: Arrival) -> Crossing
-    ensures { λ r. ⌜ r ≡ crossingOf (nothingShown arrival) ⌝ }
-{
-    Crossing {
-        number: store_exports::arrival_number(arrival),
-        setpoints: [0; 16],
-        tags: [0; 16],
-        badges: [0; 16],
-    }
-}
-
-// The answer where a READ has ended, with what it shows of the client's row and the tags beside it.
-fn shown(clients: &[u32], client: usize, outcome: Outcome, tags: [u32; 16]) -> Crossing
-    requires { ⌜ HasRow clientWidth (now clients) client ⌝ }
-    ensures { λ r. ⌜ (outcome .ended ≡ true → r ≡ crossingOf (shownBy outcome tags (now (clients .entry)) client)) ⌝ }
-{
-    let arrival = outcome.arrival;
-    let mask = outcome.mask;
-    let mut setpoints = [0u32; 16];
-    let mut badges = [0u32; 16];
-    words::show_words(clients, client, clients::SETPOINTS, mask, &mut setpoints);
-    words::show_words(clients, client, clients::BADGES, mask, &mut badges);
-    Crossing {
-        number: store_exports::arrival_number(arrival),
-        setpoints: setpoints,
-        tags: tags,
-        badges: badges,
-    }
-}
+use step_numbers::Crossing;
 
 // Begins a WRITE on tables known to be sound.
 #[no_mangle]
@@ -89,7 +50,7 @@ pub extern "C" fn store_begin_write_unchecked(
         badge,
         setpoints,
     );
-    store_exports::answer_number(answer)
+    step_numbers::answer_number(answer)
 }
 
 // Begins a READ on tables known to be sound.
@@ -127,7 +88,7 @@ pub extern "C" fn store_begin_read_unchecked(
         client,
         mask,
     );
-    store_exports::answer_number(answer)
+    step_numbers::answer_number(answer)
 }
 
 // Delivers a request on tables known to be sound.
@@ -165,7 +126,7 @@ pub extern "C" fn store_deliver_request_unchecked(
         client,
         target,
     );
-    store_exports::answer_number(answer)
+    step_numbers::answer_number(answer)
 }
 
 // Delivers a reply on tables known to be sound.
@@ -206,10 +167,10 @@ pub extern "C" fn store_deliver_reply_unchecked(
         &mut tags,
     );
     if outcome.ended {
-        return shown(&*clients, client as usize, outcome, tags);
+        return crossings::shown(&*clients, client as usize, outcome, tags);
     }
     let arrival = outcome.arrival;
-    plain(arrival)
+    crossings::plain(arrival)
 }
 
 // Loses what a link holds, on tables known to be sound.
@@ -246,7 +207,7 @@ pub extern "C" fn store_lose_unchecked(
         client,
         target,
     );
-    store_exports::answer_number(answer)
+    step_numbers::answer_number(answer)
 }
 
 // Sends again what was lost on a link, on tables known to be sound.
@@ -283,5 +244,5 @@ pub extern "C" fn store_resend_unchecked(
         client,
         target,
     );
-    store_exports::answer_number(answer)
+    step_numbers::answer_number(answer)
 }

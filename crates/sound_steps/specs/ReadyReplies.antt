@@ -29,10 +29,12 @@ use Rattle.soundness.specs.Sound.{uses, holding}
 use Rattle.soundness.specs.Facts.{Sound, Between}
 use Rattle.soundness.specs.Room.{few-servers, server-fits, client-fits, client-row, client-links, write-row, read-row, log-entries}
 use Rattle.choice.specs.Ready.{ChoiceReady}
-use Rattle.replies.specs.Ready.{KeysReady, Concludable, AllReady, Brings, ReplyReady}
+use Rattle.read_replies.specs.Ready.{KeysReady}
+use Rattle.choice_replies.specs.Ready.{Concludable, AllReady}
 use Rattle.keeping.specs.Accepted.{Deliverable}
 use Rattle.keeping.specs.Told.{told-held, log-told, opening-qualifies}
 use Rattle.keeping.specs.States.{uses-setpoints, uses-all, by-state, keys-target, masked-server, holding-log, holding-server, arrived, received-none, received-some, keys-told, all-told}
+use Rattle.sound_steps.specs.ReplyStates.{Brings, ReplyReady}
 use Rattle.sound_steps.specs.Ready.{target, fillable, reply-used, reply-sound}
 
 module _ (t : Tables) (s : Sound t) where

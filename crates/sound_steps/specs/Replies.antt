@@ -18,10 +18,9 @@ use Rattle.rules.specs.Reply.{said, onReplyIn, replyDelivered}
 use Rattle.soundness.specs.Facts.{Sound}
 use Rattle.refusals.specs.Refusals.{deliveryFault}
 use Rattle.refusals.specs.Steps.{deliverReply}
-use Rattle.replies.specs.declared.Outcome.{Outcome}
-use Rattle.replies.specs.Shown.{plainly, shownBy, Shows, plain-shows}
-use Rattle.replies.specs.Ready.{Brings, ReplyReady}
-use Rattle.replies.specs.Cases.{by-reply}
+use Rattle.reply_parts.specs.declared.Outcome.{Outcome}
+use Rattle.reply_parts.specs.Shown.{plainly, shownBy, Shows, plain-shows}
+use Rattle.sound_steps.specs.ReplyStates.{Brings, ReplyReady, by-reply}
 use Rattle.sound_steps.specs.ReadyReplies.{reply-ready}
 use Rattle.sound_steps.specs.Cases.{reply-accepted, delivery-able}
 

@@ -2,45 +2,22 @@
 // say. But for the opening they ask for sound tables and do not check them: who has opened a store and keeps its tables to himself calls
 // these. `store` has the same steps on any tables.
 ghost use mathlib.Core.Path.{_≡_};
-ghost use mathlib.Core.Bool.{_&&_};
-ghost use lib.Dec.{eqb};
 ghost use lib.ListN.{replicate};
 ghost use Rattle.tables.specs.Tables.{tablesOf};
 ghost use Rattle.rules.specs.Answers.{left, arrived};
 ghost use Rattle.soundness.specs.Facts.{Sound};
-ghost use Rattle.refusals.specs.Refusals.{pressOpens};
 ghost use Rattle.sound_steps.specs.Replies.{Replied};
 ghost use Rattle.refusals.specs.Steps.{open′, beginWrite, beginRead, deliverRequest, deliverReply, lose, resend};
-use replies::Outcome;
+use refusal_tests::openings;
+use reply_parts::Outcome;
 use rules::Answer;
 use rules::Arrival;
 use rules::Delivered;
 use rules::states;
 use sound_lengths::lengths;
-use sound_numbers::scalars;
 use step_parts::words;
 use tables::clients;
 use tables::links;
-
-// Whether a press may be opened: its method is not retired, and method, servers and clients fit.
-fn opens_press(method: u32, servers: u32, panels: u32) -> bool
-    ensures { λ r. ⌜ r ≡ pressOpens method servers panels ⌝ }
-{
-    if refusal_tests::is_retired(method) {
-        return false;
-    }
-    scalars::press_fits(method, servers, panels)
-}
-
-// Whether a press may be opened, and there is a setpoint for each server.
-fn fits_press(method: u32, servers: u32, panels: u32, given: usize) -> bool
-    ensures { λ r. ⌜ r ≡ (pressOpens method servers panels && eqb given servers) ⌝ }
-{
-    if opens_press(method, servers, panels) {
-        return given == servers as usize;
-    }
-    false
-}
 
 // Opens the store: refused by 1 or 2. Old contents need not be sound. The number of clients is called panels here, since clients are their
 // rows.
@@ -61,7 +38,7 @@ pub fn open(
     ensures { λ r. ⌜ left r (tablesOf (now (counts .exit)) (now (clients .exit)) (now (links .exit)) (now (keys .exit)) (now (values .exit)) (now (log .exit)) (now (writes .entry)) (now (reads .entry)))
         ≡ open′ method servers panels (now (setpoints .entry)) (tablesOf (now (counts .entry)) (now (clients .entry)) (now (links .entry)) (now (keys .entry)) (now (values .entry)) (now (log .entry)) (now (writes .entry)) (now (reads .entry))) ⌝ }
 {
-    if !fits_press(method, servers, panels, setpoints.len()) {
+    if !openings::fits_press(method, servers, panels, setpoints.len()) {
         return Answer::Refused(1);
     }
     if !lengths::long_enough(
@@ -214,33 +191,49 @@ pub fn take_reply(
 {
     let fault = refusal_tests::delivery_fault(&*counts, client, target);
     if fault != 0 {
-        return replies::plain(Arrival::Refused(fault));
+        return reply_parts::plain(Arrival::Refused(fault));
     }
     let client = client as usize;
     let target = target as usize;
     let link = links::link_at(&*links, client, target);
     let content = link.content;
     let links::Content::Reply(contents) = content else {
-        return replies::plain(Arrival::Refused(9));
+        return reply_parts::plain(Arrival::Refused(9));
     };
     let state = clients::client_word(clients, client, clients::STATE);
     if state == states::WRITING {
-        let arrival = replies::set_done(counts, clients, links, client, target);
-        return replies::plain(arrival);
+        let arrival = write_replies::set_done(counts, clients, links, client, target);
+        return reply_parts::plain(arrival);
     }
     if state == states::ENTERING {
-        let arrival = replies::entered(counts, clients, links, writes, client, target, contents);
-        return replies::plain(arrival);
+        let arrival = write_replies::entered(
+            counts,
+            clients,
+            links,
+            writes,
+            client,
+            target,
+            contents,
+        );
+        return reply_parts::plain(arrival);
     }
     if state == states::ASKING_KEYS {
-        let arrival = replies::keys_told(counts, clients, links, log, client, target, contents);
-        return replies::plain(arrival);
+        let arrival = read_replies::keys_told(
+            counts,
+            clients,
+            links,
+            log,
+            client,
+            target,
+            contents,
+        );
+        return reply_parts::plain(arrival);
     }
     if state == states::ASKING_SETPOINTS {
         let mask = clients::client_word(clients, client, clients::MASK);
         let tag = clients::client_word(clients, client, clients::TAG);
-        if replies::got(counts, clients, links, reads, client, target, contents) {
-            return replies::plain(Arrival::Wait);
+        if read_replies::got(counts, clients, links, reads, client, target, contents) {
+            return reply_parts::plain(Arrival::Wait);
         }
         words::show_words(&*clients, client, clients::TAGS, mask, tags);
         return Outcome {
@@ -249,7 +242,7 @@ pub fn take_reply(
             mask: mask,
         };
     }
-    replies::all_told(
+    choice_replies::all_told(
         counts,
         clients,
         links,
@@ -299,7 +292,7 @@ pub fn deliver_reply_sound(
         target,
         &mut tags,
     );
-    replies::shown(&*clients, client as usize, outcome, tags)
+    reply_parts::shown(&*clients, client as usize, outcome, tags)
 }
 
 // Loses what a link holds, on tables known to be sound: refused by 3, 7 or 14. What no loss changes is lent all the same: its soundness

@@ -1,63 +1,13 @@
 // What other languages call, on numbers and slices: the check of tables, and the seven public steps. `sound_exports` has six of them on
-// tables known to be sound.
-// An answer crosses as a number: 0 for ok, and below 256 the number of a refusal.
+// tables known to be sound, and `step_numbers` makes the numbers.
 ghost use mathlib.Core.Path.{_≡_};
 ghost use Rattle.tables.specs.Tables.{tablesOf};
 ghost use Rattle.soundness.specs.Sound.{sound};
 ghost use Rattle.refusals.specs.Steps.{open′, beginWrite, beginRead, deliverRequest, deliverReply, lose, resend};
-ghost use Rattle.store_exports.specs.Numbers.{answerNumber, arrivalNumber, crossingOf, numbered, inNumbers, crossed, inCrossing};
+ghost use Rattle.step_numbers.specs.Numbers.{numbered, inNumbers, crossed, inCrossing};
 use rules::Answer;
-use rules::Arrival;
 use rules::Delivered;
-
-// An answer as a number.
-pub fn answer_number(answer: Answer) -> u32
-    ensures { λ r. ⌜ r ≡ answerNumber answer ⌝ }
-{
-    match answer {
-        Answer::Ok => 0,
-        Answer::Refused(number) => number as u32,
-    }
-}
-
-// A delivered reply's answer as a number.
-pub fn arrival_number(arrival: Arrival) -> u64
-    ensures { λ r. ⌜ r ≡ arrivalNumber arrival ⌝ }
-{
-    match arrival {
-        Arrival::Wait => 4294967296,
-        Arrival::Next => 8589934592,
-        Arrival::Write(tag) => 12884901888 + tag as u64,
-        Arrival::Read(tag) => 17179869184 + tag as u64,
-        Arrival::Refused(number) => number as u64,
-    }
-}
-
-// A delivered reply's answer as it crosses, and beside it what a READ shows: setpoints, and the tags and badges of the WRITEs that put
-// them there; 0 where it shows none.
-#[repr(C)]
-pub struct Crossing {
-    pub number: u64,
-    pub setpoints: [u32; 16],
-    pub tags: [u32; 16],
-    pub badges: [u32; 16],
-}
-
-// The answer as it crosses.
-pub fn to_cross(delivered: Delivered) -> Crossing
-    ensures { λ r. ⌜ r ≡ crossingOf delivered ⌝ }
-{
-    let arrival = delivered.arrival;
-    let setpoints = delivered.setpoints;
-    let tags = delivered.tags;
-    let badges = delivered.badges;
-    Crossing {
-        number: arrival_number(arrival),
-        setpoints: setpoints,
-        tags: tags,
-        badges: badges,
-    }
-}
+use step_numbers::Crossing;
 
 // Whether the tables are sound.
 #[no_mangle]
@@ -95,7 +45,7 @@ pub extern "C" fn store_open(
     ensures { λ r. ⌜ numbered r (tablesOf (now (counts .exit)) (now (clients .exit)) (now (links .exit)) (now (keys .exit)) (now (values .exit)) (now (log .exit)) (now (writes .entry)) (now (reads .entry)))
         ≡ inNumbers (open′ method servers panels (now (setpoints .entry)) (tablesOf (now (counts .entry)) (now (clients .entry)) (now (links .entry)) (now (keys .entry)) (now (values .entry)) (now (log .entry)) (now (writes .entry)) (now (reads .entry)))) ⌝ }
 {
-    let answer = store::open(
+    let answer: Answer = store::open(
         counts,
         clients,
         links,
@@ -109,7 +59,7 @@ pub extern "C" fn store_open(
         panels,
         setpoints,
     );
-    answer_number(answer)
+    step_numbers::answer_number(answer)
 }
 
 // Begins a WRITE.
@@ -131,7 +81,7 @@ pub extern "C" fn store_begin_write(
     ensures { λ r. ⌜ numbered r (tablesOf (now (counts .exit)) (now (clients .exit)) (now (links .exit)) (now (keys .entry)) (now (values .entry)) (now (log .entry)) (now (writes .exit)) (now (reads .entry)))
         ≡ inNumbers (beginWrite client mask badge (now (setpoints .entry)) (tablesOf (now (counts .entry)) (now (clients .entry)) (now (links .entry)) (now (keys .entry)) (now (values .entry)) (now (log .entry)) (now (writes .entry)) (now (reads .entry)))) ⌝ }
 {
-    let answer = store::begin_write(
+    let answer: Answer = store::begin_write(
         counts,
         clients,
         links,
@@ -145,7 +95,7 @@ pub extern "C" fn store_begin_write(
         badge,
         setpoints,
     );
-    answer_number(answer)
+    step_numbers::answer_number(answer)
 }
 
 // Begins a READ.
@@ -165,7 +115,7 @@ pub extern "C" fn store_begin_read(
     ensures { λ r. ⌜ numbered r (tablesOf (now (counts .exit)) (now (clients .exit)) (now (links .exit)) (now (keys .entry)) (now (values .entry)) (now (log .entry)) (now (writes .entry)) (now (reads .exit)))
         ≡ inNumbers (beginRead client mask (tablesOf (now (counts .entry)) (now (clients .entry)) (now (links .entry)) (now (keys .entry)) (now (values .entry)) (now (log .entry)) (now (writes .entry)) (now (reads .entry)))) ⌝ }
 {
-    let answer = store::begin_read(
+    let answer: Answer = store::begin_read(
         counts,
         clients,
         links,
@@ -177,7 +127,7 @@ pub extern "C" fn store_begin_read(
         client,
         mask,
     );
-    answer_number(answer)
+    step_numbers::answer_number(answer)
 }
 
 // Delivers a request.
@@ -197,7 +147,7 @@ pub extern "C" fn store_deliver_request(
     ensures { λ r. ⌜ numbered r (tablesOf (now (counts .exit)) (now (clients .entry)) (now (links .exit)) (now (keys .exit)) (now (values .exit)) (now (log .exit)) (now (writes .exit)) (now (reads .entry)))
         ≡ inNumbers (deliverRequest client target (tablesOf (now (counts .entry)) (now (clients .entry)) (now (links .entry)) (now (keys .entry)) (now (values .entry)) (now (log .entry)) (now (writes .entry)) (now (reads .entry)))) ⌝ }
 {
-    let answer = store::deliver_request(
+    let answer: Answer = store::deliver_request(
         counts,
         clients,
         links,
@@ -209,7 +159,7 @@ pub extern "C" fn store_deliver_request(
         client,
         target,
     );
-    answer_number(answer)
+    step_numbers::answer_number(answer)
 }
 
 // Delivers a reply.
@@ -229,7 +179,7 @@ pub extern "C" fn store_deliver_reply(
     ensures { λ r. ⌜ crossed r (tablesOf (now (counts .exit)) (now (clients .exit)) (now (links .exit)) (now (keys .entry)) (now (values .entry)) (now (log .entry)) (now (writes .exit)) (now (reads .exit)))
         ≡ inCrossing (deliverReply client target (tablesOf (now (counts .entry)) (now (clients .entry)) (now (links .entry)) (now (keys .entry)) (now (values .entry)) (now (log .entry)) (now (writes .entry)) (now (reads .entry)))) ⌝ }
 {
-    let delivered = store::deliver_reply(
+    let delivered: Delivered = store::deliver_reply(
         counts,
         clients,
         links,
@@ -241,7 +191,7 @@ pub extern "C" fn store_deliver_reply(
         client,
         target,
     );
-    to_cross(delivered)
+    step_numbers::to_cross(delivered)
 }
 
 // Loses what a link holds.
@@ -265,7 +215,7 @@ pub extern "C" fn store_lose(
         (now (values .entry)) (now (log .entry))
         (now (writes .entry)) (now (reads .entry)))) ⌝ }
 {
-    let answer = store::lose(
+    let answer: Answer = store::lose(
         counts,
         clients,
         links,
@@ -277,7 +227,7 @@ pub extern "C" fn store_lose(
         client,
         target,
     );
-    answer_number(answer)
+    step_numbers::answer_number(answer)
 }
 
 // Sends again what was lost on a link.
@@ -301,7 +251,7 @@ pub extern "C" fn store_resend(
         (now (values .entry)) (now (log .entry))
         (now (writes .entry)) (now (reads .entry)))) ⌝ }
 {
-    let answer = store::resend(
+    let answer: Answer = store::resend(
         counts,
         clients,
         links,
@@ -313,5 +263,5 @@ pub extern "C" fn store_resend(
         client,
         target,
     );
-    answer_number(answer)
+    step_numbers::answer_number(answer)
 }

@@ -1,6 +1,6 @@
 -- `sound_exports::store_deliver_reply_unchecked` meets its contract: what crosses is what the outcome shows, the tables are what
 -- `store::take_reply` leaves.
-use Rattle.store_exports.specs.NumberLaws.{arrived-so}
+use Rattle.step_numbers.specs.NumberLaws.{arrived-so}
 use borrow.Author.Needs.{needs}
 use Rattle.sound_exports.proofs.store_deliver_reply_unchecked.Statement.{statement}
 use Rattle.sound_exports.proofs.store_deliver_reply_unchecked.Tie as tie

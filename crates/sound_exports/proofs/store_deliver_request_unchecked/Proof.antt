@@ -1,6 +1,6 @@
 -- `sound_exports::store_deliver_request_unchecked` meets its contract: the number is the answer's, the tables are what
 -- `store::deliver_request_sound` leaves.
-use Rattle.store_exports.specs.NumberLaws.{answered}
+use Rattle.step_numbers.specs.NumberLaws.{answered}
 use borrow.Author.Needs.{needs}
 use Rattle.sound_exports.proofs.store_deliver_request_unchecked.Statement.{statement}
 use Rattle.sound_exports.proofs.store_deliver_request_unchecked.Tie as tie

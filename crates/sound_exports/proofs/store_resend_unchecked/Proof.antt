@@ -1,6 +1,6 @@
 -- `sound_exports::store_resend_unchecked` meets its contract: the number is the answer's, the tables are what
 -- `store::resend_sound` leaves.
-use Rattle.store_exports.specs.NumberLaws.{answered}
+use Rattle.step_numbers.specs.NumberLaws.{answered}
 use borrow.Author.Needs.{needs}
 use Rattle.sound_exports.proofs.store_resend_unchecked.Statement.{statement}
 use Rattle.sound_exports.proofs.store_resend_unchecked.Tie as tie

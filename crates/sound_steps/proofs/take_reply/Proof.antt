@@ -5,10 +5,9 @@ use mathlib.Core.Path.{_≡_, refl, sym, ap, _∙_}
 use lib.ListN.{length}
 use Rattle.tables.specs.Tables.{Tables, tablesOf}
 use Rattle.refusals.specs.Refusals.{deliveryFault}
-use Rattle.replies.specs.Cases.{by-none, by-waiting, by-row, by-set-done, by-entered, by-keys, by-got}
-use Rattle.replies.specs.Cases.{by-all}
+use Rattle.reply_parts.specs.Shown.{ended-shows}
 use Rattle.sound_steps.specs.Cases.{reply-refused}
-use Rattle.replies.specs.Shown.{ended-shows}
+use Rattle.sound_steps.specs.ReplyStates.{by-none, by-waiting, by-row, by-set-done, by-entered, by-keys, by-got, by-all}
 use Rattle.sound_steps.specs.Replies.{Taking, taking, brings, taken, replied, plain-replied}
 use borrow.Author.Needs.{needs}
 use Rattle.sound_steps.proofs.take_reply.Statement.{statement}

@@ -1,5 +1,5 @@
 -- `store_exports::store_deliver_reply` meets its contract: what crosses is the answer's, and `store::deliver_reply` leaves the tables.
-use Rattle.store_exports.specs.NumberLaws.{arrived-so}
+use Rattle.step_numbers.specs.NumberLaws.{arrived-so}
 use borrow.Author.Needs.{needs}
 use Rattle.store_exports.proofs.store_deliver_reply.Statement.{statement}
 use Rattle.store_exports.proofs.store_deliver_reply.Tie as tie

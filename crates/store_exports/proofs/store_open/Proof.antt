@@ -1,5 +1,5 @@
 -- `store_exports::store_open` meets its contract: the number is the answer's, and `store::open` leaves the tables.
-use Rattle.store_exports.specs.NumberLaws.{answered}
+use Rattle.step_numbers.specs.NumberLaws.{answered}
 use borrow.Author.Needs.{needs}
 use Rattle.store_exports.proofs.store_open.Statement.{statement}
 use Rattle.store_exports.proofs.store_open.Tie as tie

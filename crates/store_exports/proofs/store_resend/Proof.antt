@@ -1,5 +1,5 @@
 -- `store_exports::store_resend` meets its contract: the number is the answer's, and `store::resend` leaves the tables.
-use Rattle.store_exports.specs.NumberLaws.{answered}
+use Rattle.step_numbers.specs.NumberLaws.{answered}
 use borrow.Author.Needs.{needs}
 use Rattle.store_exports.proofs.store_resend.Statement.{statement}
 use Rattle.store_exports.proofs.store_resend.Tie as tie

@@ -1,5 +1,5 @@
 -- `workload_exports::load_play` meets its contract: the numbers are the load's, and `play_load` leaves list and tables.
-use Rattle.workload_exports.specs.Numbers.{load-crossed}
+use Rattle.load_numbers.specs.Numbers.{load-crossed}
 use Rattle.tables.specs.Tables.{tablesOf}
 use borrow.Author.Needs.{needs}
 use Rattle.workload_exports.proofs.load_play.Statement.{statement}
