@@ -49,7 +49,7 @@ fn finish_by_c(
         entries as usize,
         tags,
     );
-    read_replies::finish(clients, reads, client, place, tag, step);
+    reply_parts::finish(clients, reads, client, place, tag, step);
     tag
 }
 

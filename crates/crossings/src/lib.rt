@@ -27,8 +27,8 @@ pub fn plain(arrival: Arrival) -> Crossing
 
 // The answer where a READ has ended, with what it shows of the client's row and the tags beside it.
 pub fn shown(clients: &[u32], client: usize, outcome: Outcome, tags: [u32; 16]) -> Crossing
-    requires { ⌜ HasRow clientWidth (now clients) client ⌝ }
-    ensures { λ r. ⌜ (outcome .ended ≡ true → r ≡ crossingOf (shownBy outcome tags (now (clients .entry)) client)) ⌝ }
+    requires { ⌜ HasRow clientWidth (now clients) client × (outcome .ended ≡ true) ⌝ }
+    ensures { λ r. ⌜ r ≡ crossingOf (shownBy outcome tags (now (clients .entry)) client) ⌝ }
 {
     let arrival = outcome.arrival;
     let mask = outcome.mask;

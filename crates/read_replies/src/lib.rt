@@ -5,12 +5,10 @@ ghost use mathlib.Core.Bool.{cond};
 ghost use mathlib.Core.List.{List};
 ghost use Prim.Native.Nat.{ℕ, _<_};
 ghost use Rattle.tables.specs.Tables.{tablesOf};
-ghost use Rattle.tables.specs.Rows.{HasRow};
-ghost use Rattle.tables.specs.Layout.{clientWidth, recordWidth, stateField, maskField, tagField, putClientWord, clientWord};
+ghost use Rattle.tables.specs.Layout.{maskField, tagField, clientWord};
 ghost use Rattle.tables.specs.Links.{HasLinks};
 ghost use Rattle.rules.specs.declared.Arrival.the-variants.{Wait};
 ghost use Rattle.rules.specs.Answers.{arrived, nothingShown};
-ghost use Rattle.rules.specs.Common.{idle, endedRecord, taggedRecord};
 ghost use Rattle.rules.specs.Reply.{onKeys, onGot};
 ghost use Rattle.step_parts.specs.Filled.{Fillable};
 ghost use Rattle.step_parts.specs.Waiting.{KindsFit};
@@ -59,23 +57,6 @@ pub fn keys_told(
     Arrival::Next
 }
 
-// A READ ends: the client is idle, and the record gets tag and end.
-pub fn finish(
-    clients: &mut [u32],
-    reads: &mut [u32],
-    client: usize,
-    place: u32,
-    tag: u32,
-    step: u32,
-)
-    requires { ⌜ (HasRow clientWidth (now clients) client) × (HasRow recordWidth (now reads) place) ⌝ }
-    ensures clients { λ _. ⌜ now (clients .exit) ≡ putClientWord (now (clients .entry)) client stateField idle ⌝ }
-    ensures reads { λ _. ⌜ now (reads .exit) ≡ endedRecord place step (taggedRecord place tag (now (reads .entry))) ⌝ }
-{
-    clients::put_client_word(clients, client, clients::STATE, states::IDLE);
-    history::end_read(reads, place as usize, tag, step);
-}
-
 // State 4: a setpoint has come, with its badge; the last one ends the READ. The answer is whether the client still waits; where it does
 // not, the READ shows what the client's row has.
 pub fn got(
@@ -111,6 +92,6 @@ pub fn got(
     if step_parts::is_waiting(&*links, client) {
         return true;
     }
-    finish(clients, reads, client, place, tag, step);
+    reply_parts::finish(clients, reads, client, place, tag, step);
     false
 }

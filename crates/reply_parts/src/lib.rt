@@ -1,14 +1,16 @@
-// What the replies of a WRITE and of a READ do alike, on tables known to be sound: the link is emptied and the step counted; and what a
-// delivered reply answers, as an outcome and as what is shown of it. `write_replies` and `read_replies` have a function for each state.
+// What several replies do alike, on tables known to be sound: the link is emptied and the step counted, a READ ends; and what a delivered
+// reply answers, as an outcome and as what is shown of it. `write_replies`, `read_replies` and `choice_replies` have a function for each state.
 ghost use mathlib.Core.Path.{_≡_};
 ghost use mathlib.Core.Bool.{true};
 ghost use Rattle.tables.specs.Rows.{HasRow};
-ghost use Rattle.tables.specs.Layout.{clientWidth};
+ghost use Rattle.tables.specs.Layout.{clientWidth, recordWidth, stateField, putClientWord};
+ghost use Rattle.rules.specs.Common.{idle, endedRecord, taggedRecord};
 ghost use Rattle.step_parts.specs.Filled.{Fillable};
 ghost use Rattle.reply_parts.specs.Settled.{Settled};
 ghost use Rattle.reply_parts.specs.Shown.{plainly, shownBy};
 use rules::Arrival;
 use rules::Delivered;
+use rules::states;
 use step_parts::words;
 use tables::clients;
 use tables::links;
@@ -65,4 +67,21 @@ pub fn shown(clients: &[u32], client: usize, outcome: Outcome, tags: [u32; 16]) 
         tags: tags,
         badges: badges,
     }
+}
+
+// A READ ends: the client is idle, and the record gets tag and end.
+pub fn finish(
+    clients: &mut [u32],
+    reads: &mut [u32],
+    client: usize,
+    place: u32,
+    tag: u32,
+    step: u32,
+)
+    requires { ⌜ (HasRow clientWidth (now clients) client) × (HasRow recordWidth (now reads) place) ⌝ }
+    ensures clients { λ _. ⌜ now (clients .exit) ≡ putClientWord (now (clients .entry)) client stateField idle ⌝ }
+    ensures reads { λ _. ⌜ now (reads .exit) ≡ endedRecord place step (taggedRecord place tag (now (reads .entry))) ⌝ }
+{
+    clients::put_client_word(clients, client, clients::STATE, states::IDLE);
+    history::end_read(reads, place as usize, tag, step);
 }

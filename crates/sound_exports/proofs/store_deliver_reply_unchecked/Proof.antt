@@ -8,12 +8,12 @@ use Rattle.sound_exports.proofs.store_deliver_reply_unchecked.Tie as ti
 shown-requires : tie.Need-shown-requires
 shown-requires c κs =
     let at-take-reply = c .before .before .before .before .before .before .before .before .before .before .before .before in
-    at-take-reply .take-reply .ensures .row (c .before .if1 .taken)
+    (at-take-reply .take-reply .ensures .row (c .before .if1 .taken), c .before .if1 .taken)
 
 returns : tie.Need-returns
 returns c =
     let at-take-reply = c .before .before .before .before .before .before .before .before .before .before .before .before .before in
-    arrived-so (c .shown .ensures (c .before .before .if1 .taken)) (at-take-reply .take-reply .ensures .leaves)
+    arrived-so (c .shown .ensures) (at-take-reply .take-reply .ensures .leaves)
 
 returns-2 : tie.Need-returns-2
 returns-2 c =
@@ -23,6 +23,6 @@ returns-2 c =
 pub store-deliver-reply-unchecked-spec : {M : Type 1} → statement M
 store-deliver-reply-unchecked-spec =
     tie.close
-    (tie.spec (λ c κs. search needs) shown-requires (λ c. search needs) (λ c. search needs) (λ c. search needs)
-    (λ c. search needs) (λ c. search needs) returns (λ c κs. search needs) (λ c. search needs) (λ c. search needs)
-    (λ c. search needs) (λ c. search needs) (λ c. search needs) returns-2)
+    (tie.spec (λ c κs. search needs) shown-requires (λ c. search) (λ c. search) (λ c. search)
+    (λ c. search) (λ c. search) returns (λ c κs. search needs) (λ c. search) (λ c. search)
+    (λ c. search) (λ c. search) (λ c. search) returns-2)

@@ -13,4 +13,4 @@ returns c =
 pub store-resend-unchecked-spec : {M : Type 1} → statement M
 store-resend-unchecked-spec =
     tie.close
-    (tie.spec (λ c κs. search needs) (λ c κs. search needs) (λ c. search needs) (λ c. search needs) returns)
+    (tie.spec (λ c κs. search needs) (λ c κs. search needs) (λ c. search) (λ c. search) returns)

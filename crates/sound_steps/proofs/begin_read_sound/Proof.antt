@@ -37,4 +37,4 @@ returns-2 c =
 pub begin-read-sound-spec : {M : Type 1} → statement M
 begin-read-sound-spec =
     tie.close
-    (tie.spec (λ c κs. search needs) (λ c. search needs) (λ c. search needs) returns begin-read-requires (λ c. search needs) (λ c. search needs) (λ c. search needs) (λ c. search needs) returns-2)
+    (tie.spec (λ c κs. search needs) (λ c. search) (λ c. search) returns begin-read-requires (λ c. search) (λ c. search) (λ c. search) (λ c. search) returns-2)

@@ -54,5 +54,5 @@ returns-2 c =
 pub begin-write-sound-spec : {M : Type 1} → statement M
 begin-write-sound-spec =
     tie.close
-    (tie.spec (λ c κs. search needs) (λ c. search needs) (λ c. search needs) returns begin-write-requires (λ c. search needs)
-    (λ c. search needs) (λ c. search needs) (λ c. search needs) returns-2)
+    (tie.spec (λ c κs. search needs) (λ c. search) (λ c. search) returns begin-write-requires (λ c. search)
+    (λ c. search) (λ c. search) (λ c. search) returns-2)

@@ -14,5 +14,5 @@ returns c =
 pub deliver-reply-sound-spec : {M : Type 1} → statement M
 deliver-reply-sound-spec =
     tie.close
-    (tie.spec (λ c κs. search needs) shown-requires (λ c. search needs) (λ c. search needs) (λ c. search needs) (λ c. search needs)
-    (λ c. search needs) returns)
+    (tie.spec (λ c κs. search needs) shown-requires (λ c. search) (λ c. search) (λ c. search) (λ c. search)
+    (λ c. search) returns)

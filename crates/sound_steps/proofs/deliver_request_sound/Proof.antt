@@ -29,4 +29,4 @@ returns-2 c =
 pub deliver-request-sound-spec : {M : Type 1} → statement M
 deliver-request-sound-spec =
     tie.close
-    (tie.spec (λ c κs. search needs) (λ c. search needs) returns deliver-request-requires (λ c. search needs) (λ c. search needs) (λ c. search needs) (λ c. search needs) (λ c. search needs) (λ c. search needs) returns-2)
+    (tie.spec (λ c κs. search needs) (λ c. search) returns deliver-request-requires (λ c. search) (λ c. search) (λ c. search) (λ c. search) (λ c. search) (λ c. search) returns-2)

@@ -51,4 +51,4 @@ returns-2 c =
 pub lose-sound-spec : {M : Type 1} → statement M
 lose-sound-spec =
     tie.close
-    (tie.spec (λ c κs. search needs) (λ c. search needs) returns lose-requires (λ c. search needs) (λ c. search needs) returns-2)
+    (tie.spec (λ c κs. search needs) (λ c. search) returns lose-requires (λ c. search) (λ c. search) returns-2)

@@ -51,4 +51,4 @@ returns-2 c =
 pub resend-sound-spec : {M : Type 1} → statement M
 resend-sound-spec =
     tie.close
-    (tie.spec (λ c κs. search needs) (λ c. search needs) returns resend-requires (λ c. search needs) (λ c. search needs) returns-2)
+    (tie.spec (λ c κs. search needs) (λ c. search) returns resend-requires (λ c. search) (λ c. search) returns-2)

@@ -255,12 +255,12 @@ returns-8 c =
 pub take-reply-spec : {M : Type 1} → statement M
 take-reply-spec =
     tie.close
-    (tie.spec (λ c κs. search needs) (λ c κs. search needs) (λ c. search needs) returns link-at-requires (λ c. search needs)
-    (λ c κs. search needs) (λ c. search needs) (λ c. search needs) returns-2 client-word-requires set-done-requires
-    (λ c κs. search needs) (λ c. search needs) (λ c. search needs) (λ c. search needs) returns-3 entered-requires
-    (λ c κs. search needs) (λ c. search needs) (λ c. search needs) (λ c. search needs) (λ c. search needs) returns-4
-    keys-told-requires (λ c κs. search needs) (λ c. search needs) (λ c. search needs) (λ c. search needs) returns-5
-    client-word-requires-2 client-word-requires-3 got-requires (λ c κs. search needs) (λ c. search needs) (λ c. search needs)
-    (λ c. search needs) (λ c. search needs) returns-6 show-words-requires
-    (λ c. search needs) (λ c. search needs) (λ c. search needs) (λ c. search needs) returns-7 all-told-requires (λ c. search needs)
-    (λ c. search needs) (λ c. search needs) (λ c. search needs) returns-8)
+    (tie.spec (λ c κs. search needs) (λ c κs. search needs) (λ c. search) returns link-at-requires (λ c. search)
+    (λ c κs. search needs) (λ c. search) (λ c. search) returns-2 client-word-requires set-done-requires
+    (λ c κs. search needs) (λ c. search) (λ c. search) (λ c. search) returns-3 entered-requires
+    (λ c κs. search needs) (λ c. search) (λ c. search) (λ c. search) (λ c. search) returns-4
+    keys-told-requires (λ c κs. search needs) (λ c. search) (λ c. search) (λ c. search) returns-5
+    client-word-requires-2 client-word-requires-3 got-requires (λ c κs. search needs) (λ c. search) (λ c. search)
+    (λ c. search) (λ c. search) returns-6 show-words-requires
+    (λ c. search) (λ c. search) (λ c. search) (λ c. search) returns-7 all-told-requires (λ c. search)
+    (λ c. search) (λ c. search) (λ c. search) returns-8)

@@ -10,4 +10,4 @@ returns c = arrived-so (c .to-cross .ensures) (c .before .before .before .before
 pub store-deliver-reply-spec : {M : Type 1} → statement M
 store-deliver-reply-spec =
     tie.close
-    (tie.spec (λ c κs. search needs) (λ c κs. search needs) (λ c. search needs) (λ c. search needs) (λ c. search needs) (λ c. search needs) (λ c. search needs) returns)
+    (tie.spec (λ c κs. search needs) (λ c κs. search needs) (λ c. search) (λ c. search) (λ c. search) (λ c. search) (λ c. search) returns)

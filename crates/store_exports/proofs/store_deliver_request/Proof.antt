@@ -10,4 +10,4 @@ returns c = answered (c .answer-number .ensures) (c .before .before .before .bef
 pub store-deliver-request-spec : {M : Type 1} → statement M
 store-deliver-request-spec =
     tie.close
-    (tie.spec (λ c κs. search needs) (λ c κs. search needs) (λ c. search needs) (λ c. search needs) (λ c. search needs) (λ c. search needs) (λ c. search needs) (λ c. search needs) returns)
+    (tie.spec (λ c κs. search needs) (λ c κs. search needs) (λ c. search) (λ c. search) (λ c. search) (λ c. search) (λ c. search) (λ c. search) returns)
