@@ -16,7 +16,7 @@ use Rattle.claim.specs.WrongStores.{first}
 use Rattle.claim.specs.Broken.{opens, Accepted}
 use Rattle.claim.specs.Decided.{Test, always, never, meaning, both, equal, Stated, among, InPlace, all-stated, first-broken}
 use Rattle.claim.specs.Decided as decided
-use Rattle.register_order.specs.Order.{Particulars, described, told, stepNumbers, SameOrder}
+use Rattle.listed_order.specs.Order.{Particulars, described, told, stepNumbers, SameOrder}
 
 -- how many there are, and of each its particulars
 pub data Part : Type 0 where
