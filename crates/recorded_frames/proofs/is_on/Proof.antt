@@ -3,9 +3,9 @@ use Prim.Native.Nat.{_+_}
 use native.Mathlib.Omega.{arith}
 use lib.ListN.{getD}
 use borrow.Author.Needs.{needs}
 use Rattle.recordings.specs.ReadableLaws.{on-not, on-by-target}
-use Rattle.recordings.proofs.is_on.Statement.{statement}
-use Rattle.recordings.proofs.is_on.Tie as tie
+use Rattle.recorded_frames.proofs.is_on.Statement.{statement}
+use Rattle.recorded_frames.proofs.is_on.Tie as tie
 
 returns : tie.Need-returns
 returns c =

@@ -1,9 +1,9 @@
 -- Behind a frame the recording still stands.
 use native.Mathlib.Omega.{arith}
 use borrow.Author.Needs.{needs}
 use Rattle.recordings.specs.Whole.{frame-inside, stands-next}
-use Rattle.recordings.proofs.next_behind.Statement.{statement}
-use Rattle.recordings.proofs.next_behind.Tie as tie
+use Rattle.recorded_frames.proofs.next_behind.Statement.{statement}
+use Rattle.recorded_frames.proofs.next_behind.Tie as tie
 
 add-end : tie.Need-add-end
 add-end c =

@@ -1,9 +1,9 @@
 -- With few enough frames a recording is well made where it is whole.
 use mathlib.Core.Path.{_∙_}
 use borrow.Author.Needs.{needs}
 use Rattle.recordings.specs.Whole.{well-made-few, well-made-many}
-use Rattle.recordings.proofs.is_well_made.Statement.{statement}
-use Rattle.recordings.proofs.is_well_made.Tie as tie
+use Rattle.recorded_frames.proofs.is_well_made.Statement.{statement}
+use Rattle.recorded_frames.proofs.is_well_made.Tie as tie
 
 returns : tie.Need-returns
 returns c = well-made-many _ _ (c .if1 .taken)

@@ -1,4 +1,4 @@
--- `recordings::is_same` meets its contract: the bytes before `i` are equal, so that those from it on decide.
+-- `recorded_frames::is_same` meets its contract: the bytes before `i` are equal, so that those from it on decide.
 use mathlib.Core.Path.{ap, _∙_}
 use mathlib.Core.List.{List}
 use mathlib.Core.Path.{_≡_}
@@ -8,10 +8,10 @@ use native.Mathlib.Omega.{arith}
 use lib.ListN.{drop}
 use lib.ListN.{length}
 use borrow.Author.Needs.{needs}
 use Rattle.recordings.specs.SameLaws.{same-not, same-on, same-stops, same-end}
 use Rattle.recordings.specs.Comparing.{same}
-use Rattle.recordings.proofs.is_same.Statement.{statement}
-use Rattle.recordings.proofs.is_same.Tie as tie
+use Rattle.recorded_frames.proofs.is_same.Statement.{statement}
+use Rattle.recorded_frames.proofs.is_same.Tie as tie
 
 abbrev Inv-loop : tie.InvT-loop
 Inv-loop a b i₀ i = (i ≤ length a) × (length a ≡ length b) × (same (drop i a) (drop i b) ≡ same a b)

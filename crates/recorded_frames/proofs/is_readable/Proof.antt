@@ -1,8 +1,8 @@
 -- A scan with no fault is that of a readable frame.
 use borrow.Author.Needs.{needs}
 use Rattle.recordings.specs.ReadableLaws.{scan-readable}
-use Rattle.recordings.proofs.is_readable.Statement.{statement}
-use Rattle.recordings.proofs.is_readable.Tie as tie
+use Rattle.recorded_frames.proofs.is_readable.Statement.{statement}
+use Rattle.recorded_frames.proofs.is_readable.Tie as tie
 
 returns : tie.Need-returns
 returns c = scan-readable _ (c .before .scan-frame .ensures)

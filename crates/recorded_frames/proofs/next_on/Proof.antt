@@ -1,13 +1,13 @@
--- `recordings::next_on` meets its contract: no frame of the link was passed.
+-- `recorded_frames::next_on` meets its contract: no frame of the link was passed.
 use Prim.Native.Nat.{_-_}
 use native.Mathlib.Omega.{arith}
 use lib.ListN.{length}
 use borrow.Author.Needs.{needs}
 use Rattle.recordings.specs.Following.{passing-start, passing-end, header-inside, passing-found, passing-on}
 use Rattle.recordings.specs.Whole.{frame-inside}
 use Rattle.recordings.specs.Whole.{Passing}
-use Rattle.recordings.proofs.next_on.Statement.{statement}
-use Rattle.recordings.proofs.next_on.Tie as tie
+use Rattle.recorded_frames.proofs.next_on.Statement.{statement}
+use Rattle.recorded_frames.proofs.next_on.Tie as tie
 
 abbrev Inv-loop : tie.InvT-loop
 Inv-loop lengths bytes client target frame at i₀ place₀ i place = Passing lengths bytes client target frame at i place

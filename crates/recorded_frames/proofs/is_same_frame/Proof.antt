@@ -2,10 +2,10 @@
 use mathlib.Core.Path.{ap₂, _∙_}
 use native.Mathlib.Omega.{arith}
 use borrow.Author.Needs.{needs}
 use Rattle.recordings.specs.Comparing.{same}
 use Rattle.recordings.specs.Whole.{frame-inside, part-is}
-use Rattle.recordings.proofs.is_same_frame.Statement.{statement}
-use Rattle.recordings.proofs.is_same_frame.Tie as tie
+use Rattle.recorded_frames.proofs.is_same_frame.Statement.{statement}
+use Rattle.recorded_frames.proofs.is_same_frame.Tie as tie
 
 add-end : tie.Need-add-end
 add-end c =

@@ -1,11 +1,11 @@
--- `recordings::is_whole` meets its contract: what is left behind the frames that were judged decides.
+-- `recorded_frames::is_whole` meets its contract: what is left behind the frames that were judged decides.
 use Prim.Native.Nat.{_-_}
 use lib.ListN.{length}
 use borrow.Author.Needs.{needs}
 use Rattle.recordings.specs.Whole.{walked-start, walked-short, walked-broken, walked-on, walked-end}
 use Rattle.recordings.specs.Whole.{Walked}
-use Rattle.recordings.proofs.is_whole.Statement.{statement}
-use Rattle.recordings.proofs.is_whole.Tie as tie
+use Rattle.recorded_frames.proofs.is_whole.Statement.{statement}
+use Rattle.recorded_frames.proofs.is_whole.Tie as tie
 
 abbrev Inv-loop : tie.InvT-loop
 Inv-loop lengths bytes i₀ at₀ i at = Walked lengths bytes i at
