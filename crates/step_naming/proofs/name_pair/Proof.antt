@@ -2,8 +2,8 @@
 use mathlib.Core.Path.{_∙_}
 use borrow.Author.Tests.{eq-eqb, ne-eqb}
 use borrow.Author.Needs.{needs}
-use Rattle.step_reading.proofs.name_pair.Statement.{statement}
-use Rattle.step_reading.proofs.name_pair.Tie as tie
+use Rattle.step_naming.proofs.name_pair.Statement.{statement}
+use Rattle.step_naming.proofs.name_pair.Tie as tie
 
 returns : tie.Need-returns
 returns c = rw (eq-eqb _ _ (c .if1 .taken))

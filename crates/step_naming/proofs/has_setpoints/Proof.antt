@@ -1,7 +1,7 @@
 -- Each test of the byte is one of the definition's.
 use Rattle.schedule.specs.PairLaws.{opens-so, else-writes}
-use Rattle.step_reading.proofs.has_setpoints.Statement.{statement}
-use Rattle.step_reading.proofs.has_setpoints.Tie as tie
+use Rattle.step_naming.proofs.has_setpoints.Statement.{statement}
+use Rattle.step_naming.proofs.has_setpoints.Tie as tie
 
 returns : tie.Need-returns
 returns c = opens-so _ (c .if1 .taken)

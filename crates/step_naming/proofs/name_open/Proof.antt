@@ -1,8 +1,8 @@
 -- Fewer than three numbers name no opening; else the numbers behind the third are the setpoints.
 use Rattle.schedule.specs.StepLaws.{names-none, open-few, open-names}
 use borrow.Author.Needs.{needs}
-use Rattle.step_reading.proofs.name_open.Statement.{statement}
-use Rattle.step_reading.proofs.name_open.Tie as tie
+use Rattle.step_naming.proofs.name_open.Statement.{statement}
+use Rattle.step_naming.proofs.name_open.Tie as tie
 
 returns : tie.Need-returns
 returns c =

@@ -4,8 +4,8 @@ use mathlib.Core.Path.{refl, _∙_}
 use lib.ListN.{length, getD}
 use Rattle.ranges.specs.LaidLaws.{Laying, laying-none, laying-more, laying-all, laid-list}
 use borrow.Author.Needs.{needs}
-use Rattle.step_reading.proofs.store_setpoints.Statement.{statement}
-use Rattle.step_reading.proofs.store_setpoints.Tie as tie
+use Rattle.step_naming.proofs.store_setpoints.Statement.{statement}
+use Rattle.step_naming.proofs.store_setpoints.Tie as tie
 
 abbrev Inv-loop : tie.InvT-loop
 Inv-loop numbers setpoints₀ at₀ setpoints at = Laying (λ i. getD numbers i 0) (length numbers) setpoints₀ at setpoints

@@ -1,8 +1,8 @@
 -- Each test of the first byte is one of the definition's.
 use Rattle.schedule.specs.StepLaws.{names-open, names-write, names-other, names-pair}
 use borrow.Author.Needs.{needs}
-use Rattle.step_reading.proofs.name_step.Statement.{statement}
-use Rattle.step_reading.proofs.name_step.Tie as tie
+use Rattle.step_naming.proofs.name_step.Statement.{statement}
+use Rattle.step_naming.proofs.name_step.Tie as tie
 
 returns : tie.Need-returns
 returns c =

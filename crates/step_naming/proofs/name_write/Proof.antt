@@ -1,8 +1,8 @@
 -- Fewer than three numbers name no WRITE, nor does a badge above 16 bits; else the numbers behind the third are the setpoints.
 use Rattle.schedule.specs.StepLaws.{names-none, write-few, write-badge, write-names}
 use borrow.Author.Needs.{needs}
-use Rattle.step_reading.proofs.name_write.Statement.{statement}
-use Rattle.step_reading.proofs.name_write.Tie as tie
+use Rattle.step_naming.proofs.name_write.Statement.{statement}
+use Rattle.step_naming.proofs.name_write.Tie as tie
 
 returns : tie.Need-returns
 returns c =
