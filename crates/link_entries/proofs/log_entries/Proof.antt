@@ -1,11 +1,11 @@
--- `link_frames::log_entries` meets its contract: the first places hold the words of the keys passed, and the masks.
+-- `link_entries::log_entries` meets its contract: the first places hold the words of the keys passed, and the masks.
 use borrow.Author.Needs.{needs}
 use Prim.Native.Nat.{_-_}
 use Rattle.tables.specs.Rows.{wordAt}
 use Rattle.tables.specs.Layout.{entryWidth, entryMask}
 use Rattle.ranges.specs.LaidLaws.{Laying, laying-none, laying-more, laying-all}
-use Rattle.link_frames.proofs.log_entries.Statement.{statement}
-use Rattle.link_frames.proofs.log_entries.Tie as tie
+use Rattle.link_entries.proofs.log_entries.Statement.{statement}
+use Rattle.link_entries.proofs.log_entries.Tie as tie
 
 abbrev Inv-loop : tie.InvT-loop
 Inv-loop log entries words₀ masks₀ tag₀ words masks tag =

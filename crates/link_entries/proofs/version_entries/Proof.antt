@@ -1,10 +1,10 @@
--- `link_frames::version_entries` meets its contract: the first places hold the badges and the setpoints of the versions passed.
+-- `link_entries::version_entries` meets its contract: the first places hold the badges and the setpoints of the versions passed.
 use borrow.Author.Needs.{needs}
 use Prim.Native.Nat.{_-_}
 use Rattle.tables.specs.Layout.{versionBadge, versionSetpoint}
 use Rattle.ranges.specs.LaidLaws.{Laying, laying-none, laying-more, laying-all}
-use Rattle.link_frames.proofs.version_entries.Statement.{statement}
-use Rattle.link_frames.proofs.version_entries.Tie as tie
+use Rattle.link_entries.proofs.version_entries.Statement.{statement}
+use Rattle.link_entries.proofs.version_entries.Tie as tie
 
 abbrev Inv-loop : tie.InvT-loop
 Inv-loop values server entries badges₀ setpoints₀ place₀ badges setpoints place =
