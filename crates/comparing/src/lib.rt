@@ -22,8 +22,8 @@ fn difference_on(
     ensures { λ r. ⌜ r ≡ differenceOn client target (framesOf (now (lengths .entry)) (now (bytes .entry)))
         (framesOf (now (lengths2 .entry)) (now (bytes2 .entry))) ⌝ }
 {
-    let first = recordings::next_on(lengths, bytes, client, target, 0, 0);
-    let first2 = recordings::next_on(lengths2, bytes2, client, target, 0, 0);
+    let first = recorded_frames::next_on(lengths, bytes, client, target, 0, 0);
+    let first2 = recorded_frames::next_on(lengths2, bytes2, client, target, 0, 0);
     let mut i = first.frame;
     let mut at = first.at;
     let mut i2 = first2.frame;
@@ -33,11 +33,11 @@ fn difference_on(
         if lengths2.len() <= i2 {
             return Place::At(place);
         }
-        if !recordings::is_same_frame(lengths, bytes, i, at, lengths2, bytes2, i2, at2) {
+        if !recorded_frames::is_same_frame(lengths, bytes, i, at, lengths2, bytes2, i2, at2) {
             return Place::At(place);
         }
-        let next = recordings::next_behind(lengths, bytes, client, target, i, at);
-        let next2 = recordings::next_behind(lengths2, bytes2, client, target, i2, at2);
+        let next = recorded_frames::next_behind(lengths, bytes, client, target, i, at);
+        let next2 = recorded_frames::next_behind(lengths2, bytes2, client, target, i2, at2);
         i = next.frame;
         at = next.at;
         i2 = next2.frame;
@@ -78,10 +78,10 @@ pub fn compare(lengths: &[u32], bytes: &[u8], lengths2: &[u32], bytes2: &[u8]) -
     ensures { λ r. ⌜ r ≡ compared (now (lengths .entry)) (now (bytes .entry))
         (now (lengths2 .entry)) (now (bytes2 .entry)) ⌝ }
 {
-    if !recordings::is_well_made(lengths, bytes) {
+    if !recorded_frames::is_well_made(lengths, bytes) {
         return Compared::Refused(16);
     }
-    if !recordings::is_well_made(lengths2, bytes2) {
+    if !recorded_frames::is_well_made(lengths2, bytes2) {
         return Compared::Refused(16);
     }
     first_difference(lengths, bytes, lengths2, bytes2)

@@ -2,13 +2,11 @@
 // As in `store` there are two functions: the one judges any tables; the other, whose name ends in `_sound`, asks for sound tables and does not check them.
 ghost use mathlib.Core.Path.{_≡_};
 ghost use mathlib.Core.List.{List};
-ghost use Prim.Native.Nat.{ℕ, _-_, _*_, _≤_};
+ghost use Prim.Native.Nat.{ℕ, _-_, _≤_};
 ghost use lib.ListN.{length};
-ghost use Rattle.tables.specs.Rows.{wordAt};
-ghost use Rattle.tables.specs.Layout.{countWords, entryWidth, entryMask, valueWidth, valueRow, versionBadge, versionSetpoint};
+ghost use Rattle.tables.specs.Layout.{countWords};
 ghost use Rattle.tables.specs.Tables.{tablesOf};
 ghost use Rattle.soundness.specs.Facts.{Sound};
-ghost use Rattle.ranges.specs.Laid.{laid};
 ghost use Rattle.wire.specs.OnLink.{alone, requestIn, keysReply, allReply, logReply, everythingReply, replyIn, onLink};
 ghost use Rattle.wire.specs.Sending.{sent, isAbsent, linkFrame};
 ghost use Rattle.wire.specs.Ready.{LogReady, AllReady, EverythingReady, RequestReady, ReplyReady, LinkReady};
@@ -22,7 +20,6 @@ use tables::counts;
 use tables::links;
 use tables::links::Content;
 use tables::links::Contents;
-use tables::log;
 use tables::versions;
 
 // A message with no entries.
@@ -75,40 +72,6 @@ fn request_message(state: u32, contents: Contents, client: u8, target: u8) -> Me
     }
 }
 
-// The first entries of the log: the words of their keys, and their masks.
-fn log_entries(log: &[u32], entries: usize, words: &mut [u32], masks: &mut [u32])
-    requires { ⌜ (entryWidth * entries ≤ length (now log)) × (entries ≤ length (now words)) × (entries ≤ length (now masks)) ⌝ }
-    ensures { λ _. ⌜ (now (words .exit) ≡ laid (λ tag. wordAt entryWidth (now (log .entry)) tag 0) entries (now (words .entry))) × (now (masks .exit) ≡ laid (entryMask (now (log .entry))) entries (now (masks .entry))) ⌝ }
-{
-    let mut tag: usize = 0;
-    while tag < entries {
-        words[tag] = log::key_word(log, tag);
-        masks[tag] = log::entry_mask(log, tag);
-        tag += 1;
-    }
-}
-
-// The first versions of a server: their badges, and their setpoints.
-fn version_entries(
-    values: &[u32],
-    server: usize,
-    entries: usize,
-    badges: &mut [u32],
-    setpoints: &mut [u32],
-)
-    requires { ⌜ (valueWidth * valueRow server entries ≤ length (now values)) × (entries ≤ length (now badges))
-        × (entries ≤ length (now setpoints)) ⌝ }
-    ensures { λ _. ⌜ (now (badges .exit) ≡ laid (versionBadge (now (values .entry)) server) entries (now (badges .entry)))
-        × (now (setpoints .exit) ≡ laid (versionSetpoint (now (values .entry)) server) entries (now (setpoints .entry))) ⌝ }
-{
-    let mut place: usize = 0;
-    while place < entries {
-        badges[place] = versions::version_badge(values, server, place);
-        setpoints[place] = versions::version_setpoint(values, server, place);
-        place += 1;
-    }
-}
-
 // The last tag of a log with so many entries.
 fn last_tag(entries: u32) -> u8
     requires { ⌜ (1 ≤ entries) × (entries ≤ 256) ⌝ }
@@ -146,7 +109,7 @@ fn write_log(log: &[u32], number: u32, client: u8, bytes: &mut [u8]) -> Written
     let mut words = [0u32; 256];
     let mut masks = [0u32; 256];
     let count = number as usize;
-    log_entries(log, count, &mut words, &mut masks);
+    link_entries::log_entries(log, count, &mut words, &mut masks);
     let message = Message::Log {
         client: client,
         entries: number,
@@ -170,7 +133,7 @@ fn write_all(
     let mut setpoints = [0u32; 256];
     let server = target as usize;
     let count = number as usize;
-    version_entries(values, server, count, &mut badges, &mut setpoints);
+    link_entries::version_entries(values, server, count, &mut badges, &mut setpoints);
     let first = versions::first_place(server);
     let end = first + count;
     let message = Message::All {

@@ -21,7 +21,7 @@ use Rattle.claim.specs.History.{Transaction, Doing, nothing, writing, tagged, r
 use Rattle.claim.specs.Row.{rowTo, row}
 use Rattle.claim.specs.Row as row′
 use Rattle.serial.proofs.Lists.{Pairs}
-use Rattle.register_order.specs.Order.{Particulars, ofRecord, described, numberAt, told}
+use Rattle.listed_order.specs.Order.{Particulars, ofRecord, described, numberAt, told}
 use Rattle.register_order.specs.Lists.{Both, both-of-tag}
 
 -- step numbers rise, up to the tables' own

@@ -23,7 +23,7 @@ use Rattle.listing.specs.Places.{each-passes, places-more}
 use Rattle.listing.specs.Changes.{places-same, places-added, ByBegin}
 use Rattle.claim.specs.History.{Transaction, Doing, nothing, writing, tagged, reading}
 use Rattle.serial.proofs.Lists.{pairs-append, pairs-at}
-use Rattle.register_order.specs.Order.{Particulars, ofRecord, numberAt, endNumber}
+use Rattle.listed_order.specs.Order.{Particulars, ofRecord, numberAt, endNumber}
 use Rattle.register_order.specs.Lists.{Both, both-map, both-inserted}
 use Rattle.register_order.specs.Agreement.{Numbered, EndKnown, Tells, OneWrite, ofRead, ReadsTold}
 use Rattle.register_order.specs.Agreement.{Activity}

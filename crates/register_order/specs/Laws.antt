@@ -28,7 +28,7 @@ use Rattle.claim.specs.History.{valueWritten, valueShown, changed, Transaction,
 use Rattle.claim.specs.History.{historyOf, passed, turned, delivered, entered, missed, lostOf, repeated, marked, writeOf, readOf, given}
 use Rattle.claim.specs.History.{wrote, showed, ended}
 use Rattle.serial.proofs.Places.{changed-other, changed-all}
-use Rattle.register_order.specs.Order.{Particulars, particulars, ofRecord, numberAt}
+use Rattle.listed_order.specs.Order.{Particulars, particulars, ofRecord, numberAt}
 use Rattle.register_order.specs.Agreement.{Numbered, Tells, OneWrite, ofRead, ReadsTold, Untagged, Tagged, Reading, Activity, Agrees}
 use Rattle.register_order.specs.Grown.{more, more-length, number-more, number-last, numbered-more, begun-before, tells-more, tells-as}
 use Rattle.register_order.specs.Grown.{But, Alike, begun-but, tagged-but, ended-but, one-but, one-more, reads-more, reads-begun}

@@ -10,7 +10,7 @@ use Rattle.ranges.specs.Inserted.{inserted}
 use Rattle.listing.specs.Register.{passing}
 use Rattle.claim.specs.History.{Transaction}
 use Rattle.claim.specs.Row.{readsOf}
-use Rattle.register_order.specs.Order.{Particulars}
+use Rattle.listed_order.specs.Order.{Particulars}
 
 abbrev pub Both : (ℕ → Transaction → Type 0) → List ℕ → List Transaction → Type 0
 Both R [] [] = Unit {0}

@@ -11,7 +11,7 @@ use Rattle.serial.proofs.Openings.{Starts}
 use Rattle.serial.proofs.Fair.{Standing}
 use Rattle.serial.proofs.Machines as fair
 use Rattle.serial.proofs.Machines.{FairMachine, stands}
-use Rattle.register_order.specs.Order.{numbered, stepNumbers, SameOrder}
+use Rattle.listed_order.specs.Order.{numbered, stepNumbers, SameOrder}
 use Rattle.register_order.specs.Agreement.{Agrees, same-order}
 
 -- A step keeps the tie, and the tables' step number is that of the steps accepted.

@@ -24,7 +24,7 @@ use Rattle.claim.specs.Steps.{Played, play, run, leftBy}
 use Rattle.claim.specs.History.{changed, openedWith, history}
 use Rattle.claim.specs.Row.{readsOf, rowTo, row}
 use Rattle.claim.specs.Sample.{zeros, start, sample}
-use Rattle.register_order.specs.Order.{Particulars, particulars, described, told, stepNumbers}
+use Rattle.listed_order.specs.Order.{Particulars, particulars, described, told, stepNumbers}
 
 abbrev played : List Played
 played = run play sample start

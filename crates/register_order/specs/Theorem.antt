@@ -29,7 +29,7 @@ use Rattle.serial.proofs.Openings.{play-starts, mixed-starts}
 use Rattle.serial.proofs.Mixed.{by-rules}
 use Rattle.serial.proofs.Fair.{Standing}
 use Rattle.serial.proofs.Theorem.{play-fair, mixed-fair}
-use Rattle.register_order.specs.Order.{SameOrder}
+use Rattle.listed_order.specs.Order.{SameOrder}
 use Rattle.register_order.specs.Agreement.{Agrees}
 use Rattle.register_order.specs.Laws.{passed-agrees}
 use Rattle.register_order.specs.Begins.{write-follows, read-follows}

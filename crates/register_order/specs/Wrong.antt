@@ -30,9 +30,9 @@ use Rattle.claim.specs.Sample.{zeros, laterFirst}
 use Rattle.claim.specs.WrongStores.{first, enteringTwice}
 use Rattle.claim.specs.Lists.{thenReadByB, thenReadByC, twoReads, replyLess, requestOnly, overtaken, lossyByB}
 use Rattle.claim.specs.Lists.{enteredAgain, enteredBetween}
-use Rattle.register_order.specs.Parts as part
-use Rattle.register_order.specs.Parts.{lines, rowed, Differs, Computed, differs}
-use Rattle.register_order.specs.Parts.{Part}
+use Rattle.listed_order.specs.Parts as part
+use Rattle.listed_order.specs.Parts.{lines, rowed, Differs, Computed, differs}
+use Rattle.listed_order.specs.Parts.{Part}
 use Rattle.register_order.specs.WrongListings.{byEnd, byBeginFalling, readsAhead, finishedOnly, untaggedToo, unfinishedToo}
 use Rattle.register_order.specs.WrongListings.{kindsExchanged, writesByBegin, misread, miswritten}
 

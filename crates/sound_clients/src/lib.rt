@@ -1,6 +1,6 @@
-// Whether the clients are sound, each by the words of its row, by its links, and in that a busy one waits for something. A small function
-// decides each small definition of `soundness/Sound`, in whose words it is named, for every contents of the tables that it is not lent.
-// What it asks, `sound_tables` has tested before.
+// Whether the clients are sound, each by the words of its row, by its links (`sound_links`), and in that a busy one waits for something.
+// A small function decides each small definition of `soundness/Sound`, in whose words it is named, for every contents of the tables that it
+// is not lent. What it asks, `sound_tables` has tested before.
 ghost use mathlib.Core.Path.{_≡_};
 ghost use Prim.Native.Nat.{_<_};
 ghost use Rattle.ranges.specs.All.{allBelow};
@@ -14,9 +14,6 @@ use sound_numbers::scalars;
 use sound_numbers::states;
 use tables::clients;
 use tables::counts;
-
-mod links;
-mod messages;
 
 fn state_sound(counts: &[u32], clients: &[u32], client: usize) -> bool
     requires { ⌜ Counted (now counts) ⌝ }
@@ -146,10 +143,10 @@ fn client_sound(counts: &[u32], clients: &[u32], links: &[u32], client: usize) -
     if !row_sound(counts, clients, client) {
         return false;
     }
-    if !links::links_sound(counts, clients, links, client) {
+    if !sound_links::links_sound(counts, clients, links, client) {
         return false;
     }
-    if !links::all_received_sound(counts, clients, links, client) {
+    if !sound_links::all_received_sound(counts, clients, links, client) {
         return false;
     }
     if clients::client_word(clients, client, clients::STATE) == rules::states::IDLE {
