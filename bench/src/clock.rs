@@ -83,7 +83,7 @@ fn mean<R>(call: &mut impl FnMut() -> R, times: u32) -> f64 {
 }
 
 /// How often all of a table's figures are measured, since a machine's speed changes over seconds.
-pub const PASSES: usize = 4;
+pub const PASSES: usize = 12;
 
 /// The least of each figure of each row, over several passes through the rows.
 pub fn least_of_passes<T, const N: usize>(rows: &[T], measure: impl Fn(&T) -> [f64; N]) -> Vec<[f64; N]> {
