@@ -1,9 +1,10 @@
 """For the scripts that run a program of this repository: tools/run-program, tools/run-schedule and tools/make-load.
 
-A Rattle program has no exit status of its own and says nothing where it cannot read or write. So these scripts hand it its input, pass on
-what it prints, and say on standard error what went wrong. Their exit status: 0 where all was printed, and for --help; 1 where the program
-is not proved, cannot be built or ends with a fault, or where standard output does not take what it prints; 2 for a wrong command line, an
-input that cannot be read and what is missing on the machine. Where rt or cargo fails it is theirs."""
+A proved program stands as crates/NAME/out/NAME, where `rt run` or `rt ci` built it. Where it cannot read or write it ends with an exit
+status of 1, and says little. So these scripts hand it its input, pass on what it prints, and say on standard error what went wrong. Their exit
+status: 0 where all was printed, and for --help; 1 where the program is not proved, cannot be built or ends with a fault, or where standard
+output does not take what it prints; 2 for a wrong command line, an input that cannot be read and what is missing on the machine. Where rt or
+cargo fails it is theirs."""
 
 import fcntl
 import os
@@ -14,9 +15,12 @@ import sys
 import threading
 from pathlib import Path
 
+import libraries
+
 ROOT = Path(__file__).resolve().parent.parent
 BLOCK = 1 << 16
-UNCHANGED = re.compile(r"^rt: \w+ proved \(unchanged since it was last proved\)$")
+UNCHANGED = re.compile(rb"^rt: nothing has changed since the last proved build\b")
+RUNNING = re.compile(rb"^rt: running out/")
 # What --quick runs: the member of tests/rust and its program.
 QUICK = {"replay": ("model", "model-replay"), "rough_load": ("schedules", "model-load")}
 HOW = ("--built", "--quick")
@@ -99,38 +103,32 @@ def kit():
 
 def proved(name, built):
     """The proved program; with `built` as it was built, else proved and built first where it is not up to date."""
-    rt = kit()
+    folder = ROOT / "crates" / name
     if not built:
-        passed(check(rt, ["check", name]))
-    program = ROOT / "target" / "bin" / name
+        rt = kit()
+        if not (folder / "src" / "main.rt").is_file():
+            raise Fault(f"there is no program crates/{name}/src/main.rt")
+        passed(made(rt, folder))
+    program = folder / "out" / name
     if not os.access(program, os.X_OK):
-        raise Fault(f"there is no target/bin/{name}: rt check {name} builds it")
-    # A program runs under the kit's loader and C library, and under the kit's emulator where the processor is another.
-    home = Path(os.environ.get("RATTLE_HOME") or Path(rt).resolve().parent.parent)
-    toolchain = home / "on" / os.uname().machine / "toolchain"
-    emulator = toolchain / "bin" / "qemu-x86_64"
-    loader = [str(toolchain / "lib" / "ld-linux-x86-64.so.2"), "--library-path", str(toolchain / "lib"), str(program)]
-    return [str(emulator), *loader] if os.access(emulator, os.X_OK) else loader
+        raise Fault(f"there is no crates/{name}/out/{name}: rt run in crates/{name} builds it")
+    return [str(program)]
 
 
-def check(rt, words):
-    """Runs rt; what it says goes to standard error, but for crates that are as they were. Its exit status."""
+def made(rt, folder):
+    """Proves and builds a program where it is not up to date. What rt says goes to standard error, but where all is as it was. Its exit status."""
+    # `rt run` builds a program and runs it: here on no input, and what it then prints is passed over.
     # Of two of these in a pipe, one proves after the other.
     with open(ROOT / "crates.txt") as lock:
         fcntl.flock(lock, fcntl.LOCK_EX)
-        child = subprocess.Popen([rt, *words], cwd=ROOT, stdin=subprocess.DEVNULL, stdout=subprocess.PIPE, stderr=subprocess.STDOUT)
-        said, last = False, b""
-        for line in child.stdout:
-            if UNCHANGED.match(line.decode(errors="replace").rstrip("\n")):
-                continue
-            if line.startswith(b"rt: ok,"):
-                last = line
-                continue
-            said = True
-            show(line)
-        if said:
-            show(last)
-        return child.wait()
+        child = subprocess.Popen([rt, "run"], cwd=folder, stdin=subprocess.DEVNULL, stdout=subprocess.DEVNULL, stderr=subprocess.PIPE)
+        built = False
+        for line in child.stderr:
+            built = built or RUNNING.match(line) is not None
+            if not built and not UNCHANGED.match(line):
+                show(line)
+        status = child.wait()
+        return 0 if built else status or 1
 
 
 def show(said):
@@ -162,16 +160,11 @@ def saved(how):
     """The program of tests/rust that takes up tables and saves them: by the proved libraries, or with --quick by the model alone."""
     if how == "--quick":
         return [unproved(*SAVED), "--model"]
-    rt = kit()
     if how != "--built":
-        passed(check(rt, ["check", *LIBRARIES]))
+        passed(libraries.build(kit(), LIBRARIES))
     for name in LIBRARIES:
-        library, stamp = ROOT / "target" / "staticlib" / f"lib{name}.a", ROOT / "target" / "stamp" / name
-        # rt builds a library anew each time, which takes as long as its proof, so it is asked only where the crate was proved since
-        if how != "--built" and (not library.is_file() or not stamp.is_file() or library.stat().st_mtime < stamp.stat().st_mtime):
-            passed(check(rt, ["staticlib", name]))
-        if not library.is_file():
-            raise Fault(f"there is no target/staticlib/lib{name}.a: rt staticlib {name} builds it")
+        if not libraries.archive(name).is_file():
+            raise Fault(f"there is no crates/{name}/out/lib{name}.a: tests/rust/build-store builds it")
     return [cargo(*SAVED)]
 
 

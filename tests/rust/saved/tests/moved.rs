@@ -17,8 +17,8 @@ fn root() -> PathBuf {
 /// Where the libraries are built, they are what is tried.
 #[test]
 fn the_proved_crates_are_tried() {
-    let built = |name: &str| root().join("target/staticlib").join(name).exists();
-    assert_eq!(By::proved().is_some(), built("libstore_exports.a") && built("libwire_exports.a"));
+    let built = |name: &str| root().join(format!("crates/{name}/out/lib{name}.a")).exists();
+    assert_eq!(By::proved().is_some(), built("store_exports") && built("wire_exports"));
 }
 
 fn schedules() -> Vec<(Vec<u8>, String)> {
