@@ -1,11 +1,19 @@
 // Compares two recordings: takes the names of their files, and prints `agree`, `differ panel target place` or `no 16`.
-ghost use Rattle.std.specs.Prelude.{◌≡◌, length, false};
+#![tactic(auto)]
+
+ghost use Rattle.std.specs.Prelude.{◌≡◌, ◌≤◌, length, false, IfOk};
 ghost use Rattle.compare_recordings.specs.Held.{Holds};
 
-use libc::{STDERR_FILENO, STDOUT_FILENO};
+use std::env::{Env, FillError};
+use std::fs::{File, Files};
+use std::io;
+use std::io::Read;
 
 // A file has at most so many bytes, 1 MiB.
 const MOST: usize = 1048576;
+
+// The name of a file has at most so many bytes.
+const NAME: usize = 4096;
 
 // What was read of a file: where it was not read, or is cut or too long, that is said, and nothing is held.
 #[derive(Drop)]
@@ -22,9 +30,13 @@ fn space() -> [u8; MOST]
 }
 
 // Says on standard error what is wrong with a file.
-fn say(name: &[u8], what: &[u8]) {
-    io::write_all(STDERR_FILENO, name);
-    io::write_all(STDERR_FILENO, what);
+fn say(rt: &impl Eprint, name: &str, what: &str) -> io::Result<()> {
+    eprintln!(rt; "{name}: {what}")
+}
+
+// Says on standard error why a file was not read.
+fn fail(rt: &impl Eprint, name: &str, error: io::Error) -> io::Result<()> {
+    eprintln!(rt; "{name}: {error}")
 }
 
 fn unread() -> Held
@@ -36,75 +48,112 @@ fn unread() -> Held
     }
 }
 
-// The file at a descriptor; one byte more is asked for, to see that it ends and that the reading did not fail.
-fn read_open(fd: i32, name: &[u8], file: &mut [u8]) -> Held
-    ensures { Holds result.read result.bytes file.new }
+// Reads until the space is full or the file ends, and answers how many bytes came.
+fn read_full(opened: &mut impl Read, space: &mut [u8]) -> io::Result<usize>
+    ensures { IfOk result (λ held. held ≤ length space.new) }
 {
-    let held = io::read_full(fd, file);
-    let mut more = [0u8; 1];
-    let got = libc::read(fd, &mut more);
-    if got < 0 {
-        os::fail(name);
-        return unread();
+    let mut held = 0;
+    while held < space.len() {
+        let came = opened.read(&mut space[held..])?;
+        if came == 0 {
+            break;
+        }
+        held += came;
     }
+    Ok(held)
+}
+
+// The file that was opened; one byte more is asked for, to see that it ends.
+fn read_open(
+    rt: &impl Eprint,
+    opened: &mut impl Read,
+    name: &str,
+    file: &mut [u8],
+) -> io::Result<Held>
+    ensures { IfOk result (λ r. Holds r.read r.bytes file.new) }
+{
+    let held = read_full(opened, file)?;
+    let mut more = [0u8; 1];
+    let got = opened.read(&mut more)?;
     if 0 < got {
-        say(name, b": longer than 1048576 bytes\n");
-        return unread();
+        say(rt, name, "longer than 1048576 bytes")?;
+        return Ok(unread());
     }
     if !recording_files::is_file(&file[..held]) {
-        say(
-            name,
-            b": cut, the lengths of its frames are not all there\n",
-        );
-        return unread();
+        say(rt, name, "cut, the lengths of its frames are not all there")?;
+        return Ok(unread());
     }
-    Held {
+    Ok(Held {
         read: true,
         bytes: held,
+    })
+}
+
+// The file of a name.
+fn read_file(rt: &(impl Files + Eprint), name: &str, file: &mut [u8]) -> io::Result<Held>
+    ensures { IfOk result (λ r. Holds r.read r.bytes file.new) }
+{
+    let mut opened = File::open(rt, name)?;
+    read_open(rt, &mut opened, name, file)
+}
+
+// The name at a place of the arguments, as text: a name that is not is of no file that can be opened.
+fn name_at<'a>(rt: &impl Env, place: usize, space: &'a mut [u8; NAME]) -> io::Result<&'a str> {
+    let Ok(size) = rt.arg(place, space) else {
+        return Err(io::Error::from(io::ErrorKind::InvalidFilename));
+    };
+    match str::from_utf8(&space[..size]) {
+        Ok(name) => Ok(name),
+        Err(_) => Err(io::Error::from(io::ErrorKind::InvalidFilename)),
     }
 }
 
 // The file that an argument names.
-fn read_named(place: usize, file: &mut [u8]) -> Held
-    ensures { Holds result.read result.bytes file.new }
+fn read_named(rt: &(impl Env + Files + Eprint), place: usize, file: &mut [u8]) -> io::Result<Held>
+    ensures { IfOk result (λ r. Holds r.read r.bytes file.new) }
 {
-    let mut name = io::buffer();
-    let size = os::arg(place, &mut name);
-    if os::errno() != 0 {
-        os::fail(b"file name");
-        return unread();
+    let mut space = [0u8; NAME];
+    match name_at(rt, place, &mut space) {
+        Ok(name) => match read_file(rt, name, file) {
+            Ok(held) => Ok(held),
+            Err(error) => {
+                fail(rt, name, error)?;
+                Ok(unread())
+            }
+        },
+        Err(error) => {
+            fail(rt, "file name", error)?;
+            Ok(unread())
+        }
     }
-    let fd = os::open_read(&name[..size]);
-    if fd < 0 {
-        os::fail(&name[..size]);
-        return unread();
-    }
-    let held = read_open(fd, &name[..size], file);
-    libc::close(fd);
-    held
 }
 
-fn main() {
-    if os::arg_count() != 3 {
-        io::write_all(
-            STDERR_FILENO,
-            b"compare_recordings: two file names are asked for\n",
-        );
-        return;
+// Whether there is an argument at a place.
+fn has_argument(rt: &impl Env, place: usize) -> bool {
+    let mut space = [0u8; NAME];
+    match rt.arg(place, &mut space) {
+        Err(FillError::NotPresent) => false,
+        _ => true,
+    }
+}
+
+fn main(rt: HostRuntime) -> io::Result<()> {
+    if !has_argument(&rt, 2) || has_argument(&rt, 3) {
+        return eprintln!(rt; "compare_recordings: two file names are asked for");
     }
     let mut file = space();
     let mut file2 = space();
-    let one = read_named(1, &mut file);
+    let one = read_named(&rt, 1, &mut file)?;
     if !one.read {
-        return;
+        return Ok(());
     }
-    let two = read_named(2, &mut file2);
+    let two = read_named(&rt, 2, &mut file2)?;
     if !two.read {
-        return;
+        return Ok(());
     }
     let n = one.bytes;
     let n2 = two.bytes;
     let mut out = [0u8; recording_files::TEXT];
     let used = recording_files::print_files(&file[..n], &file2[..n2], &mut out);
-    io::write_all(STDOUT_FILENO, &out[..used]);
+    Print::write_all(&rt, &out[..used])
 }

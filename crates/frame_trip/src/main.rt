@@ -1,22 +1,25 @@
 // Writes a frame of every kind, the longest of kinds 6, 10 and 12 among them, reads each back, and cuts each short at every byte.
 // A line for each kind: the kind, the frame's length, how many of its proper prefixes give 10, 1 where it is read and written
 // again as the same bytes, and the bytes themselves of a frame of up to 44.
+#![tactic(auto)]
+
 ghost use Rattle.std.specs.Prelude.{◌≤◌};
 
 use frames::{Message, Reading, Written};
 use keys::Key;
-use libc::STDOUT_FILENO;
+use std::io;
 
 fn wide(byte: u8) -> u64 {
     byte as u64
 }
 
-fn print_bytes(bytes: &[u8]) {
+fn print_bytes(rt: &impl Print, bytes: &[u8]) -> io::Result<()> {
     let mut i: usize = 0;
     while i < bytes.len() {
-        io::print_hex(STDOUT_FILENO, wide(bytes[i]), 2);
+        print!(rt; "{:02x}", wide(bytes[i]))?;
         i += 1;
     }
+    Ok(())
 }
 
 // A message of each kind; kinds 6, 10 and 12 with as many entries as they can have.
@@ -145,38 +148,39 @@ fn again(bytes: &[u8]) -> usize {
     }
 }
 
-fn report(kind: u32, bytes: &[u8]) {
-    io::print_decimal(STDOUT_FILENO, kind as u64);
-    io::write_all(STDOUT_FILENO, b" ");
-    io::print_decimal(STDOUT_FILENO, bytes.len() as u64);
-    io::write_all(STDOUT_FILENO, b" ");
-    io::print_decimal(STDOUT_FILENO, cut(bytes) as u64);
-    io::write_all(STDOUT_FILENO, b" ");
-    io::print_decimal(STDOUT_FILENO, again(bytes) as u64);
+fn report(rt: &impl Print, kind: u32, bytes: &[u8]) -> io::Result<()> {
+    print!(rt; "{kind} {} {} {}", bytes.len(), cut(bytes), again(bytes))?;
     if bytes.len() <= 44 {
-        io::write_all(STDOUT_FILENO, b" ");
-        print_bytes(bytes);
+        print!(rt; " ")?;
+        print_bytes(rt, bytes)?;
     }
-    io::write_all(STDOUT_FILENO, b"\n");
+    println!(rt;)
 }
 
-fn trip(kind: u32, keys: &[u32; 256], badges: &[u32; 256], numbers: &[u32; 256]) {
+fn trip(
+    rt: &impl Print,
+    kind: u32,
+    keys: &[u32; 256],
+    badges: &[u32; 256],
+    numbers: &[u32; 256],
+) -> io::Result<()> {
     let mut bytes = [0u8; 1923];
     let n = length_of(frames::write_frame(sample(kind), keys, badges, numbers, &mut bytes));
     if 1923 < n {
-        return;
+        return Ok(());
     }
-    report(kind, &bytes[..n]);
+    report(rt, kind, &bytes[..n])
 }
 
-fn main() {
+fn main(rt: HostRuntime) -> io::Result<()> {
     let mut keys = [0u32; 256];
     let mut badges = [0u32; 256];
     let mut numbers = [0u32; 256];
     fill(&mut keys, &mut badges, &mut numbers);
     let mut kind: u32 = 1;
     while kind <= 12 {
-        trip(kind, &keys, &badges, &numbers);
+        trip(&rt, kind, &keys, &badges, &numbers)?;
         kind += 1;
     }
+    Ok(())
 }

@@ -1,14 +1,17 @@
 // The turns of the program that prints a load, on lent tables: the store is opened, then each turn picks a step, plays it, prints its line.
-ghost use Rattle.std.specs.Prelude.{◌≡◌, cond, ◌≤◌, ◌<◌, leb, length};
+#![tactic(auto)]
+
+ghost use Rattle.std.specs.Prelude.{◌≡◌, cond, ◌≤◌, ◌<◌, leb, length, IfOk, OnErr};
 ghost use Rattle.tables.specs.Tables.{tables_of};
 ghost use Rattle.soundness.specs.Facts.{Sound};
 ghost use Rattle.printing.specs.Sizes.{answer_most};
 ghost use Rattle.window.specs.Window.{room_from};
 ghost use Rattle.load_text.specs.Given.{begins, picks, Gave};
 
-use libc::{STDIN_FILENO, STDOUT_FILENO};
 use load_text::{Asked, Giving};
 use rules::Answer;
+use std::io;
+use std::io::{Print, Read, Stdin, Stdout};
 use tables::counts;
 use workload::Next;
 
@@ -68,8 +71,10 @@ pub fn begin_load(
     }
 }
 
-// One turn: a pick, and the line of the step that it gives behind what is printed so far.
+// One turn: a pick, and the line of the step that it gives behind what is printed so far. Where the writing fails, the tables and the print are
+// as they were.
 pub fn give_step(
+    output: &Stdout,
     run: Giving,
     counts: &mut [u32],
     clients: &mut [u32],
@@ -80,29 +85,46 @@ pub fn give_step(
     writes: &mut [u32],
     reads: &mut [u32],
     out: &mut [u8],
-) -> Giving
+) -> io::Result<Giving>
     requires sound { Sound (tables_of counts.old clients.old links.old keys.old values.old log.old writes.old reads.old) }
     requires left_nonzero { (0 < run.left) × ((run.used ≤ length out.old) × (answer_most ≤ length out.old)) }
-    ensures { Gave (picks run.left run.seed (tables_of counts.old clients.old links.old
+    ensures gave { IfOk result (λ r. Gave (picks run.left run.seed (tables_of counts.old clients.old links.old
         keys.old values.old log.old writes.old reads.old))
-        (room_from run.used (length out.old)) out.old result out.new
+        (room_from run.used (length out.old)) out.old r out.new
         (tables_of counts.new clients.new links.new keys.new
-        values.new log.new writes.new reads.new) }
+        values.new log.new writes.new reads.new)) }
+    ensures failed_tables { OnErr result (tables_of counts.new clients.new links.new keys.new values.new log.new writes.new reads.new ≡ tables_of counts.old clients.old links.old keys.old values.old log.old writes.old reads.old) }
+    ensures failed_print { OnErr result (out.new ≡ out.old) }
 {
-    let at = window::room_from(run.used, &*out);
+    let at = window::room_from(output, run.used, &*out)?;
     let servers = counts::count_at(&*counts, counts::SERVERS);
     let next: Next = load_steps::take_step(
         counts, clients, links, keys, values, log, writes, reads, run.seed,
     );
-    load_text::print_next(run, next, servers, out, at)
+    Ok(load_text::print_next(run, next, servers, out, at))
+}
+
+// Reads until the space is full or the text ends, and answers how many bytes came.
+fn read_full(input: &mut Stdin, space: &mut [u8]) -> io::Result<usize>
+    ensures { IfOk result (λ held. held ≤ length space.new) }
+{
+    let mut held = 0;
+    while held < space.len() {
+        let came = input.read(&mut space[held..])?;
+        if came == 0 {
+            break;
+        }
+        held += came;
+    }
+    Ok(held)
 }
 
 // Reads the line that asks for a load from standard input and prints the load, opening first, as a schedule; or `no` and the number.
-// It is lent nothing and answers nothing, so that no contract is left to state: what the system reads and writes is in none. What it does
-// is in those of `read_asked`, `begin_load` and `give_step`, and that it ends is part of its proof.
-pub fn print_load() {
+// It is lent no table and answers nothing but an error of reading or writing, so that no contract is left to state: what the system reads and
+// writes is in none. What it does is in those of `read_asked`, `begin_load` and `give_step`, and that it ends is part of its proof.
+pub fn print_load(input: &mut Stdin, output: &Stdout) -> io::Result<()> {
     let mut text = [0u8; TEXT];
-    let held = io::read_full(STDIN_FILENO, &mut text);
+    let held = read_full(input, &mut text)?;
     let asked = load_text::read_asked(line_reading::line_at(&text[..held], 0));
     let mut counts = [0u32; counts::WORDS];
     let mut clients = [0u32; streaming::CLIENTS];
@@ -127,6 +149,7 @@ pub fn print_load() {
     );
     while 0 < run.left {
         run = give_step(
+            output,
             run,
             &mut counts,
             &mut clients,
@@ -137,8 +160,8 @@ pub fn print_load() {
             &mut writes,
             &mut reads,
             &mut out,
-        );
+        )?;
     }
     let used = run.used;
-    io::write_all(STDOUT_FILENO, &out[..used]);
+    output.write_all(&out[..used])
 }

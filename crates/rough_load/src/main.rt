@@ -1,4 +1,8 @@
 // Prints a load as a schedule: reads the line `seed length method k p` from standard input.
-fn main() {
-    load_turns::print_load();
+#![tactic(auto)]
+
+use std::io;
+
+fn main(rt: HostRuntime) -> io::Result<()> {
+    load_turns::print_load(&mut rt.stdin(), &rt.stdout())
 }

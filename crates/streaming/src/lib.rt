@@ -1,15 +1,18 @@
 // Plays a text of any length from standard input through a window, line by line, and prints the answers, gathered, to standard output.
-ghost use Rattle.std.specs.Prelude.{◌≡◌, ◌+◌, ◌≤◌, ◌<◌, length};
+#![tactic(auto)]
+
+ghost use Rattle.std.specs.Prelude.{◌≡◌, ◌+◌, ◌-◌, ◌≤◌, ◌<◌, cond, length, take, drop, IfOk, OnErr};
 ghost use Rattle.tables.specs.Tables.{tables_of};
 ghost use Rattle.schedule.specs.Steps.{setpoints_most};
 ghost use Rattle.printing.specs.Printed.{Printed};
 ghost use Rattle.printing.specs.Sizes.{answer_most};
 ghost use Rattle.register_text.specs.Text.{register_most, register_printed};
 ghost use Rattle.playing.specs.Playable.{Playable};
-ghost use Rattle.window.specs.Window.{turns_most, Going};
+ghost use Rattle.window.specs.Window.{turns_most, held_by, wants_more, Going};
 ghost use Rattle.turn.specs.Turned.{Answered, Turned};
 
-use libc::STDOUT_FILENO;
+use std::io;
+use std::io::{Print, Stdin, Stdout};
 use tables::counts::METHOD;
 use tables::{clients, counts, links, log, records, versions};
 use window::Run;
@@ -66,8 +69,12 @@ fn answer_line(
     window::pass(run, size, number, used)
 }
 
-// One turn: a line whose end is held, or that is too long, is answered; else more is read.
+// One turn: a line whose end is held, or that is too long, is answered; else more is read. Where the reading or the writing fails, the tables
+// and the print are as they were, and what was held and not yet played stands in the window: at its front where more was wanted, else where it
+// stood.
 fn turn(
+    input: &mut Stdin,
+    output: &Stdout,
     run: Run,
     counts: &mut [u32],
     clients: &mut [u32],
@@ -80,28 +87,32 @@ fn turn(
     setpoints: &mut [u32],
     window: &mut [u8],
     out: &mut [u8],
-) -> Run
+) -> io::Result<Run>
     requires playable { Playable (tables_of counts.old clients.old links.old keys.old values.old log.old writes.old reads.old) }
     requires going { Going run window.old out.old × (0 < run.left) }
     requires setpoints_most_in_bounds { setpoints_most ≤ length setpoints.old }
-    ensures { Turned run window.old out.old (tables_of counts.old clients.old links.old keys.old values.old log.old writes.old reads.old) result window.new out.new (tables_of counts.new clients.new links.new keys.new values.new log.new writes.new reads.new) }
+    ensures turned { IfOk result (λ r. Turned run window.old out.old (tables_of counts.old clients.old links.old keys.old values.old log.old writes.old reads.old) r window.new out.new (tables_of counts.new clients.new links.new keys.new values.new log.new writes.new reads.new)) }
+    ensures failed_tables { OnErr result (tables_of counts.new clients.new links.new keys.new values.new log.new writes.new reads.new ≡ tables_of counts.old clients.old links.old keys.old values.old log.old writes.old reads.old) }
+    ensures failed_print { OnErr result (out.new ≡ out.old) }
+    ensures failed_window { OnErr result (take (run.held - run.from) (drop (cond (wants_more run window.old) 0 run.from) window.new) ≡ held_by run window.old) }
 {
     let from = run.from;
     let held = run.held;
     let line = line_reading::line_at(&window[..held], from);
     let size = line.len();
     if window::lacks_end(size, held - from) {
-        return window::read_on(run, window);
+        return window::read_on(input, run, window);
     }
-    let ready = window::make_room(run, &*out);
-    answer_line(
+    let ready = window::make_room(output, run, &*out)?;
+    Ok(answer_line(
         ready, counts, clients, links, keys, values, log, writes, reads, line, setpoints, out,
-    )
+    ))
 }
 
-// Plays standard input to its end, and prints the answers and the register. It is lent nothing and answers nothing, so that no contract is left to state:
-// what the system reads and writes is in none. What it does is in those of `turn` and `texts::print_end`, and that it ends is part of its proof.
-pub fn replay() {
+// Plays standard input to its end, and prints the answers and the register. It is lent no table and answers nothing but an error of reading or
+// writing, so that no contract is left to state: what the system reads and writes is in none. What it does is in those of `turn` and
+// `texts::print_end`, and that it ends is part of its proof.
+pub fn replay(input: &mut Stdin, output: &Stdout) -> io::Result<()> {
     let mut counts = [0u32; counts::WORDS];
     let mut clients = [0u32; CLIENTS];
     let mut links = [0u32; LINKS];
@@ -123,6 +134,8 @@ pub fn replay() {
     };
     while 0 < run.left {
         run = turn(
+            input,
+            output,
             run,
             &mut counts,
             &mut clients,
@@ -135,12 +148,12 @@ pub fn replay() {
             &mut setpoints,
             &mut window,
             &mut out,
-        );
+        )?;
     }
     let used = run.used;
-    io::write_all(STDOUT_FILENO, &out[..used]);
+    output.write_all(&out[..used])?;
     let end = texts::print_end(
         &counts, &clients, &links, &keys, &values, &log, &writes, &reads, &mut out, 0,
     );
-    io::write_all(STDOUT_FILENO, &out[..end]);
+    output.write_all(&out[..end])
 }

@@ -1,13 +1,15 @@
 // Puts a version into a table of 4096 places, looks a key up in it, and prints what was found, a line for each trial:
 // what the append answered, how many can be read then, where the key stands, what the look-up answered, the badge and the setpoint.
 // `stdout` holds what the rules say of each line, worked out by hand.
+#![tactic(auto)]
+
 ghost use Rattle.std.specs.Prelude.{◌≡◌};
 ghost use Rattle.keys.specs.Keys.{key_of};
 ghost use Rattle.version_records.specs.Table.{trial_of};
 ghost use Rattle.version_records.specs.Core.{version_of};
 
 use keys::Key;
-use libc::STDOUT_FILENO;
+use std::io;
 use version_records::{Trial, Version};
 
 fn version_of(count: u8, client: u8, badge: u16, setpoint: u32) -> Version
@@ -20,20 +22,12 @@ fn version_of(count: u8, client: u8, badge: u16, setpoint: u32) -> Version
     }
 }
 
-fn print(trial: Trial) {
+fn print(rt: &impl Print, trial: Trial) -> io::Result<()> {
     let reading = trial.reading;
-    io::print_decimal(STDOUT_FILENO, trial.number as u64);
-    io::write_all(STDOUT_FILENO, b" ");
-    io::print_decimal(STDOUT_FILENO, trial.readable as u64);
-    io::write_all(STDOUT_FILENO, b" ");
-    io::print_decimal(STDOUT_FILENO, trial.place as u64);
-    io::write_all(STDOUT_FILENO, b" ");
-    io::print_decimal(STDOUT_FILENO, reading.number as u64);
-    io::write_all(STDOUT_FILENO, b" ");
-    io::print_decimal(STDOUT_FILENO, reading.badge as u64);
-    io::write_all(STDOUT_FILENO, b" ");
-    io::print_decimal(STDOUT_FILENO, reading.setpoint as u64);
-    io::write_all(STDOUT_FILENO, b"\n");
+    println!(rt;
+        "{} {} {} {} {} {}",
+        trial.number, trial.readable, trial.place, reading.number, reading.badge, reading.setpoint
+    )
 }
 
 // A table that is full of key (1, 0) with badge 7 at 30 takes a version of a key with badge 65,535 at 45, behind those held; then a key is
@@ -46,18 +40,18 @@ fn tried(held: usize, count: u8, client: u8, sought: Key) -> Trial
     versions::append_and_read(blank, held, version, sought)
 }
 
-fn main() {
+fn main(rt: HostRuntime) -> io::Result<()> {
     // The version that was appended is found behind the three that were held.
-    print(tried(3, 2, 1, Key::new(2, 1)));
+    print(&rt, tried(3, 2, 1, Key::new(2, 1)))?;
     // Of two that bear the key, the first is found, and not the one that arrived last.
-    print(tried(3, 1, 0, Key::new(1, 0)));
+    print(&rt, tried(3, 1, 0, Key::new(1, 0)))?;
     // A key that no version bears is not held.
-    print(tried(3, 2, 1, Key::new(3, 0)));
+    print(&rt, tried(3, 2, 1, Key::new(3, 0)))?;
     // What stands in a place that is not held is not found.
-    print(tried(0, 2, 1, Key::new(1, 0)));
+    print(&rt, tried(0, 2, 1, Key::new(1, 0)))?;
     // The last of the 256 places is taken; then there is none left, and nothing changes.
-    print(tried(255, 2, 1, Key::new(2, 1)));
-    print(tried(256, 2, 1, Key::new(2, 1)));
+    print(&rt, tried(255, 2, 1, Key::new(2, 1)))?;
+    print(&rt, tried(256, 2, 1, Key::new(2, 1)))?;
     // More than 256 are never read, however many are said to be held.
-    print(tried(5000, 2, 1, Key::new(1, 0)));
+    print(&rt, tried(5000, 2, 1, Key::new(1, 0)))
 }

@@ -56,6 +56,10 @@ module _ (window : List ℕ) (from held : ℕ) (h : from ≤ held) (k : held ≤
     front : take rest left ≡ part
     front = f ∙ (ap (λ (n : ℕ). take n slid) r ∙ slid_front slid e)
 
+    -- where nothing could be read
+    pub held_front : take (held - from) left ≡ part
+    held_front = ap (λ (n : ℕ). take n left) (sym r) ∙ front
+
     part-size : length part ≡ rest
     part-size = ap length (sym front) ∙ length-take-le rest left (omega (arith, r, long, k))
 

@@ -1,11 +1,14 @@
 // The window through which a text of any length is read from standard input: what is held of the text, how more of it comes in, how the run
 // goes on behind a line, and when the print is written out. No table is needed for any of it.
-ghost use Rattle.std.specs.Prelude.{◌≡◌, ◌+◌, ◌-◌, ◌≤◌, ◌<◌, length, take, drop};
+#![tactic(auto)]
+
+ghost use Rattle.std.specs.Prelude.{◌≡◌, ◌+◌, ◌-◌, ◌≤◌, ◌<◌, length, take, drop, IfOk, OnErr};
 ghost use Rattle.std.proofs.Math.Seq.{paste};
 ghost use Rattle.printing.specs.Sizes.{answer_most};
-ghost use Rattle.window.specs.Window.{lacks_end, room_from, passed, roomy, Came, ReadOn};
+ghost use Rattle.window.specs.Window.{held_by, lacks_end, room_from, passed, roomy, Came, ReadOn};
 
-use libc::{STDIN_FILENO, STDOUT_FILENO};
+use std::io;
+use std::io::{Print, Read, Stdin, Stdout};
 
 // The sizes of the window and of the print.
 pub const WINDOW: usize = 65536;
@@ -16,7 +19,7 @@ pub const PRINT: usize = 65536;
 pub const TURNS: u64 = 9223372036854775808;
 
 // The run between two turns.
-#[derive(Drop)]
+#[derive(Clone, Copy)]
 pub struct Run {
     // how many turns may still come: it falls in each, so that the run ends
     pub left: u64,
@@ -32,6 +35,7 @@ pub struct Run {
 }
 
 // The run behind a line of this size at its place: behind its byte 10, or within it where that is not held yet.
+#[tactic(auto, unfolding(crate::specs::Window::passed))]
 pub fn pass(run: Run, size: usize, lines: u64, used: usize) -> Run
     requires { (run.from + size ≤ run.held) × (0 < run.left) }
     ensures { result ≡ passed run size lines used }
@@ -71,83 +75,87 @@ fn slide(window: &mut [u8], from: usize, held: usize) -> usize
     count
 }
 
-// Reads into the window behind its first bytes, and answers how many bytes came.
-fn read_behind(window: &mut [u8], rest: usize) -> usize
+// Reads into the window behind its first bytes, and answers how many bytes came. Where the reading fails, the first bytes stand too.
+fn read_behind(input: &mut Stdin, window: &mut [u8], rest: usize) -> io::Result<usize>
     requires { rest ≤ length window.old }
-    ensures { (rest + result ≤ length window.old) × (take rest window.new ≡ take rest window.old) }
+    ensures within { IfOk result (λ came. rest + came ≤ length window.old) }
+    ensures kept { take rest window.new ≡ take rest window.old }
 {
     let space = &mut window[rest..];
-    let got = libc::read(STDIN_FILENO, space);
-    io::count(got, space)
+    input.read(space)
 }
 
 // Reads on behind what is held, and answers how many bytes are held then, from the front of the window on.
-// At the end of the text what is left of it gets a byte 10.
-fn refill(window: &mut [u8], from: usize, held: usize) -> usize
+// At the end of the text what is left of it gets a byte 10. Where the reading fails, what was held stands at the front of the window.
+fn refill(input: &mut Stdin, window: &mut [u8], from: usize, held: usize) -> io::Result<usize>
     requires { (from ≤ held) × ((held ≤ length window.old) × (held - from < length window.old)) }
-    ensures { Came window.old from held result window.new }
+    ensures came { IfOk result (λ now. Came window.old from held now window.new) }
+    ensures failed { OnErr result (take (held - from) window.new ≡ drop from (take held window.old)) }
 {
     let rest = slide(window, from, held);
-    let came = read_behind(window, rest);
+    let came = read_behind(input, window, rest)?;
     if came == 0 {
         if rest == 0 {
-            return 0;
+            return Ok(0);
         }
         window[rest] = 10;
-        return rest + 1;
+        return Ok(rest + 1);
     }
-    rest + came
+    Ok(rest + came)
 }
 
-// No line's end is held: reads on. The run ends where the text does.
-pub fn read_on(run: Run, window: &mut [u8]) -> Run
+// No line's end is held: reads on. The run ends where the text does. Where the reading fails, what was held stands at the front of the window.
+pub fn read_on(input: &mut Stdin, run: Run, window: &mut [u8]) -> io::Result<Run>
     requires from_le_held { (run.from ≤ run.held) × ((run.held ≤ length window.old) × (run.held - run.from < length window.old)) }
     requires left_nonzero { 0 < run.left }
-    ensures { ReadOn run window.old result window.new }
+    ensures read { IfOk result (λ r. ReadOn run window.old r window.new) }
+    ensures failed { OnErr result (take (run.held - run.from) window.new ≡ held_by run window.old) }
 {
-    let held = refill(window, run.from, run.held);
+    let held = refill(input, window, run.from, run.held)?;
     let mut left: u64 = 0;
     if 0 < held {
         left = run.left - 1;
     }
-    Run {
+    Ok(Run {
         left: left,
         lines: run.lines,
         from: 0,
         held: held,
         used: run.used,
         skipping: run.skipping,
-    }
+    })
 }
 
-// Writes the print out where it is nearly full. It answers where the print goes on.
-pub fn room_from(used: usize, out: &[u8]) -> usize
+// Writes the print out where it is nearly full. It answers where the print goes on. Where the writing fails, nothing that is lent is changed.
+#[tactic(auto, unfolding(crate::specs::Window::room_from))]
+pub fn room_from(output: &Stdout, used: usize, out: &[u8]) -> io::Result<usize>
     requires { (used ≤ length out.now) × (answer_most ≤ length out.now) }
-    ensures { result ≡ room_from used (length out.now) }
+    ensures { IfOk result (λ next. next ≡ room_from used (length out.now)) }
 {
     if out.len() - printing::ANSWER < used {
-        io::write_all(STDOUT_FILENO, &out[..used]);
-        return 0;
+        output.write_all(&out[..used])?;
+        return Ok(0);
     }
-    used
+    Ok(used)
 }
 
-// The run with room for an answer in its print.
-pub fn make_room(run: Run, out: &[u8]) -> Run
+// The run with room for an answer in its print. Where the writing fails, nothing that is lent is changed.
+pub fn make_room(output: &Stdout, run: Run, out: &[u8]) -> io::Result<Run>
     requires { (run.used ≤ length out.now) × (answer_most ≤ length out.now) }
-    ensures { result ≡ roomy run (room_from run.used (length out.now)) }
+    ensures { IfOk result (λ r. r ≡ roomy run (room_from run.used (length out.now))) }
 {
-    Run {
+    Ok(Run {
         left: run.left,
         lines: run.lines,
         from: run.from,
         held: run.held,
-        used: room_from(run.used, out),
+        used: room_from(output, run.used, out)?,
         skipping: run.skipping,
-    }
+    })
 }
 
 // Whether a line of this size, at the front of so many bytes that are held, has neither its end there nor more bytes than a step's line.
+#[tactic(auto, unfolding(crate::specs::Window::lacks_end))]
 pub fn lacks_end(size: usize, held: usize) -> bool
     ensures { result ≡ lacks_end size held }
 {
