@@ -1,4 +1,6 @@
 // The answers, printed into lent space.
+#![tactic(auto)]
+
 ghost use Rattle.std.specs.Prelude.{◌≡◌, ◌+◌, ◌≤◌, ◌++◌, length};
 ghost use Rattle.printing.specs.Texts.{spaced, word_text, answer_text};
 ghost use Rattle.printing.specs.Printed.{Printed};

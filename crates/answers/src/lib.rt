@@ -1,5 +1,7 @@
 // How a target answers a request: the reply takes the request's place, and the step counts; the answers that go by the counts alone. The
 // tables are known to be sound.
+#![tactic(auto)]
+
 ghost use Rattle.std.specs.Prelude.{◌≡◌, List, ℕ, ◌<◌};
 ghost use Rattle.tables.specs.Tables.{tables_of};
 ghost use Rattle.tables.specs.Links.{targets};

@@ -1,4 +1,6 @@
 // The beginnings of transactions, on tables known to be sound; and the get requests with which B's READ goes on.
+#![tactic(auto)]
+
 ghost use Rattle.std.specs.Prelude.{◌≡◌, List, ℕ, ◌≤◌, ◌<◌, length, true, cond};
 ghost use Rattle.keys.specs.Masks.{has_server};
 ghost use Rattle.tables.specs.Tables.{tables_of};

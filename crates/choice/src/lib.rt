@@ -1,4 +1,6 @@
 // Method C's last reply: the choice of the tag, and the setpoints and badges at it.
+#![tactic(auto)]
+
 ghost use Rattle.std.specs.Prelude.{◌≡◌, length, replicate, cond};
 ghost use Rattle.ranges.specs.Picked.{laid_over};
 ghost use Rattle.keys.specs.Masks.{has_server};

@@ -1,4 +1,6 @@
 // The delivery of a reply to a READ by method C, on tables known to be sound: the last one chooses the tag, and the READ ends by it.
+#![tactic(auto)]
+
 ghost use Rattle.std.specs.Prelude.{◌≡◌, List, ℕ, replicate};
 ghost use Rattle.tables.specs.Tables.{tables_of};
 ghost use Rattle.rules.specs.Reply.{on_all};

@@ -1,5 +1,7 @@
 // Two recordings of one wire, compared link by link. Both are judged wholly first; then each link is followed through both at once, by two
 // cursors, with no memory beyond these.
+#![tactic(auto)]
+
 ghost use Rattle.std.specs.Prelude.{◌≡◌};
 ghost use Rattle.recordings.specs.Recording.{frames_of};
 ghost use Rattle.recordings.specs.Comparing.{difference_on, from_link, links, compared};

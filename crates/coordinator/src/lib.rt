@@ -1,4 +1,6 @@
 // The head's part: the log, and the key of a station at a tag. The head is the coordinator here, a station a server.
+#![tactic(auto)]
+
 ghost use Rattle.std.specs.Prelude.{◌≡◌, ◌≤◌, ◌<◌, length};
 ghost use Rattle.ranges.specs.Laid.{laid};
 ghost use Rattle.coordinator.specs.Log.{LogRoom, HasEntry, enter_left, entered};
@@ -22,7 +24,7 @@ pub fn enter(counts: &mut [u32], log: &mut [u32], key: Key, mask: u32) -> bool
 }
 
 // What the search back finds for a server: the key of the latest entry that wrote it, and the tag of that entry.
-#[derive(Drop)]
+#[derive(Clone, Copy)]
 pub struct Latest {
     pub key: Key,
     pub tag: u32,

@@ -1,4 +1,6 @@
 // How the coordinator answers an enter request, on tables known to be sound.
+#![tactic(auto)]
+
 ghost use Rattle.std.specs.Prelude.{◌≡◌, List, ℕ};
 ghost use Rattle.tables.specs.Tables.{tables_of};
 ghost use Rattle.rules.specs.Answers.{left};

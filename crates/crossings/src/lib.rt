@@ -1,5 +1,7 @@
 // What a delivered reply answers, as it crosses to other languages, made of an outcome on tables known to be sound: nothing is shown, or a
 // READ has ended and the client's row shows its setpoints and badges. `sound_exports` calls these; an edit of them proves no step.
+#![tactic(auto)]
+
 ghost use Rattle.std.specs.Prelude.{◌≡◌, true};
 ghost use Rattle.tables.specs.Rows.{HasRow};
 ghost use Rattle.tables.specs.Layout.{client_width};

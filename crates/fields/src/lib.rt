@@ -1,6 +1,8 @@
 // A field of up to 32 bits at any place of a row of bits, which bytes hold most significant bit first, taken by whole bytes: a part of a
 // byte first and last. Callers reach bits by `read_field` and `write_field` alone; `field_by_bytes` and `put_by_bytes` turn what these
 // promise into `field_at` and `put_field`, bit by bit. They prove that the field is narrow enough and inside, so that no byte is tested for.
+#![tactic(auto)]
+
 ghost use Rattle.std.specs.Prelude.{◌≡◌, ◌+◌, ◌-◌, ◌^◌, ◌≤◌, ◌<◌, length};
 ghost use Rattle.fields.specs.Parts.{part_at, with_part, put_part, up_to, put_up_to, field_by_bytes, put_by_bytes};
 ghost use Rattle.fields.specs.Asked.{Inside, InByte, Across};

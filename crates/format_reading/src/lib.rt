@@ -1,5 +1,7 @@
 // From bytes to values by the format of frames: the fixed fields one by one, then the entries, until the first fault. Only the fixed values
 // are kept. What the world calls is `frames::read_frame`.
+#![tactic(auto)]
+
 ghost use Rattle.std.specs.Prelude.{◌≡◌, ◌*◌, ◌≤◌, ◌<◌, length};
 ghost use Rattle.frame_table.specs.Columns.{most_bits};
 ghost use Rattle.frame_table.specs.Table.{sorts};

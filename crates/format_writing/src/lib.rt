@@ -1,5 +1,7 @@
 // From values to bytes, by the format: all values are tested before the first byte is written.
 // Its functions are for `frames`, which proves what they ask; what the world calls is `frames::write_frame`.
+#![tactic(auto)]
+
 ghost use Rattle.std.specs.Prelude.{◌≡◌, ◌+◌, ◌*◌, ◌^◌, ◌≤◌, ◌<◌, true, ◌&&◌, ltb, length, get_or};
 ghost use Rattle.formats.specs.Grammar.{good, lay, zeros};
 ghost use Rattle.ranges.specs.All.{all_below};
@@ -282,7 +284,7 @@ fn fill(
 }
 
 // What writing did: the number that refuses it, or 0 and the frame's length in bytes.
-#[derive(Drop)]
+#[derive(Clone, Copy)]
 pub struct Wrote {
     pub fault: u8,
     pub length: usize,

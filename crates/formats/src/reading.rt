@@ -2,7 +2,7 @@
 use frame_table::FIXED_FIELDS;
 
 // A field as it was read: what is wrong with it, its bits, and its value.
-#[derive(Drop)]
+#[derive(Clone, Copy)]
 pub struct Took {
     pub fault: u8,
     pub width: usize,
@@ -10,7 +10,7 @@ pub struct Took {
 }
 
 // What reading found: the number that refuses the bytes, or 0, how many values there are and the fixed ones.
-#[derive(Drop)]
+#[derive(Clone, Copy)]
 pub struct Scan {
     pub fault: u8,
     pub fields: usize,

@@ -7,7 +7,7 @@ use frame_table::Field;
 
 // What is known ahead of a field: the kind and the client once they are read, the value before it, how many fields are left
 // (until the number of entries is read, of the header and the fixed body alone), and its place in the table.
-#[derive(Drop)]
+#[derive(Clone, Copy)]
 pub struct State {
     pub kind: u32,
     pub client: u32,

@@ -1,4 +1,6 @@
 // The entries beside a message: whether there are places for them, and from a frame's bytes to these.
+#![tactic(auto)]
+
 ghost use Rattle.std.specs.Prelude.{◌≡◌, cond, length};
 ghost use Rattle.frame_table.specs.Table.{has_badges};
 ghost use Rattle.frame_table.specs.Entry.{behind_of};

@@ -1,6 +1,8 @@
 // What other languages call: the reader and the writer of frames, on numbers and slices.
 // A message crosses as two numbers, its head (kind, client, server, tag, key, badge) and its tail (how many entries, setpoint or mask), a
 // refusal as 2^64 - 1 less its number.
+#![tactic(auto)]
+
 ghost use Rattle.std.specs.Prelude.{◌≡◌, ◌-◌};
 ghost use Rattle.frames.specs.Frames.{reading_of, keys_read, badges_read, numbers_read, found};
 ghost use Rattle.frame_exports.specs.Numbers.{digits_of, pair_of, head_of, tail_of, parts_of, refused_number, written_number};
@@ -88,7 +90,7 @@ fn tail_of(message: Message) -> u64
 
 // A message as it crosses; where it is refused, both are the refusal.
 #[repr(C)]
-#[derive(Drop)]
+#[derive(Clone, Copy)]
 pub struct Parts {
     pub head: u64,
     pub tail: u64,

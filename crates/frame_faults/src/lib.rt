@@ -1,4 +1,6 @@
 // What is wrong with a frame's bytes behind its fixed fields: with its entries, which are judged where they stand, and behind these.
+#![tactic(auto)]
+
 ghost use Rattle.std.specs.Prelude.{◌≡◌, ◌+◌, ◌*◌, ◌≤◌, length};
 ghost use Rattle.frame_table.specs.Columns.{most_bits};
 ghost use Rattle.frame_table.specs.Entry.{key_bits};

@@ -1,4 +1,6 @@
 // The constant table by kind: the one source of the format.
+#![tactic(auto)]
+
 ghost use Rattle.std.specs.Prelude.{◌≡◌, ◌+◌, ◌<◌, ◌≤◌, cond, eqb};
 ghost use Rattle.frame_table.specs.Table.{server, coord, sorts, less, header_bits, limits_of, most_entries};
 ghost use Rattle.frame_table.specs.Table.{shape_of, fields, row_with, row_of, least_of, most_of, has_badges};
@@ -97,7 +99,7 @@ const BY_KIND: [[u8; 3]; KINDS] = [
 ];
 
 // A row of it.
-#[derive(Drop)]
+#[derive(Clone, Copy)]
 pub struct Shape {
     pub target: u8,
     pub body: u8,
@@ -184,7 +186,7 @@ pub fn row_of(kind: u32, target: u8) -> [u8; PLACES]
 }
 
 // A field: its bits, and the least and the greatest value that it may have.
-#[derive(Drop)]
+#[derive(Clone, Copy)]
 pub struct Field {
     pub width: usize,
     pub least: u32,
@@ -277,7 +279,7 @@ pub fn has_badges(kind: u32) -> bool
 
 // What stands behind the key of an entry: the bits of its badge, none where the kind's entries lack one, the bits of its number, and the
 // number's least value.
-#[derive(Drop)]
+#[derive(Clone, Copy)]
 pub struct Behind {
     pub badge: usize,
     pub width: usize,

@@ -1,6 +1,8 @@
 // Frames: the messages that cross the wire, from bytes and to bytes.
 // A message holds what is fixed; the entries of kinds 6, 10 and 12 stand beside it, in three lent slices: keys, as numbers, badges, which
 // only kind 10 has, and the numbers beside them: tags of kind 6, setpoints of kind 10, masks of kind 12.
+#![tactic(auto)]
+
 ghost use Rattle.std.specs.Prelude.{◌≡◌, ◌-◌};
 ghost use Rattle.formats.specs.Entries.{values_by};
 ghost use Rattle.frame_table.specs.Columns.{Packable};
@@ -16,7 +18,7 @@ use keys::Key;
 
 // A message by its kind, 1 to 12: set, set done, enter, entered, which keys, keys, get, got, get all, all, get log, log.
 // `entries` is how many entries stand beside it.
-#[derive(Drop)]
+#[derive(Clone, Copy)]
 pub enum Message {
     Set {
         client: u8,
@@ -76,14 +78,14 @@ pub enum Message {
 }
 
 // What reading gives: the message, or the number that refuses the bytes.
-#[derive(Drop)]
+#[derive(Clone, Copy)]
 pub enum Reading {
     Read(Message),
     Refused(u8),
 }
 
 // What writing gives: the frame's length in bytes, or the number that refuses the message.
-#[derive(Drop)]
+#[derive(Clone, Copy)]
 pub enum Written {
     Length(usize),
     Refused(u8),
@@ -222,7 +224,7 @@ fn fixed_of(message: Message) -> [u32; FIXED_FIELDS]
 }
 
 // What is fixed in a message, whatever its kind: its setpoint or mask is the number.
-#[derive(Drop)]
+#[derive(Clone, Copy)]
 pub struct Fixed {
     pub client: u8,
     pub server: u8,

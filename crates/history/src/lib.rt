@@ -1,4 +1,6 @@
 // The register's records: a transaction's begin, and a READ's end. A WRITE's tag and its end are one word each, put by `requests` and `replies`.
+#![tactic(auto)]
+
 ghost use Rattle.std.specs.Prelude.{◌≡◌};
 ghost use Rattle.rules.specs.Common.{begun_counts, begun_records, ended_record, tagged_record};
 ghost use Rattle.tables.specs.Rows.{HasRow};

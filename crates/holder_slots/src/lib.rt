@@ -1,5 +1,7 @@
 // The slots of the table of holders, which has for each key the servers that it was received from: which keys have a slot, and the versions
 // of one server marked in theirs.
+#![tactic(auto)]
+
 ghost use Rattle.std.specs.Prelude.{◌≡◌, ◌+◌, ◌*◌, ◌≤◌, ◌<◌, length};
 ghost use Rattle.tables.specs.Layout.{server_places};
 ghost use Rattle.holder_slots.specs.Holders.{slots, tabled, slot_of, marked, mark_versions};

@@ -1,4 +1,6 @@
 // The table of holders: the versions received from all servers are gone over once, and then each key of the log is looked up in its slot.
+#![tactic(auto)]
+
 ghost use Rattle.std.specs.Prelude.{◌≡◌, ℕ, ◌≤◌, ◌<◌, length};
 ghost use Rattle.ranges.specs.Picked.{picked};
 ghost use Rattle.keys.specs.Masks.{has_server};

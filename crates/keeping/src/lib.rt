@@ -1,4 +1,6 @@
 // Sound tables stay sound: the theorems stand in specs/, one for each step.
+#![tactic(auto)]
+
 ghost use Rattle.std.specs.Prelude.{◌≡◌};
 ghost use Rattle.keeping.specs.Steps.{may_step};
 

@@ -1,11 +1,13 @@
 // Keys and masks by value.
+#![tactic(auto)]
+
 ghost use Rattle.std.specs.Prelude.{◌≡◌, ◌-◌, ◌%◌, ◌^◌, ◌≤◌, ◌<◌};
 ghost use Rattle.keys.specs.Keys.{key_of, opening, same_key, key_word, key_at_word};
 ghost use Rattle.keys.specs.Masks.{has_server, mask_within};
 ghost use Rattle.keys.specs.Bits.{without};
 
 // A key names a WRITE: the count of the client's WRITEs so far, this one included, and the client.
-#[derive(Drop)]
+#[derive(Clone, Copy)]
 pub struct Key {
     pub count: u8,
     pub client: u8,

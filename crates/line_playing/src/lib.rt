@@ -1,4 +1,6 @@
 // One line of a schedule, played: the step that it names, its change of the tables, and its answer in print.
+#![tactic(auto)]
+
 ghost use Rattle.std.specs.Prelude.{◌≡◌, ◌+◌, ◌≤◌, length};
 ghost use Rattle.tables.specs.Tables.{tables_of};
 ghost use Rattle.schedule.specs.Steps.{setpoints_most, step_of, stored};

@@ -1,4 +1,6 @@
 // A line of a text, and the numbers of a line, read.
+#![tactic(auto)]
+
 ghost use Rattle.std.specs.Prelude.{◌≡◌, ◌-◌, ◌≤◌, length, drop};
 ghost use Rattle.schedule.specs.Lines.{line_of, end_of};
 ghost use Rattle.schedule.specs.Numbers.{digit_of, digit_head, number_of, spaced_of, numbers_of, count_of};

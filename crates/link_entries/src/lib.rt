@@ -1,5 +1,7 @@
 // The entries beside a reply under C, laid out of the lent tables into rows of their own: the log's keys and masks, a server's badges and
 // setpoints. They stand below what writes the frame of a link, so that an edit of them proves no frame.
+#![tactic(auto)]
+
 ghost use Rattle.std.specs.Prelude.{◌≡◌, ◌*◌, ◌≤◌, length};
 ghost use Rattle.ranges.specs.Laid.{laid};
 ghost use Rattle.tables.specs.Rows.{word_at};

@@ -1,5 +1,7 @@
 // The frame of a link: the message that a link holds, written from lent tables into lent bytes.
 // As in `store` there are two functions: the one judges any tables; the other, whose name ends in `_sound`, asks for sound tables and does not check them.
+#![tactic(auto)]
+
 ghost use Rattle.std.specs.Prelude.{◌≡◌, List, ℕ, ◌-◌, ◌≤◌, length};
 ghost use Rattle.tables.specs.Layout.{count_words};
 ghost use Rattle.tables.specs.Tables.{tables_of};

@@ -1,5 +1,7 @@
 // What a load answers, as it crosses to other languages: the step that it gives next, or a played load's end, each a struct of numbers.
 // `workload_exports` answers these; they stand below it, so that an edit of a number proves no load.
+#![tactic(auto)]
+
 ghost use Rattle.std.specs.Prelude.{◌≡◌, [], ◌∷◌};
 ghost use Rattle.load_numbers.specs.Numbers.{pick_words, pick_of, no_pick, next_numbers, load_numbers};
 
@@ -9,7 +11,7 @@ use workload_run::Load;
 
 // A pick as it crosses: 0 and the step, the number of a refusal, or 256 where no step is acceptable.
 #[repr(C)]
-#[derive(Drop)]
+#[derive(Clone, Copy)]
 pub struct LoadPick {
     pub answer: u32,
     // the seed behind the step, or the seed as it was
@@ -25,7 +27,7 @@ pub struct LoadPick {
 
 // A load's end as it crosses: 0, how many steps it gave and the next seed; or the number of a refusal.
 #[repr(C)]
-#[derive(Drop)]
+#[derive(Clone, Copy)]
 pub struct LoadEnd {
     pub answer: u32,
     pub steps: u32,

@@ -1,4 +1,6 @@
 // The step that a load gives next, picked by its seed among the steps that would be accepted.
+#![tactic(auto)]
+
 ghost use Rattle.std.specs.Prelude.{◌≡◌, ◌≤◌, ◌<◌, length};
 ghost use Rattle.tables.specs.Layout.{count_at, clients_field};
 ghost use Rattle.tables.specs.Tables.{tables_of, clients_of};

@@ -1,4 +1,6 @@
 // One step of a load, picked and played on lent tables that are sound.
+#![tactic(auto)]
+
 ghost use Rattle.std.specs.Prelude.{◌≡◌};
 ghost use Rattle.tables.specs.Tables.{tables_of};
 ghost use Rattle.soundness.specs.Facts.{Sound};

@@ -1,5 +1,7 @@
 // The load in print, as far as no table is needed: the line that asks for one is read, its opening and its steps are printed as lines
 // of a schedule.
+#![tactic(auto)]
+
 ghost use Rattle.std.specs.Prelude.{◌≡◌, [], ◌∷◌, ◌+◌, ◌-◌, ◌≤◌, ◌<◌, length, replicate};
 ghost use Rattle.tables.specs.Tables.{Tables};
 ghost use Rattle.rules.specs.declared.Answer.TheVariants.{Ok};
@@ -17,7 +19,7 @@ use schedule::{Number, Numbers, Step};
 use workload::Next;
 
 // A load that is wanted.
-#[derive(Drop)]
+#[derive(Clone, Copy)]
 pub struct Wanted {
     pub seed: u32,
     // how many steps, at most
@@ -28,7 +30,7 @@ pub struct Wanted {
 }
 
 // What a line asks for.
-#[derive(Drop)]
+#[derive(Clone, Copy)]
 pub enum Asked {
     // no load: number 13
     Unreadable,
@@ -36,7 +38,7 @@ pub enum Asked {
 }
 
 // The run between two turns.
-#[derive(Drop)]
+#[derive(Clone, Copy)]
 pub struct Giving {
     // how many steps are still wanted: it falls in each turn, so that the run ends
     pub left: u32,

@@ -1,5 +1,7 @@
 // The searches of the log that steps make: for a key, by blocks of entries, and for the latest entries of several servers, by one walk. Both
 // are here for speed: the search for one server as document 01 has it is the coordinator's, and laws tie the walk to it.
+#![tactic(auto)]
+
 ghost use Rattle.std.specs.Prelude.{◌≡◌, ◌*◌, ◌≤◌, ◌<◌, length, replicate};
 ghost use Rattle.ranges.specs.First.{first_below};
 ghost use Rattle.ranges.specs.FirstLaws.{Sought};

@@ -1,4 +1,6 @@
 // A loss and a resend, on tables known to be sound: what a link holds is lost, and what a client's row gives is sent again.
+#![tactic(auto)]
+
 ghost use Rattle.std.specs.Prelude.{◌≡◌, List, ℕ};
 ghost use Rattle.tables.specs.Tables.{Tables, tables_of, with_clients};
 ghost use Rattle.rules.specs.Answers.{left};

@@ -1,4 +1,6 @@
 // Bytes and numbers, printed into lent space.
+#![tactic(auto)]
+
 ghost use Rattle.std.specs.Prelude.{◌+◌, ◌≤◌, ◌<◌, [], ◌∷◌, length};
 ghost use Rattle.schedule.specs.Decimal.{decimal};
 ghost use Rattle.printing.specs.Texts.{marked, spaced};

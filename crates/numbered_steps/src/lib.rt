@@ -1,4 +1,6 @@
 // The load's steps by number, and which of so many a seed picks.
+#![tactic(auto)]
+
 ghost use Rattle.std.specs.Prelude.{◌≡◌, List, ℕ, ◌/◌, ◌≤◌, ◌<◌};
 ghost use Rattle.tables.specs.Layout.{count_at, clients_field};
 ghost use Rattle.workload.specs.declared.Next.TheVariants.{Given};

@@ -1,4 +1,6 @@
 // One step of a schedule on sound tables: no table is checked, and each step leaves them sound.
+#![tactic(auto)]
+
 ghost use Rattle.std.specs.Prelude.{◌≡◌};
 ghost use Rattle.tables.specs.Tables.{tables_of};
 ghost use Rattle.soundness.specs.Facts.{Sound};

@@ -1,4 +1,6 @@
 // The opening: method, servers, clients and setpoints are set; all else is empty or 0.
+#![tactic(auto)]
+
 ghost use Rattle.std.specs.Prelude.{◌≡◌, List, ℕ, ◌*◌, ◌≤◌, length};
 ghost use Rattle.ranges.specs.Turns.{turns};
 ghost use Rattle.tables.specs.Tables.{tables_of};

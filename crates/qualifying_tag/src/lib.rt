@@ -1,4 +1,6 @@
 // The greatest tag that qualifies: a walk up the log, over the table of holders.
+#![tactic(auto)]
+
 ghost use Rattle.std.specs.Prelude.{◌≡◌, ℕ, ◌+◌, ◌*◌, ◌≤◌, ◌<◌, eqb, length, true, cond};
 ghost use Rattle.keys.specs.Masks.{has_server};
 ghost use Rattle.keys.specs.Bits.{without};

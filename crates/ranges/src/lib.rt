@@ -1,4 +1,6 @@
 // Folds over 0..n are definitions with laws, in specs/. The search that runs over words as they are stands here.
+#![tactic(auto)]
+
 ghost use Rattle.std.specs.Prelude.{◌≡◌, ◌+◌, ◌≤◌, ◌<◌, length};
 ghost use Rattle.ranges.specs.All.{any_below};
 ghost use Rattle.ranges.specs.First.{first_below};

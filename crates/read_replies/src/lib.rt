@@ -1,5 +1,7 @@
 // The delivery of a reply to a READ by method A or B, on tables known to be sound: a function for each state that waits for one. The client
 // goes on, waits or ends. `choice_replies` has that of a READ by method C.
+#![tactic(auto)]
+
 ghost use Rattle.std.specs.Prelude.{◌≡◌, cond, List, ℕ, ◌<◌};
 ghost use Rattle.tables.specs.Tables.{tables_of};
 ghost use Rattle.tables.specs.Layout.{mask_field, tag_field, client_word};

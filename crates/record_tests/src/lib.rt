@@ -1,5 +1,7 @@
 // The tests of a record of the register, and how many records pass them.
 // They are for `listing`, which proves what they ask.
+#![tactic(auto)]
+
 ghost use Rattle.std.specs.Prelude.{◌≡◌, not, ◌≤◌};
 ghost use Rattle.ranges.specs.Sum.{count_below};
 ghost use Rattle.tables.specs.Rows.{HasRow};

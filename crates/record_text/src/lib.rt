@@ -1,4 +1,6 @@
 // A line of a byte and some numbers, and the register's lines, printed into lent space.
+#![tactic(auto)]
+
 ghost use Rattle.std.specs.Prelude.{◌+◌, ◌*◌, ◌≤◌, [], ◌∷◌, ◌++◌, length};
 ghost use Rattle.schedule.specs.Decimal.{spaced_all};
 ghost use Rattle.printing.specs.Texts.{end_text, write_text, read_text, row_text};

@@ -1,5 +1,7 @@
 // The frames of a recording: whether all are readable and add up to its bytes, the next one of a link, and whether two are equal.
 // `recordings` says what is right. The functions stand above it, so that an edit of what comparing tells does not prove them again.
+#![tactic(auto)]
+
 ghost use Rattle.std.specs.Prelude.{◌≡◌, ◌+◌, ◌≤◌, ◌<◌, length, get_or};
 ghost use Rattle.recordings.specs.Recording.{readable, well_made};
 ghost use Rattle.recordings.specs.Comparing.{same};

@@ -1,4 +1,6 @@
 // What other languages call: two recordings compared, by slices; the answer crosses as a number.
+#![tactic(auto)]
+
 ghost use Rattle.std.specs.Prelude.{◌≡◌};
 ghost use Rattle.recordings.specs.Comparing.{compared};
 ghost use Rattle.recording_exports.specs.Numbers.{differ_number, compared_number};

@@ -1,5 +1,7 @@
 // The file of a recording: the number of frames, their lengths, each of four bytes, most significant first, then the frames' bytes. Two of
 // them compared, and what the program prints of that. No file is opened here.
+#![tactic(auto)]
+
 ghost use Rattle.std.specs.Prelude.{◌≡◌, true, [], ◌∷◌, ◌+◌, ◌*◌, ◌≤◌, ◌<◌, min, length, get_or};
 ghost use Rattle.ranges.specs.Laid.{laid};
 ghost use Rattle.printing.specs.Texts.{spaced};

@@ -1,5 +1,7 @@
 // The number that refuses a step, on tables known to be sound: the tests in the order of their numbers. 0 refuses nothing.
 // An opening is judged by its numbers (`openings`) and asks for no sound tables.
+#![tactic(auto)]
+
 ghost use Rattle.std.specs.Prelude.{◌≡◌, List, ◌&&◌, ℕ, ◌≤◌, ◌<◌, length, eqb};
 ghost use Rattle.keys.specs.Masks.{mask_within};
 ghost use Rattle.tables.specs.Layout.{count_words};

@@ -1,4 +1,6 @@
 // The register in print: the rows that listing lays, line by line.
+#![tactic(auto)]
+
 ghost use Rattle.std.specs.Prelude.{◌+◌, ◌*◌, ◌≤◌, ◌<◌, length};
 ghost use Rattle.tables.specs.Tables.{tables_of};
 ghost use Rattle.soundness.specs.Facts.{Sound};

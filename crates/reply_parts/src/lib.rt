@@ -1,5 +1,7 @@
 // What several replies do alike, on tables known to be sound: the link is emptied and the step counted, a READ ends; and what a delivered
 // reply answers, as an outcome and as what is shown of it. `write_replies`, `read_replies` and `choice_replies` have a function for each state.
+#![tactic(auto)]
+
 ghost use Rattle.std.specs.Prelude.{◌≡◌, true};
 ghost use Rattle.tables.specs.Rows.{HasRow};
 ghost use Rattle.tables.specs.Layout.{client_width, record_width, state_field, put_client_word};
@@ -14,7 +16,7 @@ use tables::{clients, links};
 
 // What a delivered reply answers. Where a READ has ended, the answer shows the words of these servers that the client's row has; the tags
 // beside them are in a row that is lent. So nothing is built for a reply that shows nothing, and what is shown is written where it goes.
-#[derive(Drop)]
+#[derive(Clone, Copy)]
 pub struct Outcome {
     pub arrival: Arrival,
     pub ended: bool,

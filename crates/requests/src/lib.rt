@@ -1,4 +1,6 @@
 // The delivery of a request, on tables known to be sound: the target answers, and the reply takes the request's place.
+#![tactic(auto)]
+
 ghost use Rattle.std.specs.Prelude.{◌≡◌, List, ℕ, ◌<◌};
 ghost use Rattle.tables.specs.Tables.{tables_of};
 ghost use Rattle.tables.specs.Rows.{HasRow};

@@ -1,16 +1,18 @@
 // The rules of the steps: what each accepted step changes and answers, as definitions in specs/. The answers and the states are declared
 // here. It has no function: what several steps do alike stands in the crate step_parts, so that an edit of a rule proves definitions alone.
+#![tactic(auto)]
+
 pub mod states;
 
 // What an opening, a begin and a delivered request answer.
-#[derive(Drop)]
+#[derive(Clone, Copy)]
 pub enum Answer {
     Ok,
     Refused(u8),
 }
 
 // What a delivered reply answers. A tag is a place of the log.
-#[derive(Drop)]
+#[derive(Clone, Copy)]
 pub enum Arrival {
     Wait,
     Next,
@@ -21,7 +23,7 @@ pub enum Arrival {
 
 // A delivered reply's answer, and beside it what a READ shows: setpoints, and the tags and badges of the WRITEs that put them there; 0
 // where it shows none.
-#[derive(Drop)]
+#[derive(Clone, Copy)]
 pub struct Delivered {
     pub arrival: Arrival,
     pub setpoints: [u32; 16],

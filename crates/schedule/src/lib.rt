@@ -1,5 +1,6 @@
 // The schedule as text: a line of it, the numbers of a line, and the step that a line names. What is right stands in specs/. The functions
 // are those of `line_reading` and `step_reading`.
+#![tactic(auto)]
 
 // A line's bytes at most; so its numbers, of two bytes or more each behind its first byte; so its setpoints, behind three numbers.
 pub const LINE: usize = 200;
@@ -9,7 +10,7 @@ pub const NUMBERS: usize = (LINE - 1) / 2;
 pub const SETPOINTS: usize = NUMBERS - 3;
 
 // A number at the front of a part of a line.
-#[derive(Drop)]
+#[derive(Clone, Copy)]
 pub enum Number {
     Not,
     // its value, and how many bytes it takes
@@ -17,14 +18,14 @@ pub enum Number {
 }
 
 // How many numbers a part of a line holds, where it holds nothing else.
-#[derive(Drop)]
+#[derive(Clone, Copy)]
 pub enum Numbers {
     Broken,
     All(usize),
 }
 
 // The step that a line names. Its numbers are full 32-bit numbers: none is cut to a field's width. A badge above 16 bits names no step.
-#[derive(Drop)]
+#[derive(Clone, Copy)]
 pub enum Step {
     // no step: number 13
     Unreadable,
@@ -45,7 +46,7 @@ pub enum Step {
 }
 
 // What reading a line gives: the step, and how many setpoints its line has. They stand in the place that was lent for them.
-#[derive(Drop)]
+#[derive(Clone, Copy)]
 pub struct Reading {
     pub step: Step,
     pub setpoints: usize,

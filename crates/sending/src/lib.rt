@@ -1,4 +1,6 @@
 // A client that starts, and the requests that it puts on its links: one, and one for each masked server.
+#![tactic(auto)]
+
 ghost use Rattle.std.specs.Prelude.{◌≡◌, ◌≤◌, ◌<◌, length, cond};
 ghost use Rattle.keys.specs.Masks.{has_server};
 ghost use Rattle.tables.specs.Rows.{HasRow};

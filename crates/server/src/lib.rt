@@ -1,4 +1,6 @@
 // A station's part: its versions, in order of arrival. A station is a server here.
+#![tactic(auto)]
+
 ghost use Rattle.std.specs.Prelude.{◌≡◌, ◌+◌, ◌*◌, ◌≤◌, ◌<◌, length};
 ghost use Rattle.tables.specs.Layout.{server_places};
 ghost use Rattle.server.specs.Held.{Room, append_left, appended, first_bearing};

@@ -1,4 +1,6 @@
 // How a server answers the requests that look at its versions, on tables known to be sound.
+#![tactic(auto)]
+
 ghost use Rattle.std.specs.Prelude.{◌≡◌, List, ℕ};
 ghost use Rattle.tables.specs.Tables.{tables_of};
 ghost use Rattle.rules.specs.Answers.{left};

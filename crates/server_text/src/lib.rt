@@ -1,4 +1,6 @@
 // The servers that a READ's answer shows, printed into lent space.
+#![tactic(auto)]
+
 ghost use Rattle.std.specs.Prelude.{◌+◌, ◌≤◌, ◌<◌, length};
 ghost use Rattle.printing.specs.Texts.{server_text, masked_text, servers_below};
 ghost use Rattle.printing.specs.Printed.{Printed};

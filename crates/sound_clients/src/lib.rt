@@ -1,6 +1,8 @@
 // Whether the clients are sound, each by the words of its row, by its links (`sound_links`), and in that a busy one waits for something.
 // A small function decides each small definition of `soundness/Sound`, in whose words it is named, for every contents of the tables that it
 // is not lent. What it asks, `sound_tables` has tested before.
+#![tactic(auto)]
+
 ghost use Rattle.std.specs.Prelude.{◌≡◌, ◌<◌};
 ghost use Rattle.ranges.specs.All.{all_below};
 ghost use Rattle.tables.specs.Rows.{HasRow};

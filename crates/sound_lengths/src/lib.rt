@@ -1,2 +1,4 @@
 // What sound tables ask of lengths alone.
+#![tactic(auto)]
+
 pub mod lengths;

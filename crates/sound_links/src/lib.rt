@@ -1,5 +1,7 @@
 // The check of the links of a client: each holds only what its state sends or gets back, and what has been received stands beside them.
 // It stands over the check of a message and below that of clients, so that an edit of either does not prove it.
+#![tactic(auto)]
+
 ghost use Rattle.std.specs.Prelude.{◌≡◌, ◌<◌, ◌&&◌};
 ghost use Rattle.ranges.specs.All.{all_below};
 ghost use Rattle.tables.specs.Rows.{HasRow};

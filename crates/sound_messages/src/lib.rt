@@ -1,5 +1,7 @@
 // What a request and a reply may carry, by the state that sent it or gets it back: the check of one message, by numbers and the counts. It
 // stands below the check of links and clients, so that an edit of it proves neither.
+#![tactic(auto)]
+
 ghost use Rattle.std.specs.Prelude.{◌≡◌, ◌<◌};
 ghost use Rattle.tables.specs.Tables.{Tables, with_counts};
 ghost use Rattle.soundness.specs.Sound.{holding, own_key, request_sound, reply_sound, badge_sound};

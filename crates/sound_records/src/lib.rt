@@ -1,6 +1,8 @@
 // Whether the records are sound: each in its range; as many WRITEs as the counts together; one without an end for each busy client, of the
 // kind it is doing. A small function decides each small definition of `soundness/Sound`, in whose words it is named, for every contents of
 // the tables that it is not lent. What it asks, `sound_tables` has tested before.
+#![tactic(auto)]
+
 ghost use Rattle.std.specs.Prelude.{◌≡◌, ◌+◌, ◌*◌, ◌≤◌, ◌<◌, length};
 ghost use Rattle.ranges.specs.All.{all_below};
 ghost use Rattle.ranges.specs.Sum.{sum_below, count_below};

@@ -1,6 +1,8 @@
 // The opening, and the other steps on tables known to be sound: refused by number with all as before, or accepted and changed as the rules
 // say. But for the opening they ask for sound tables and do not check them: who has opened a store and keeps its tables to himself calls
 // these. `store` has the same steps on any tables.
+#![tactic(auto)]
+
 ghost use Rattle.std.specs.Prelude.{◌≡◌, replicate};
 ghost use Rattle.tables.specs.Tables.{tables_of};
 ghost use Rattle.rules.specs.Answers.{left, arrived};

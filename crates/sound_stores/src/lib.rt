@@ -1,6 +1,8 @@
 // Whether what servers and coordinator store is sound: the versions and the log. A small function decides each small definition of
 // `soundness/Sound`, in whose words it is named. Each is lent only the tables that it reads and promises its answer for every contents of
 // the others: that is the `(t : Tables) →` of a contract. What it asks, `sound_tables` has tested before.
+#![tactic(auto)]
+
 ghost use Rattle.std.specs.Prelude.{◌≡◌};
 ghost use Rattle.tables.specs.Tables.{Tables, with_counts, with_versions, with_log};
 ghost use Rattle.soundness.specs.Parts.{stores_sound};

@@ -1,5 +1,7 @@
 // Whether tables are sound: number 2 of the refusals. `sound` takes tables as they come: it tests the lengths and the scalars first, and so
 // meets what the check of each part asks.
+#![tactic(auto)]
+
 ghost use Rattle.std.specs.Prelude.{◌≡◌};
 ghost use Rattle.tables.specs.Tables.{tables_of, servers_of, clients_of};
 ghost use Rattle.soundness.specs.Sound.{long_enough, sound};

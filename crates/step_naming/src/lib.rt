@@ -1,5 +1,7 @@
 // The step of a line's first byte and its numbers, with its setpoints stored. Reading the line stands above in `step_reading`, so that an
 // edit of what names a step does not prove it.
+#![tactic(auto)]
+
 ghost use Rattle.std.specs.Prelude.{◌≡◌, ◌≤◌, length};
 ghost use Rattle.schedule.specs.Steps.{unreadable, named, named_open, named_write, pair_named};
 ghost use Rattle.schedule.specs.Steps.{reading_of, stored, Names};

@@ -1,6 +1,8 @@
 // A step's answer as it crosses to other languages: 0 for ok, below 256 the number of a refusal, and a delivered reply's answer with what a
 // READ shows beside it. The steps that other languages call, on any tables and on tables known to be sound, make their numbers here; so an
 // edit of a number proves no step.
+#![tactic(auto)]
+
 ghost use Rattle.std.specs.Prelude.{◌≡◌};
 ghost use Rattle.step_numbers.specs.Numbers.{answer_number, arrival_number, crossing_of};
 
@@ -32,7 +34,7 @@ pub fn arrival_number(arrival: Arrival) -> u64
 // A delivered reply's answer as it crosses, and beside it what a READ shows: setpoints, and the tags and badges of the WRITEs that put
 // them there; 0 where it shows none.
 #[repr(C)]
-#[derive(Drop)]
+#[derive(Clone, Copy)]
 pub struct Crossing {
     pub number: u64,
     pub setpoints: [u32; 16],

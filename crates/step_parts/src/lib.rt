@@ -1,4 +1,6 @@
 // What several steps do alike: a link filled and the step counted, whether a client waits, a word of each masked server kept or shown.
+#![tactic(auto)]
+
 ghost use Rattle.std.specs.Prelude.{◌≡◌};
 ghost use Rattle.tables.specs.Links.{HasLinks};
 ghost use Rattle.rules.specs.Answers.{nothing_shown};

@@ -1,4 +1,6 @@
 // One step of a schedule, played. No table is checked: they are not opened yet, or sound, and each step leaves them so.
+#![tactic(auto)]
+
 ghost use Rattle.std.specs.Prelude.{◌≡◌};
 ghost use Rattle.tables.specs.Tables.{tables_of};
 ghost use Rattle.playing.specs.Played.{showing, played};

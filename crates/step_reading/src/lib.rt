@@ -1,4 +1,6 @@
 // The step that a line names, read: its numbers, and what names a step from them (`step_naming`).
+#![tactic(auto)]
+
 ghost use Rattle.std.specs.Prelude.{◌≡◌, false, ◌-◌, ◌≤◌, length, drop};
 ghost use Rattle.schedule.specs.Numbers.{numbers_of};
 ghost use Rattle.schedule.specs.Steps.{line_most, setpoints_most};

@@ -1,4 +1,6 @@
 // What is shown of a step, by its answer.
+#![tactic(auto)]
+
 ghost use Rattle.std.specs.Prelude.{◌≡◌};
 ghost use Rattle.tables.specs.Tables.{Tables};
 ghost use Rattle.rules.specs.Answers.{left, arrived};

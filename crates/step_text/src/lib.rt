@@ -1,4 +1,6 @@
 // A step as a line of a schedule, printed into lent space.
+#![tactic(auto)]
+
 ghost use Rattle.std.specs.Prelude.{◌+◌, ◌≤◌, [], ◌∷◌, ◌++◌, length};
 ghost use Rattle.printing.specs.Texts.{row_text};
 ghost use Rattle.printing.specs.Printed.{Printed};

@@ -1,5 +1,7 @@
 // The seven public steps, on any tables: refused by number with all as before, or accepted and changed as the rules say. Each judges the
 // tables first, number 2, and then takes the step of `sound_steps`; the opening there judges any tables by itself.
+#![tactic(auto)]
+
 ghost use Rattle.std.specs.Prelude.{◌≡◌};
 ghost use Rattle.tables.specs.Tables.{tables_of};
 ghost use Rattle.rules.specs.Answers.{left, arrived};

@@ -1,5 +1,7 @@
 // What other languages call, on numbers and slices: the check of tables, and the seven public steps. `sound_exports` has six of them on
 // tables known to be sound, and `step_numbers` makes the numbers.
+#![tactic(auto)]
+
 ghost use Rattle.std.specs.Prelude.{◌≡◌};
 ghost use Rattle.tables.specs.Tables.{tables_of};
 ghost use Rattle.soundness.specs.Sound.{sound};

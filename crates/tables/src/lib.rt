@@ -1,4 +1,6 @@
 // The lent tables: each is one slice of words in rows of a fixed width, and only this crate computes an index.
+#![tactic(auto)]
+
 pub mod clients;
 pub mod counts;
 pub mod links;

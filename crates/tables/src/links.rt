@@ -8,14 +8,14 @@ use keys::Key;
 
 // What a request or a reply carries. The number is the setpoint, mask, tag or n; the badge goes with a setpoint; what a message does not carry
 // is 0.
-#[derive(Drop)]
+#[derive(Clone, Copy)]
 pub struct Contents {
     pub key: Key,
     pub number: u32,
     pub badge: u32,
 }
 
-#[derive(Drop)]
+#[derive(Clone, Copy)]
 pub enum Content {
     Nothing,
     Request(Contents),
@@ -23,7 +23,7 @@ pub enum Content {
     Lost,
 }
 
-#[derive(Drop)]
+#[derive(Clone, Copy)]
 pub struct Link {
     pub content: Content,
 }

@@ -1,4 +1,6 @@
 // The lines of a text, played on lent tables into a lent space. It is for `text_run`, which proves what it asks.
+#![tactic(auto)]
+
 ghost use Rattle.std.specs.Prelude.{◌≤◌, length};
 ghost use Rattle.tables.specs.Tables.{tables_of};
 ghost use Rattle.schedule.specs.Lines.{lines_of};

@@ -1,4 +1,6 @@
 // A whole text, played on lent tables into a lent space: the answers of its lines, then the register.
+#![tactic(auto)]
+
 ghost use Rattle.std.specs.Prelude.{◌≡◌};
 ghost use Rattle.tables.specs.Tables.{tables_of};
 ghost use Rattle.texts.specs.Text.{text_left, play_text};

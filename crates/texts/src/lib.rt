@@ -1,5 +1,7 @@
 // A whole text to be played on lent tables into a lent space: whether it may be, whether it has room, and its end, the register.
 // `text_run` plays it.
+#![tactic(auto)]
+
 ghost use Rattle.std.specs.Prelude.{◌≡◌, ◌+◌, ◌≤◌, length, leb};
 ghost use Rattle.tables.specs.Tables.{tables_of};
 ghost use Rattle.schedule.specs.Lines.{lines_of};
@@ -11,7 +13,7 @@ ghost use Rattle.texts.specs.Text.{playable, room_for};
 use tables::counts::METHOD;
 
 // What playing a text answers.
-#[derive(Drop)]
+#[derive(Clone, Copy)]
 pub enum TextPlayed {
     // how many bytes are printed at the front of the lent space
     Printed(usize),

@@ -1,4 +1,6 @@
 // The steps before any opening, which change nothing but where they open.
+#![tactic(auto)]
+
 ghost use Rattle.std.specs.Prelude.{◌≡◌};
 ghost use Rattle.tables.specs.Tables.{tables_of, method_of};
 ghost use Rattle.playing.specs.Played.{showing, played};

@@ -1,1 +1,2 @@
 // Document 01's starred cards, proved on the definitions: the table stands in specs/Cards.antt.
+#![tactic(auto)]

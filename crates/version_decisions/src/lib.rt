@@ -1,4 +1,6 @@
-// What is decided of version records, on plain values: functions that the borrow checker covers, for those over a slice of structs.
+// What is decided of version records, on plain values, for the functions over a slice of structs.
+#![tactic(auto)]
+
 ghost use Rattle.std.specs.Prelude.{◌≡◌};
 ghost use Rattle.version_records.specs.Table.{lesser, readable, append_number, bears, found_at, not_held};
 

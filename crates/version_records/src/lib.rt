@@ -1,9 +1,11 @@
 // Version records: what a station holds as a table of structs, and what is read of it. What is done with such a table is specs/Table.antt;
 // the functions stand in the crate versions.
+#![tactic(auto)]
+
 use keys::Key;
 
 // A version: the key of the WRITE that it came with, its badge, and its setpoint.
-#[derive(Drop)]
+#[derive(Clone, Copy)]
 pub struct Version {
     pub key: Key,
     pub badge: u16,
@@ -11,7 +13,7 @@ pub struct Version {
 }
 
 // The setpoint of a key and the badge that came with it, with number 0. Number 8 where no version held bears the key.
-#[derive(Drop)]
+#[derive(Clone, Copy)]
 pub struct Reading {
     pub number: u8,
     pub badge: u16,
@@ -19,7 +21,7 @@ pub struct Reading {
 }
 
 // What a trial found: what the append answered, how many can be read then, where the key stands, and what is read of it.
-#[derive(Drop)]
+#[derive(Clone, Copy)]
 pub struct Trial {
     pub number: u8,
     pub readable: usize,

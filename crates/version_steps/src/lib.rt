@@ -1,1 +1,2 @@
-// The functions over version structs are the station's of the store: the theorems stand in specs/.
+// The functions over version structs are the station's of the store: the theorems stand in proofs/.
+#![tactic(auto)]

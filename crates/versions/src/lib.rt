@@ -1,7 +1,8 @@
 // A station's versions, lent as a table of records in order of arrival. A station is a server here.
 // How many are held is a number beside the table, as in the store's counts: the table alone does not say where the held places end.
-// The borrow checker covers no function over a slice of structs, so those are thin and proved by a walk of their code; they leave what is
-// decided to functions on plain values.
+// The functions over that slice are thin; they leave what is decided to functions on plain values.
+#![tactic(auto)]
+
 ghost use Rattle.std.specs.Prelude.{◌≡◌, length};
 ghost use Rattle.version_records.specs.Table.{readable, append_number, append_table, first_bearing, reading_of, held_after_lem, trial_made, trial_of};
 
@@ -80,7 +81,7 @@ fn trial_of(number: u8, readable: usize, place: usize, reading: Reading) -> Tria
 }
 
 // A table of one's own, filled with a version, takes another behind those held; then a key is looked up in it.
-// The parameters are plain, so that functions which the borrow checker covers can call it.
+// The parameters are plain values, so that a caller lends no table.
 pub fn append_and_read(blank: Version, held: usize, version: Version, key: Key) -> Trial
     ensures { result ≡ trial_of blank held version key }
 {

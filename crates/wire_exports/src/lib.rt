@@ -1,5 +1,7 @@
 // What other languages call, on numbers and slices: the frame of a link and the register's listing, on any tables.
 // An answer crosses as a number: the frame's length or how many rows were laid, or for a refusal 2^64 - 1 less its number.
+#![tactic(auto)]
+
 ghost use Rattle.std.specs.Prelude.{◌≡◌};
 ghost use Rattle.tables.specs.Tables.{tables_of};
 ghost use Rattle.listing.specs.Register.{list_register};

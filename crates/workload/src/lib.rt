@@ -1,16 +1,18 @@
 // The load, as definitions in specs/: the step that it gives next, its steps by number, and which of them would be accepted.
+#![tactic(auto)]
+
 use schedule::Step;
 use tables::links;
 
 // A step of the load: that of a schedule, and the setpoint of every server in it.
-#[derive(Drop)]
+#[derive(Clone, Copy)]
 pub struct LoadStep {
     pub step: Step,
     pub setpoint: u32,
 }
 
 // What a pick gives.
-#[derive(Drop)]
+#[derive(Clone, Copy)]
 pub enum Next {
     // the tables are not sound: number 2
     Refused(u8),

@@ -1,5 +1,7 @@
 // What other languages call, on numbers and slices: the number behind a seed, the next step of a load, and a load played, on any tables.
 // `load_numbers` makes the numbers.
+#![tactic(auto)]
+
 ghost use Rattle.std.specs.Prelude.{◌≡◌};
 ghost use Rattle.tables.specs.Tables.{tables_of};
 ghost use Rattle.workload.specs.Load.{advance, next_step};

@@ -1,4 +1,6 @@
 // A load as a list: each of its steps written into a lent row of words. `load_run` plays it.
+#![tactic(auto)]
+
 ghost use Rattle.std.specs.Prelude.{◌≡◌, [], ◌∷◌, ◌<◌};
 ghost use Rattle.tables.specs.Rows.{HasRow, put_row};
 ghost use Rattle.workload_run.specs.Run.{step_width, listed, gone_on, listed_next};
@@ -11,7 +13,7 @@ use workload::{LoadStep, Next};
 pub const WIDTH: usize = 4;
 
 // What playing a load answers.
-#[derive(Drop)]
+#[derive(Clone, Copy)]
 pub enum Load {
     // how many steps it gave, and the seed behind them
     Played(u32, u32),
@@ -19,7 +21,7 @@ pub enum Load {
 }
 
 // A load between two picks.
-#[derive(Drop)]
+#[derive(Clone, Copy)]
 pub struct Progress {
     // steps given so far
     pub given: u32,

@@ -1,5 +1,7 @@
 // The delivery of a reply to a WRITE, on tables known to be sound: a function for each state that waits for one. The client goes on, waits
 // or ends.
+#![tactic(auto)]
+
 ghost use Rattle.std.specs.Prelude.{◌≡◌, List, ℕ};
 ghost use Rattle.keys.specs.Keys.{key_of};
 ghost use Rattle.tables.specs.Tables.{tables_of};
