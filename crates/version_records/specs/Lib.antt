@@ -1,5 +1,4 @@
--- A table of version records: what is done with it, and that this is what the core does on plain slices.
+-- A table of version records: what is done with it, and when it says the same as the core's slices.
 pub mod Table
 pub mod Cases
 pub mod Core
-pub mod CoreLaws

@@ -1,4 +1,0 @@
-pub mod Steps
-pub mod Plain
-pub mod Shared
-pub mod Lent

@@ -1,0 +1,19 @@
+-- `versions::append_and_read` meets its contract: what the calls answer, one after another, is a trial in the table filled with one version.
+use Rattle.std.proofs.Common.{refl, ◌∙◌, List, replicate}
+use Rattle.version_records.specs.declared.Version.{Version}
+use Rattle.version_records.specs.Cases.{trial_is, trial-filled}
+use Rattle.versions.proofs.append_and_read.Goals as goal
+
+pub returns : goal.returns
+returns c =
+    let table : List Version = replicate 4096 c.args.blank in
+    rw (
+      c.trial_of.ensures,
+      c.setpoint_of-reading.ensures,
+      c.find-place.ensures,
+      c.held_now-readable.ensures,
+      c.held_after-after.ensures,
+      c.append-number.ensures.1,
+      c.append-number.ensures.0,
+    )
+    (trial_is table c.args.held c.args.version c.args.key ∙ trial-filled table c.args.held c.args.version c.args.key c.args.blank refl)
