@@ -7,13 +7,13 @@ use Rattle.claim.specs.Claim.{Claim, Demand3}
 use Rattle.claim.specs.Decided.{Stated, among, InPlace, all_stated, first-broken}
 use Rattle.claim.specs.Decided as decided
 use Rattle.claim.specs.Fields as field
-use Rattle.claim.specs.Fields.{Field, Says, claim_says, test}
+use Rattle.claim.specs.Fields.{Field, Says}
 use Rattle.claim.specs.Sample.{zeros}
 use Rattle.claim.specs.WrongStores.{first}
 
 -- ---- the fields by number
 
-abbrev place_of : Field → ℕ
+abbrev pub place_of : Field → ℕ
 place_of field.walk = 0
 place_of field.whole = 1
 place_of field.complete = 2
@@ -27,12 +27,12 @@ place_of field.unfinished = 9
 place_of field.tags = 10
 place_of field.whose = 11
 
-abbrev fields : List Field
+abbrev pub fields : List Field
 fields =
     field.walk ∷ field.whole ∷ field.complete ∷ field.read_after_read ∷ field.write_after_read ∷ field.read_after_write ∷ field.write_after_write ∷
     field.answered ∷ field.ends ∷ field.unfinished ∷ field.tags ∷ field.whose ∷ []
 
-in_place : InPlace place_of fields
+pub in_place : InPlace place_of fields
 in_place g field.walk = refl
 in_place g field.whole = refl
 in_place g field.complete = refl
@@ -60,12 +60,8 @@ told machine method steps = history (played machine method steps) (opened_with m
 abbrev pub Accepted : Machine Step → ℕ → Type 0
 Accepted machine method = (machine (opens method) zeros).event ≡ opened method 2 2 first Ok
 
--- what the tests say of what was played
-abbrev verdict : ℕ → List Played → List Bool
-verdict method steps = map (λ f. (test method first steps f).passes) fields
-
 module _ (broken : List Field) (machine : Machine Step) (method : ℕ) (steps : List Step) where
-  abbrev SaysThere : Field → Type 0
+  abbrev pub SaysThere : Field → Type 0
   SaysThere f = Says f (played machine method steps) (told machine method steps)
 
   -- each field that is broken is refuted, and each other holds
@@ -74,22 +70,7 @@ module _ (broken : List Field) (machine : Machine Step) (method : ℕ) (steps : 
     pub stated : (f : Field) → Stated (among place_of fields f broken) (SaysThere f)
     pub refuted : Demand3 machine → ⊥
 
-  -- what the tests say, all at once
-  abbrev pub Computed : Type 0
-  Computed = decided.Computed place_of fields (verdict method (played machine method steps)) broken
-
 module _ (machine : Machine Step) (method : ℕ) (steps : List Step) (f : Field) (more : List Field) where
-  claim : Demand3 machine → Accepted machine method → Claim (played machine method steps) (told machine method steps)
+  pub claim : Demand3 machine → Accepted machine method → Claim (played machine method steps) (told machine method steps)
   unfolding told played
   claim d e = d (opens method) zeros method 2 2 first e steps
-
-  pub breaks : Accepted machine method → Computed (f ∷ more) machine method steps → Breaks (f ∷ more) machine method steps
-  unfolding told
-  breaks e c =
-      let There : Field → Type 0 = SaysThere (f ∷ more) machine method steps in
-      let stated = all_stated place_of fields in_place There (test method first (played machine method steps)) (f ∷ more) c in
-      record {
-        accepted = e;
-        stated = stated;
-        refuted = λ d. first-broken place_of fields There f more (stated f) (claim_says _ _ (claim d e) f);
-      }

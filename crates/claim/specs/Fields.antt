@@ -52,22 +52,8 @@ Says whose steps h = h.astray ≡ 0
 
 -- The claim is its fields: it says each of them, and no more.
 module _ (steps : List Played) (h : History) where
-  in_time_lem : RealTime (row h) → (earlier later : Bool) → RealTimeOf earlier later (row h)
+  pub in_time_lem : RealTime (row h) → (earlier later : Bool) → RealTimeOf earlier later (row h)
   in_time_lem r earlier later m lm n ln em en end e l = r m n end lm ln e l
-
-  pub claim_says : Claim steps h → (f : Field) → Says f steps h
-  claim_says c walk = c.walk
-  claim_says c whole = c.whole
-  claim_says c complete = c.complete
-  claim_says c read_after_read = in_time_lem c.real_time false false
-  claim_says c write_after_read = in_time_lem c.real_time false true
-  claim_says c read_after_write = in_time_lem c.real_time true false
-  claim_says c write_after_write = in_time_lem c.real_time true true
-  claim_says c answered = c.answered
-  claim_says c ends = c.ends
-  claim_says c unfinished = c.unfinished
-  claim_says c tags = c.tags
-  claim_says c whose = c.whose
 
   pub says_claim : ((f : Field) → Says f steps h) → Claim steps h
   says_claim s = record {
@@ -120,7 +106,7 @@ shows values x =
     (λ f i s. f i (in-mask x.mask i s) s)
     (λ f i l s. f i s))
 
-abbrev walks : (values : ℕ → Value) (xs : List Transaction) → Test (Walk values xs)
+abbrev pub walks : (values : ℕ → Value) (xs : List Transaction) → Test (Walk values xs)
 walks values [] = always tt
 walks values (x ∷ xs) = both (shows values x) (walks (walked values x) xs)
 
@@ -134,7 +120,7 @@ ahead (some d) begin m n =
     (λ f end e l. let z = some-injective d end e in f (omega arith))
     (λ f l. f d refl l)
 
-abbrev in_time : (earlier later : Bool) (xs : List Transaction) → Test (RealTimeOf earlier later xs)
+abbrev pub in_time : (earlier later : Bool) (xs : List Transaction) → Test (RealTimeOf earlier later xs)
 in_time earlier later xs =
     below (λ m. below (λ n.
     only_if (is earlier (at xs m).is_write) (only_if (is later (at xs n).is_write) (ahead (at xs m).end (at xs n).begin m n)))
@@ -153,7 +139,7 @@ abbrev leaves_reply : (a : Answer) (content : Content) → Test (LeavesReply a c
 leaves_reply answer.Ok content = is_reply content
 leaves_reply (answer.Refused n) content = always tt
 
-abbrev answers_at : (e : Event) (t : Tables) → Test (AnswersAt e t)
+abbrev pub answers_at : (e : Event) (t : Tables) → Test (AnswersAt e t)
 answers_at (opened method k p setpoints a) t = always tt
 answers_at (begun-write q mask badge setpoints a) t = always tt
 answers_at (begun-read q mask a) t = always tt
@@ -162,19 +148,19 @@ answers_at (replied q i d) t = always tt
 answers_at (lost q i a) t = always tt
 answers_at (resent q i a) t = always tt
 
-abbrev is_unfinished : (extra : ℕ) (d : Doing) → Test (Unfinished extra d)
+abbrev pub is_unfinished : (extra : ℕ) (d : Doing) → Test (Unfinished extra d)
 is_unfinished extra nothing = always tt
 is_unfinished extra (writing mask badge setpoints begin) = always tt
 is_unfinished extra (tagged tag) = always tt
 is_unfinished extra (reading mask begin deliveries losses) = less deliveries (enough extra mask losses)
 
-abbrev says_tag : (o : Option ℕ) (tag : ℕ) → Test ((a : ℕ) → o ≡ some a → a ≡ tag)
+abbrev pub says_tag : (o : Option ℕ) (tag : ℕ) → Test ((a : ℕ) → o ≡ some a → a ≡ tag)
 says_tag none tag = always (λ a e. absurd (none-ne-some a e))
 says_tag (some b) tag = meaning (equal b tag) (λ e a f. sym (some-injective b a f) ∙ e) (λ f. f b refl)
 
 -- ---- a client that no step names is at nothing
 
-abbrev client_of : Event → ℕ
+abbrev pub client_of : Event → ℕ
 client_of (opened method k p setpoints a) = 0
 client_of (begun-write q mask badge setpoints a) = q
 client_of (begun-read q mask a) = q
@@ -184,12 +170,12 @@ client_of (lost q i a) = q
 client_of (resent q i a) = q
 
 -- every client that a step names is below this
-abbrev clients_below : List Played → ℕ
+abbrev pub clients_below : List Played → ℕ
 clients_below [] = 0
 clients_below (x ∷ xs) = suc (client_of x.event) + clients_below xs
 
 module _ (j : ℕ) where
-  abbrev Idle : History → Type 0
+  abbrev pub Idle : History → Type 0
   Idle h = h.doing j ≡ nothing
 
   module _ (h : History) (idle : Idle h) (q : ℕ) (d : j ≡ q → ⊥) where
@@ -197,19 +183,19 @@ module _ (j : ℕ) where
     unfolding changed
     others x = rw (ne_eqb j q d) idle
 
-    begun-idle : (c x : Doing) → Idle (begun c q x h)
+    pub begun-idle : (c x : Doing) → Idle (begun c q x h)
     begun-idle nothing x = others x
     begun-idle (writing mask badge setpoints begin) x = idle
     begun-idle (tagged tag) x = idle
     begun-idle (reading mask begin deliveries losses) x = idle
 
-    delivered-idle : (c : Doing) → Idle (delivered c q h)
+    pub delivered-idle : (c : Doing) → Idle (delivered c q h)
     delivered-idle nothing = idle
     delivered-idle (writing mask badge setpoints begin) = idle
     delivered-idle (tagged tag) = idle
     delivered-idle (reading mask begin deliveries losses) = others _
 
-    entered-idle : (c : Doing) → Idle (entered c q h)
+    pub entered-idle : (c : Doing) → Idle (entered c q h)
     entered-idle nothing = idle
     entered-idle (writing mask badge setpoints begin) = others _
     entered-idle (tagged tag) = idle
@@ -227,75 +213,29 @@ module _ (j : ℕ) where
     showed-idle tag s (tagged t) = idle
     showed-idle tag s (reading mask begin deliveries losses) = others _
 
-    arrived-idle : (a : Arrival) (s : Delivered) (i : ℕ) → Idle (arrived a s q i h)
+    pub arrived-idle : (a : Arrival) (s : Delivered) (i : ℕ) → Idle (arrived a s q i h)
     arrived-idle arrival.Wait s i = delivered-idle (h.doing q)
     arrived-idle arrival.Next s i = delivered-idle (h.doing q)
     arrived-idle (arrival.Write tag) s i = wrote-idle tag (h.doing q)
     arrived-idle (arrival.Read tag) s i = showed-idle tag s (h.doing q)
     arrived-idle (arrival.Refused n) s i = idle
 
-    missed-idle : (reply : Bool) (c : Doing) → Idle (missed reply c q h)
+    pub missed-idle : (reply : Bool) (c : Doing) → Idle (missed reply c q h)
     missed-idle reply nothing = idle
     missed-idle reply (writing mask badge setpoints begin) = idle
     missed-idle reply (tagged tag) = idle
     missed-idle reply (reading mask begin deliveries losses) = others _
 
-    repeated-idle : (c : Doing) → Idle (repeated c h)
+    pub repeated-idle : (c : Doing) → Idle (repeated c h)
     repeated-idle nothing = idle
     repeated-idle (writing mask badge setpoints begin) = idle
     repeated-idle (tagged tag) = idle
     repeated-idle (reading mask begin deliveries losses) = idle
 
-  after-idle : (e : Event) (h : History) → Idle h → client_of e < j → Idle (after e h)
-  after-idle (opened method k p setpoints answer.Ok) h idle l = refl
-  after-idle (opened method k p setpoints (answer.Refused n)) h idle l = idle
-  after-idle (begun-write q mask badge setpoints answer.Ok) h idle l = begun-idle h idle q (λ e. omega arith) (h.doing q) _
-  after-idle (begun-write q mask badge setpoints (answer.Refused n)) h idle l = idle
-  after-idle (begun-read q mask answer.Ok) h idle l = begun-idle h idle q (λ e. omega arith) (h.doing q) _
-  after-idle (begun-read q mask (answer.Refused n)) h idle l = idle
-  after-idle (requested q i answer.Ok) h idle l =
-      let other : j ≡ q → ⊥ = λ e. omega arith in
-      either Idle (at_coordinator i) (entered-idle h idle q other (h.doing q)) (delivered-idle h idle q other (h.doing q))
-  after-idle (requested q i (answer.Refused n)) h idle l = idle
-  after-idle (replied q i d) h idle l = arrived-idle h idle q (λ e. omega arith) d.arrival d i
-  after-idle (lost q i answer.Ok) h idle l = missed-idle h idle q (λ e. omega arith) _ (h.doing q)
-  after-idle (lost q i (answer.Refused n)) h idle l = idle
-  after-idle (resent q i answer.Ok) h idle l = repeated-idle h idle q (λ e. omega arith) (h.doing q)
-  after-idle (resent q i (answer.Refused n)) h idle l = idle
-
-  history-idle : (steps : List Played) (h : History) → Idle h → clients_below steps ≤ j → Idle (history steps h)
-  history-idle [] h idle l = idle
-  history-idle (x ∷ xs) h idle l = history-idle xs (after x.event h) (after-idle x.event h idle (omega arith)) (omega arith)
-
--- ---- every field of what an opening's list of steps tells
-
 module _ (method : ℕ) (setpoints : List ℕ) (steps : List Played) where
-  abbrev here : History
+  abbrev pub here : History
   here = history steps (opened_with method setpoints)
-
-  pub none-reading : (q : ℕ) → clients_below steps ≤ q → Unfinished here.extra (here.doing q)
-  none-reading q l = subst (Unfinished here.extra) (sym (history-idle q steps (opened_with method setpoints) refl l)) tt
 
   pub every-tag : ((t : ℕ) → t < here.tags → (a : ℕ) → here.said (suc t) ≡ some a → a ≡ suc t) → Says tags steps here
   every-tag f zero a l u e = let z : ⊥ = omega arith in absurd z
   every-tag f (suc t) a l u e = f t (omega arith) a e
-
-  abbrev pub test : (f : Field) → Test (Says f steps here)
-  test walk = walks here.initial (row here)
-  test whole = each (λ x. most x.tag here.tags) here.reads
-  test complete = equal (length (row here)) (here.tags + length here.reads)
-  test read_after_read = in_time false false (row here)
-  test write_after_read = in_time false true (row here)
-  test read_after_write = in_time true false (row here)
-  test write_after_write = in_time true true (row here)
-  test answered = each (λ x. answers_at x.event x.tables) steps
-  test ends = each (λ x. only_if (is false x.is_write) (equal x.deliveries (enough here.extra x.mask x.losses))) (row here)
-  test unfinished =
-      meaning (below (λ q. is_unfinished here.extra (here.doing q)) (clients_below steps))
-      (λ f q. by-test (ltb q (clients_below steps)) (λ b. f q (ltb-true _ _ b)) (λ b. none-reading q (ltb-false _ _ b)))
-      (λ f q l. f q)
-  test tags =
-      meaning (below (λ t. says_tag (here.said (suc t)) (suc t)) here.tags)
-      every-tag
-      (λ f t l a e. f (suc t) a (omega arith) l e)
-  test whose = equal here.astray 0

@@ -14,4 +14,3 @@ pub mod Sample
 pub mod WrongStores
 pub mod Broken
 pub mod Lists
-pub mod Wrong

@@ -52,7 +52,7 @@ pub record Same (q i : ℕ) (t t' : Tables) : Type 0 where
 
 -- Then the outcome is the same.
 module _ (q i : ℕ) (t t' : Tables) (same : Same q i t t') where
-  holding-same : holding t' i ≡ holding t i
+  pub holding-same : holding t' i ≡ holding t i
   holding-same =
       by_equal i coordinator
       (λ e. rw (eq-eqb i coordinator e) (same.entries e))
@@ -65,11 +65,11 @@ module _ (q i : ℕ) (t t' : Tables) (same : Same q i t t') where
         first-same (bears t'.keys i w.key) (bears t.keys i w.key) (held_of t i)
         (λ place l. rw (same.key place (omega arith)))
 
-    set_same : held_of t i ≤ server_places → of_set w i t' ≡ of_set w i t
+    pub set_same : held_of t i ≤ server_places → of_set w i t' ≡ of_set w i t
     unfolding of_set
     set_same room = rw (same.held, first-place room)
 
-    get-same : held_of t i ≤ server_places → of_get w i t' ≡ of_get w i t
+    pub get-same : held_of t i ≤ server_places → of_get w i t' ≡ of_get w i t
     unfolding of_get
     get-same room =
         let place = first_bearing t.keys i w.key (held_of t i) in
@@ -79,28 +79,9 @@ module _ (q i : ℕ) (t t' : Tables) (same : Same q i t t') where
         rw (e, same.badge place l, same.setpoint place l))
         (λ e. rw e))
 
-    enter-same : i ≡ coordinator → of_enter w q t' ≡ of_enter w q t
+    pub enter-same : i ≡ coordinator → of_enter w q t' ≡ of_enter w q t
     unfolding of_enter
     enter-same e = rw (same.entries e, same.log e, same.write)
-
-    in-same : (state : ℕ) → state_of t q ≡ state → Asking q i t → outcome_in state w q i t' ≡ outcome_in state w q i t
-    unfolding outcome_in
-    in-same state at asks =
-        by-test (eqb state writing) (λ e. rw e (set_same (asks.set_room (at ∙ eqb-true state writing e))))
-        (λ a. by-test (eqb state entering) (λ e. rw (a, e) (enter-same (asks.enter-target (at ∙ eqb-true state entering e))))
-        (λ b. by-test (eqb state asking_keys) (λ e. rw (a, b, e, same.entries (asks.keys-target (at ∙ eqb-true state asking_keys e))))
-        (λ c. by-test (eqb state asking_setpoints)
-        (λ e. rw (a, b, c, e) (get-same (asks.get_room (at ∙ eqb-true state asking_setpoints e))))
-        (λ e. rw (a, b, c, e, holding-same)))))
-
-  content-same : (c : Content) → content_at t q i ≡ c → AtTarget q i t → outcome_of c q i t' ≡ outcome_of c q i t
-  content-same Nothing e there = refl
-  content-same (Request w) e there = rw same.state (in-same w (state_of t q) refl (there.asking w e))
-  content-same (Reply w) e there = refl
-  content-same Lost e there = refl
-
-  pub outcome-same : AtTarget q i t → outcome q i t' ≡ outcome q i t
-  outcome-same there = rw same.content (content-same (content_at t q i) refl there)
 
 -- What is stored bumps one count at most: of the versions that its target holds, or, at the coordinator, of the entries.
 pub stored-count : (i : ℕ) (s : Storing) → Fits s i → (f : ℕ) → (f ≡ held_field + i → ⊥) → (i ≡ coordinator → f ≡ entries_field → ⊥) →
@@ -137,7 +118,7 @@ module _ (q i r j : ℕ) (apart : i ≡ j → ⊥) where
   log-same (entry tag key mask write) log d fits = absurd (d fits)
 
   module _ (below : i < targets) (below' : j < targets) (content : Content) (s : Storing) (fits : Fits s i) (t : Tables) where
-    changed-same : Same r j t (changed content s q i t)
+    pub changed-same : Same r j t (changed content s q i t)
     changed-same = record {
       state = refl;
       write = refl;
@@ -149,12 +130,6 @@ module _ (q i r j : ℕ) (apart : i ≡ j → ⊥) where
       entries = λ e. changed-count i s fits entries_field (λ z. omega arith) (λ d z. apart (d ∙ sym e)) t.counts (λ z. omega arith);
       log = λ e. log-same s t.log (λ d. apart (d ∙ sym e)) fits;
     }
-
-  -- so its outcome is the one that it had
-  pub local : i < targets → (o : Outcome) → OutcomeFits o i → (t : Tables) → AtTarget r j t → outcome r j (left_of o q i t) ≡ outcome r j t
-  local below (refuses n) fits t there = refl
-  local below (accepts content s) fits t there =
-      outcome-same r j t (changed content s q i t) (changed-same below there.target content s fits t) there
 
 -- What a request at its target stores goes there.
 module _ (q i : ℕ) (t : Tables) where

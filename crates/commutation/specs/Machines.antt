@@ -8,7 +8,6 @@ use Rattle.soundness.specs.Facts.{Sound}
 use Rattle.claim.specs.Steps.{request, Event, requested, Machine, play, run, left_by}
 use Rattle.serial.proofs.Openings.{Starts}
 use Rattle.commutation.specs.Claim.{Swapped, Swaps}
-use Rattle.commutation.specs.Accepted.{requests_swap}
 
 -- Its accepted openings leave sound tables, its steps keep them so, and a step that had a request accepted is that delivery on any tables.
 pub record Delivering {S : Type 0} (machine : Machine S) : Type 0 where
@@ -17,16 +16,16 @@ pub record Delivering {S : Type 0} (machine : Machine S) : Type 0 where
   pub delivers : (step : S) (t : Tables) (q i : ℕ) → (machine step t).event ≡ requested q i Ok →
       (u : Tables) → machine step u ≡ play (request q i) u
 
-answer_ok : (q i : ℕ) (answer : Answer) → requested q i answer ≡ requested q i Ok → answer ≡ Ok
+pub answer_ok : (q i : ℕ) (answer : Answer) → requested q i answer ≡ requested q i Ok → answer ≡ Ok
 answer_ok q i answer e = cc
 
 module _ {S : Type 0} (machine : Machine S) (m : Delivering machine) where
-  kept : (steps : List S) (t : Tables) → Sound t → Sound (left_by (run machine steps t) t)
+  pub kept : (steps : List S) (t : Tables) → Sound t → Sound (left_by (run machine steps t) t)
   kept [] t s = s
   kept (step ∷ steps) t s = kept steps (machine step t).tables (m.sound step t s)
 
   -- two steps of it that are the store's
-  as-played : (t : Tables) (a b : S) (q i r j : ℕ) → ((u : Tables) → machine a u ≡ play (request q i) u) →
+  pub as-played : (t : Tables) (a b : S) (q i r j : ℕ) → ((u : Tables) → machine a u ≡ play (request q i) u) →
       ((u : Tables) → machine b u ≡ play (request r j) u) → Swapped play t (request q i) (request r j) → Swapped machine t a b
   as-played t a b q i r j one other x =
       let equal : (machine a (machine b t).tables).tables ≡ (machine b (machine a t).tables).tables = simp (one, other) x.tables in
@@ -36,15 +35,3 @@ module _ {S : Type 0} (machine : Machine S) (m : Delivering machine) where
         tables = equal;
         behind = λ rest. ap (run machine rest) equal;
       }
-
-  pub swaps : Swaps machine
-  swaps first t method k p setpoints e steps a b x =
-      let start = (machine first t).tables in
-      let u = left_by (run machine steps start) start in
-      let s : Sound start = subst (λ (y : Event). Starts (λ h v. Sound v) y start) e (m.starts first t) in
-      let one = m.delivers a u x.client x.target x.one in
-      let other = m.delivers b (machine a u).tables x.client' x.target' x.other in
-      as-played u a b x.client x.target x.client' x.target' one other
-      (requests_swap x.client x.target x.client' x.target' u (kept steps start s) x.apart
-      (answer_ok x.client x.target _ (simp one at x.one))
-      (answer_ok x.client' x.target' _ (simp (one, other) at x.other)))

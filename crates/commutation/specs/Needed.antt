@@ -16,7 +16,7 @@ use Rattle.commutation.specs.Examples.{opens, Opened, behind, BothAccepted, ente
 use Rattle.commutation.specs.Examples.{two_enters, set_and_reply, reply_and_enter, end_of, examples, differing}
 
 -- what must be said of steps a and b in either order: the answers, the tables, and whatever comes behind
-abbrev Told : Tables → Step → Step → Type 0
+abbrev pub Told : Tables → Step → Step → Type 0
 Told t a b =
     let ab = play b (play a t).tables in
     let ba = play a (play b t).tables in
@@ -25,7 +25,7 @@ Told t a b =
 
 -- Of each example it says so: of two clients and of one, at the coordinator, by both methods, behind losses.
 module _ (claim : Swaps play) where
-  told : (method : ℕ) → Opened method → (steps : List Step) (q i r j : ℕ) → BothAccepted (behind method steps) q i r j → (i ≡ j → ⊥) →
+  pub told : (method : ℕ) → Opened method → (steps : List Step) (q i r j : ℕ) → BothAccepted (behind method steps) q i r j → (i ≡ j → ⊥) →
       Told (behind method steps) (request q i) (request r j)
   told method e steps q i r j x apart =
       let y = claim (opens method) zeros method 2 2 (1200 ∷ 30 ∷ []) e steps (request q i) (request r j) (record {
@@ -38,15 +38,6 @@ module _ (claim : Swaps play) where
         apart = apart;
       }) in
       ((y.sooner, y.later), (y.tables, y.behind))
-
-  pub told-set-enter : Told (behind 2 enter_and_set) (request 1 1) (request 0 16)
-  told-set-enter = told 2 examples.by-B enter_and_set 1 1 0 16 examples.set-enter.accepted (λ e. omega arith)
-
-  pub told-get-log-set : Told (behind 3 get_log_and_set) (request 0 16) (request 1 0)
-  told-get-log-set = told 3 examples.by-C get_log_and_set 0 16 1 0 examples.get-log-set.accepted (λ e. omega arith)
-
-  pub told-two_sets : Told (behind 2 two_sets) (request 1 0) (request 1 1)
-  told-two_sets = told 2 examples.by-B two_sets 1 0 1 1 examples.two-sets.accepted (λ e. omega arith)
 
 -- two accepted requests of different clients, at any targets
 pub record OfDifferentClients (x y : Event) : Type 0 where

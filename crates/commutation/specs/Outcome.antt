@@ -113,37 +113,19 @@ outcome q i t = outcome_of (content_at t q i) q i t
 -- `rules/Request` delivers so, on any tables.
 module _ (q i : ℕ) (t : Tables) where
   module _ (w : Contents) where
-    set-played : on_set w q i t ≡ played (of_set w i t) q i t
+    pub set-played : on_set w q i t ≡ played (of_set w i t) q i t
     unfolding on_set on_new_set appended of_set
     set-played =
         by-test (holds t.keys i w.key (held_of t i)) (λ e. rw e)
         (λ e. by-test (ltb (held_of t i) server_places) (λ d. rw (e, d)) (λ d. rw (e, d)))
 
-    enter-played : on_enter w q i t ≡ played (of_enter w q t) q i t
+    pub enter-played : on_enter w q i t ≡ played (of_enter w q t) q i t
     unfolding on_enter on_new_enter entered of_enter
     enter-played =
         by-test (has_key t.log w.key (entries_of t)) (λ e. rw e)
         (λ e. by-test (ltb (entries_of t) log_places) (λ d. rw (e, d)) (λ d. rw (e, d)))
 
-    get-played : on_get w q i t ≡ played (of_get w i t) q i t
+    pub get-played : on_get w q i t ≡ played (of_get w i t) q i t
     unfolding on_get of_get
     get-played =
         by-test (ltb (first_bearing t.keys i w.key (held_of t i)) (held_of t i)) (λ e. rw e) (λ e. rw e)
-
-    in-played : (state : ℕ) → on_request_in state w q i t ≡ played (outcome_in state w q i t) q i t
-    unfolding on_request_in on_which_keys on_get_all outcome_in
-    in-played state =
-        by-test (eqb state writing) (λ e. rw e set-played)
-        (λ a. by-test (eqb state entering) (λ e. rw (a, e) enter-played)
-        (λ b. by-test (eqb state asking_keys) (λ e. rw (a, b, e))
-        (λ c. by-test (eqb state asking_setpoints) (λ e. rw (a, b, c, e) get-played) (λ e. rw (a, b, c, e)))))
-
-  content-played : (c : Content) → on_request c q i t ≡ played (outcome_of c q i t) q i t
-  content-played Nothing = refl
-  content-played (Request w) = in-played w (state_of t q)
-  content-played (Reply w) = refl
-  content-played Lost = refl
-
-  pub outcome-played : request_delivered q i t ≡ played (outcome q i t) q i t
-  unfolding request_delivered
-  outcome-played = content-played (content_at t q i)

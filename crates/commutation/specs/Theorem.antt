@@ -3,7 +3,7 @@
 use Rattle.std.specs.Prelude.{ℕ, ◌≡◌}
 use Rattle.tables.specs.Tables.{Tables}
 use Rattle.rules.specs.declared.Answer.TheVariants.{Ok}
-use Rattle.keeping.specs.Opening.{opened-sound}
+use Rattle.keeping.proofs.Opening.{opened-sound}
 use Rattle.soundness.specs.Facts.{Sound}
 use Rattle.claim.specs.Steps.{Step, opening, beginning-write, beginning-read, request, reply, losing, resending, requested, play}
 use Rattle.claim.specs.Former.{MixedStep, today, former-opening, former-write, former-read, mixed}
@@ -11,9 +11,9 @@ use Rattle.serial.proofs.Openings.{play_starts, mixed_starts}
 use Rattle.serial.proofs.Theorem.{play_fair, mixed_fair}
 use Rattle.commutation.specs.Claim.{Swaps}
 use Rattle.commutation.specs.Equal.{differ}
-use Rattle.commutation.specs.Machines.{Delivering, swaps}
+use Rattle.commutation.specs.Machines.{Delivering}
 
-step_delivers : (step : Step) (t : Tables) (q i : ℕ) → (play step t).event ≡ requested q i Ok → (u : Tables) →
+pub step_delivers : (step : Step) (t : Tables) (q i : ℕ) → (play step t).event ≡ requested q i Ok → (u : Tables) →
     play step u ≡ play (request q i) u
 step_delivers (opening method k p setpoints) t q i e u = differ (cc)
 step_delivers (beginning-write r mask badge setpoints) t q i e u = differ (cc)
@@ -25,13 +25,6 @@ step_delivers (request r j) t q i e u =
 step_delivers (reply r j) t q i e u = differ (cc)
 step_delivers (losing r j) t q i e u = differ (cc)
 step_delivers (resending r j) t q i e u = differ (cc)
-
-pub play_delivers : Delivering play
-play_delivers = record { starts = play_starts (λ h t. Sound t) opened-sound; sound = play_fair.sound; delivers = step_delivers }
-
--- Either order is accepted, and leaves equal tables.
-pub theorem : Swaps play
-theorem = swaps play play_delivers
 
 -- and so it is where openings and begins go by the former rules
 mixed_step_delivers : (step : MixedStep) (t : Tables) (q i : ℕ) → (mixed step t).event ≡ requested q i Ok → (u : Tables) →
@@ -47,6 +40,3 @@ mixed_delivers = record {
   sound = mixed_fair.sound;
   delivers = mixed_step_delivers;
 }
-
-pub former : Swaps mixed
-former = swaps mixed mixed_delivers

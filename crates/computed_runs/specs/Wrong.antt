@@ -34,8 +34,9 @@ use Rattle.claim.specs.WrongStores as store
 use Rattle.claim.specs.Lists.{read_by_a, read_by_b, read_by_c, write_both, write_one, then_read_by_a, then_read_by_b, then_read_by_c, then_read_of_both}
 use Rattle.claim.specs.Lists.{two_reads, then_write, hasty, crossing, reply_more, reply_less, request_only, overtaken, write_twice, read_twice}
 use Rattle.claim.specs.Lists.{reply_only, lossy_by_a, lossy_by_b, lossy_by_c, lost_request, entered_again, entered_between}
-use Rattle.claim.specs.Broken.{played, Breaks, Computed, breaks}
-use Rattle.claim.specs.Wrong.{opens_a, opens_b, opens_c, right_of-one}
+use Rattle.claim.specs.Broken.{played, Breaks}
+use Rattle.claim.proofs.Broken.{Computed, breaks}
+use Rattle.claim.proofs.Wrong.{opens_a, opens_b, opens_c, right_of-one}
 
 -- ---- what the tests of every field say of each, computed
 

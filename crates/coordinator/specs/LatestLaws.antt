@@ -15,9 +15,6 @@ latest-within log i t = omega (arith, last-below (wrote log i) (t + 1) (omega ar
 
 -- the cases of the search, as the code meets them
 module _ (log : List ℕ) (i t : ℕ) where
-  pub latest-first : t ≡ 0 → 0 ≡ latest_tag log i t
-  latest-first e = omega (arith, latest-within log i t)
-
   module _ {mask : ℕ} {has : Bool} (m : mask ≡ entry_mask log t) (b : has ≡ has_server mask i) where
     pub latest-here : has ≡ true → t ≡ latest_tag log i t
     latest-here e = sym (last-here (wrote log i) t (rw (← m, ← b) e))
@@ -31,6 +28,3 @@ module _ (log : List ℕ) (i t : ℕ) where
 module _ (log : List ℕ) (n : ℕ) (key : Key) (mask : ℕ) (i t : ℕ) (h : t < n) where
   pub latest-tag-kept : latest_tag (put_entry log n key mask) i t ≡ latest_tag log i t
   latest-tag-kept = last-same (wrote (put_entry log n key mask) i) (wrote log i) (t + 1) (λ u l. ap (λ (m : ℕ). has_server m i) (entry-mask_other log n key mask u (λ e. omega arith)))
-
-  pub latest_key-kept : latest_key (put_entry log n key mask) i t ≡ latest_key log i t
-  latest_key-kept = rw latest-tag-kept (entry_key_other log n key mask (latest_tag log i t) (λ e. omega (arith, latest-within log i t)))

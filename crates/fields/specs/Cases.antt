@@ -79,7 +79,3 @@ module _ (bytes : List ℕ) (at w : ℕ) where
         d ≡ put_by_bytes bytes at w v
     unfolding put_by_bytes
     put_across v e q = q ∙ rw (e, lt-leb w (free_of at) h)
-
-  -- a field of at most 32 bits fits a word
-  pub by_bytes-below : w ≤ 32 → field_by_bytes bytes at w < 2 ^ 32
-  by_bytes-below l = rw (field_by_bytes_lem bytes at w) (field_small bytes at w 32 l)

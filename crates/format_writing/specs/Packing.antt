@@ -29,7 +29,8 @@ use Rattle.formats.specs.Grammar.{Grammar, end, field, good, size, lay}
 use Rattle.frame_table.specs.Table.{none, count, of, many_place, entry_place, badge_place, number_place, fixed_fields}
 use Rattle.frame_table.specs.Table.{entry_fields, sort_at, bits_of, least_of}
 use Rattle.frame_table.specs.Table.{sorts, most_of, limits_of, limit_row, row_of, has_badges, entries_in, entries_said, values_for}
-use Rattle.frame_table.specs.TableLaws.{sort_small, bits_from}
+use Rattle.frame_table.specs.TableLaws.{bits_from}
+use Rattle.frame_table.proofs.TableLaws.{sort_small}
 use Rattle.frame_table.specs.Columns.{most_bits, Places}
 use Rattle.formats.specs.Format.{sort_of, width_of, field_of, within, allowed, next_of, one, start, entries, format}
 use Rattle.formats.specs.FormatLaws.{Goes, goes-start, goes-next, Rowed, rowed-start, next_place, place_inner, field_is, at_most}
@@ -39,7 +40,8 @@ use Rattle.frame_table.specs.Entry.{count_bits, owner_bits, key_bits, badge_widt
 use Rattle.frame_table.specs.Entry.{behind_of, entry_bits}
 use Rattle.frame_table.specs.Entry.{Slim, Plain, Keyed}
 use Rattle.formats.specs.EntryFields.{owner_field, Ahead, ahead-next, ahead-again}
-use Rattle.frame_table.specs.Entry.{badge-none, badge-some}
+use Rattle.frame_table.specs.Entry.{badge-none}
+use Rattle.frame_table.proofs.Entry.{badge-some}
 use Rattle.formats.specs.EntryFields.{count-field, owner-field, badge-field, number-field}
 use Rattle.formats.specs.EntryLaws.{part_count, part-client, part-badge, part-number}
 use Rattle.formats.specs.Reading.{Said}

@@ -8,7 +8,7 @@ use Rattle.formats.specs.declared.state.State.{State}
 use Rattle.formats.specs.Grammar.{Grammar, end}
 use Rattle.frame_table.specs.Table.{many_place, entry_place, number_place, entry_fields, sorts, row_of, sort_at, bits_of, least_of, most_of}
 use Rattle.frame_table.specs.Table.{entries_in}
-use Rattle.frame_table.specs.TableLaws.{sort_small}
+use Rattle.frame_table.proofs.TableLaws.{sort_small}
 use Rattle.formats.specs.Format.{sort_of, field_of, within, allowed, left_after, place_after, next_of, one, entries, fixed, start, format}
 
 module _ (place : ℕ) where

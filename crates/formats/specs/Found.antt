@@ -15,12 +15,14 @@ use Rattle.frame_table.specs.declared.Behind.{Behind}
 use Rattle.frame_table.specs.Table.{many_place, entry_place, owner_place, badge_place, number_place, entry_fields, kinds}
 use Rattle.frame_table.specs.Table.{header_bits, shape_of, sort_at, bits_of}
 use Rattle.frame_table.specs.Table.{most_of, entries_in, entries_said, values_for}
-use Rattle.frame_table.specs.TableLaws.{row-right, bits_from, columns_small, entries_fit}
+use Rattle.frame_table.specs.TableLaws.{bits_from, columns_small, entries_fit}
+use Rattle.frame_table.proofs.TableLaws.{row-right}
 use Rattle.formats.specs.Format.{width_of, next_of, format}
 use Rattle.formats.specs.FormatLaws.{rest, rest-start, rest-one, at_most}
 use Rattle.formats.specs.Entries.{key_in, badge_in, number_in}
 use Rattle.frame_table.specs.Columns.{most_bits}
-use Rattle.frame_table.specs.Entry.{count_bits, owner_bits, key_bits, badge_bits, Slim, is_slim, Keyed, keyed-some, behind_of, entry_bits}
+use Rattle.frame_table.specs.Entry.{count_bits, owner_bits, key_bits, badge_bits, Slim, Keyed, keyed-some, behind_of, entry_bits}
+use Rattle.frame_table.proofs.Entry.{is_slim}
 use Rattle.formats.specs.Judging.{key-parts}
 use Rattle.formats.specs.Walk.{state_at, first_bit, place_early, place_late, walk, walk-place, walk-kind, some_left, values_length}
 use Rattle.formats.specs.Walk.{value_width, value-allowed, entry_first, entries_few, kind-below, frame_bits}

@@ -19,11 +19,13 @@ use Rattle.formats.specs.Grammar.{Grammar, Outcome, got, fault, ahead, ended, re
 use Rattle.frame_table.specs.Table.{many_place, entry_place, owner_place, badge_place, number_place, fixed_fields}
 use Rattle.frame_table.specs.Table.{entry_fields, most_entries, sort_at, bits_of, most_of}
 use Rattle.frame_table.specs.Table.{less, limits_of, limit_row, row_of, entries_in}
-use Rattle.frame_table.specs.TableLaws.{few-entries, entries-most, entries_by, row_at}
+use Rattle.frame_table.specs.TableLaws.{entries-most, entries_by, row_at}
+use Rattle.frame_table.proofs.TableLaws.{few-entries}
 use Rattle.formats.specs.Format.{width_of, field_of, within, next_of, one, entries, format}
 use Rattle.formats.specs.FormatLaws.{rest_late}
 use Rattle.frame_table.specs.Columns.{most_bits}
-use Rattle.frame_table.specs.Entry.{count_bits, owner_bits, key_bits, mask_bits, badge_bits, number_bits, number_least, Slim, is_slim, Plain}
+use Rattle.frame_table.specs.Entry.{count_bits, owner_bits, key_bits, mask_bits, badge_bits, number_bits, number_least, Slim, Plain}
+use Rattle.frame_table.proofs.Entry.{is_slim}
 use Rattle.frame_table.specs.Entry.{Keyed}
 use Rattle.frame_table.specs.Entry.{behind_by, behind_of, behind_bits, entry_bits}
 use Rattle.formats.specs.EntryFields.{owner_field, Ahead, ahead-next, ahead-again}

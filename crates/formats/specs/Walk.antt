@@ -16,7 +16,8 @@ use Rattle.frame_table.specs.Columns.{length_by}
 use Rattle.frame_table.specs.Table.{many_place, entry_place, owner_place, badge_place, number_place, entry_fields, kinds, header_bits}
 use Rattle.frame_table.specs.Table.{most_entries}
 use Rattle.frame_table.specs.Table.{sort_at, bits_of, most_of, shape_of, entries_in, entries_said, values_for}
-use Rattle.frame_table.specs.TableLaws.{row-right, bits_from, few-entries, entries-most}
+use Rattle.frame_table.specs.TableLaws.{bits_from, entries-most}
+use Rattle.frame_table.proofs.TableLaws.{row-right, few-entries}
 use Rattle.formats.specs.Format.{sort_of, width_of, allowed, next_of, start, format}
 use Rattle.formats.specs.FormatLaws.{rest, rest-start, rest-one, rest_end, next_place, next-left}
 use Rattle.formats.specs.FormatLaws.{next-kind, place-last, place_inner, left-entries, left-one-less, at_most}

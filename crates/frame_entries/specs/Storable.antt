@@ -5,7 +5,8 @@ use Rattle.std.proofs.lemmas.Bool.{lt-leb}
 use Rattle.ranges.specs.Tests.{by-test, both_left, both_right}
 use Rattle.frame_table.specs.Table.{has_badges}
 use Rattle.frame_table.specs.Columns.{Places}
-use Rattle.frame_table.specs.Entry.{behind_of, badge-none, badge-some}
+use Rattle.frame_table.specs.Entry.{behind_of, badge-none}
+use Rattle.frame_table.proofs.Entry.{badge-some}
 use Rattle.formats.specs.Entries.{enough}
 use Rattle.formats.specs.Found.{entries_bit, Unpackable}
 

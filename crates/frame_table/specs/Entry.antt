@@ -8,7 +8,7 @@ use Rattle.ranges.specs.AllLaws.{all_at}
 use Rattle.frame_table.specs.declared.Behind.{Behind}
 use Rattle.frame_table.specs.Table.{none, count, own, of, many_place, entry_place, owner_place, badge_place, number_place, kinds}
 use Rattle.frame_table.specs.Table.{sort_at, bits_of, limits_of, has_badges}
-use Rattle.frame_table.specs.TableLaws.{many-none, bits_most, bits-some, sort_small, badge_wide}
+use Rattle.frame_table.specs.TableLaws.{many-none, bits_most, bits-some, badge_wide}
 
 -- the bits of a key's count, of its client, of both, of a mask, and of a badge
 abbrev pub count_bits : ℕ
@@ -132,22 +132,7 @@ badge-none kind e =
     let z : sort_at kind badge_place ≡ none = eqb-true _ _ (not-false (eqb (sort_at kind badge_place) none) e) in
     ap bits_of z
 
-pub badge-some : (kind : ℕ) → has_badges kind ≡ true → 0 < badge_bits kind
-unfolding has_badges
-badge-some kind e =
-    bits-some (sort_at kind badge_place) (sort_small kind badge_place) (eqb-false _ _ (not-true (eqb (sort_at kind badge_place) none) e))
-
 -- beyond the table there are no entries
 pub keyed-some : (kind : ℕ) → (sort_at kind many_place ≡ none → ⊥) → Keyed kind
 keyed-some kind d =
     by-test (ltb kind kinds) (λ t. keyed kind (ltb-true _ _ t) d) (λ t. absurd (d (many-none kind (ltb-false _ _ t))))
-
--- what stands behind a key is slim, whatever the kind
-pub is_slim : (kind : ℕ) → Slim (behind_of kind)
-unfolding bits_of
-is_slim kind =
-    record {
-      badge = bits_most (sort_at kind badge_place) (sort_small kind badge_place);
-      badged = badge_wide kind;
-      number = bits_most (sort_at kind number_place) (sort_small kind number_place);
-    }

@@ -38,7 +38,7 @@ pub record Row (kind : ℕ) : Type 0 where
   pub few : (limits_of (sort_at kind many_place)).most < most_entries
   pub plain : eqb (sort_at kind many_place) own ≡ false
 
-row_right : ℕ → Bool
+unfoldable pub row_right : ℕ → Bool
 row_right kind =
     eqb (length (row_of kind)) row_places
     && (eqb (bits_from kind 0 body_place) header_bits
@@ -47,26 +47,9 @@ row_right kind =
     && (ltb (limits_of (sort_at kind many_place)).most most_entries && not (eqb (sort_at kind many_place) own)))))
 
 -- the test
-table_right : all_below row_right kinds ≡ true
+pub table_right : all_below row_right kinds ≡ true
 unfolding all_below row_right bits_from sort_at bits_of
 table_right = refl
-
-pub row-right : (kind : ℕ) → kind < kinds → Row kind
-unfolding row_right
-row-right kind h =
-    let e₀ = all_at row_right kinds table_right kind h in
-    let e₁ = both_right (eqb (length (row_of kind)) row_places) _ e₀ in
-    let e₂ = both_right (eqb (bits_from kind 0 body_place) header_bits) _ e₁ in
-    let e₃ = both_right (eqb (bits_from kind body_place body_fields) (shape_of kind).body) _ e₂ in
-    let e₄ = both_right (eqb (bits_from kind entry_place entry_fields) (shape_of kind).entry) _ e₃ in
-    record {
-      places = eqb-true _ _ (both_left _ _ e₀);
-      header = eqb-true _ _ (both_left _ _ e₁);
-      body = eqb-true _ _ (both_left _ _ e₂);
-      entry = eqb-true _ _ (both_left _ _ e₃);
-      few = ltb-true _ _ (both_left _ _ e₄);
-      plain = not-true _ (both_right (ltb (limits_of (sort_at kind many_place)).most most_entries) _ e₄);
-    }
 
 -- beyond the table there is the header alone, with no target
 pub shape-none : (kind : ℕ) → kinds ≤ kind → shape [] ≡ shape_of kind
@@ -83,7 +66,7 @@ pub row_by :
     → row_with target body ≡ row_of kind
 row_by kind e d i = row_with (e i) (d i)
 
-row-none : (kind : ℕ) → kinds ≤ kind → row_with none bare ≡ row_of kind
+pub row-none : (kind : ℕ) → kinds ≤ kind → row_with none bare ≡ row_of kind
 row-none kind h = row_by kind (ap (λ (s : Shape). s.target) (shape-none kind h)) (body-none kind h)
 
 -- the bits of the first field, which is the kind
@@ -96,7 +79,7 @@ unfolding sort_at
 row_at kind place = refl
 
 -- each cell is one of the sixteen sorts, also beyond the row
-sort_in :
+pub sort_in :
     (row : List ℕ)
     → length row ≡ row_places
     → all_below (λ p. ltb (get_or row p none) sorts) row_places ≡ true
@@ -109,20 +92,6 @@ sort_in row l t place =
     let h : length row ≤ place = omega (arith, ltb-false place row_places e) in
     let z : get_or row place none ≡ none = get_or-eq_default row none h in
     omega arith)
-
-pub sort_small : (kind place : ℕ) → sort_at kind place < sorts
-unfolding all_below sort_at
-sort_small kind place =
-    by-test (ltb kind kinds)
-    (λ e.
-    let h = ltb-true kind kinds e in
-    let t = all_at (λ k. all_below (λ p. ltb (sort_at k p) sorts) row_places) kinds refl kind h in
-    sort_in (row_of kind) (row-right kind h).places t place)
-    (λ e.
-    let header = row_with none bare in
-    let q : sort_at kind place ≡ get_or header place none =
-    ap (λ (r : List ℕ). get_or r place none) (sym (row-none kind (ltb-false kind kinds e))) in
-    omega (arith, q, sort_in header refl refl place))
 
 -- a number that is none of those below the next is beyond them, as the last arm of a `match` meets it
 pub past : (n k : ℕ) → n ≤ k → (k ≡ n → ⊥) → suc n ≤ k
@@ -176,16 +145,6 @@ badge_wide kind d =
     eqb-true _ _ (rw (ne_eqb (bits kind) 0 d) at a))
     (λ e. absurd (d (ap (λ (r : List ℕ). bits_of (get_or r badge_place none)) (sym (row-none kind (ltb-false kind kinds e))))))
 
--- a value that says how many entries there are is below the most
-pub few-entries : (kind client before : ℕ) → most_of (sort_at kind many_place) client before < most_entries
-unfolding most_of
-few-entries kind client before =
-    by-test (ltb kind kinds)
-    (λ e.
-    let r = row-right kind (ltb-true _ _ e) in
-    rw r.plain (either (λ n. n < most_entries) (eqb (sort_at kind many_place) of && eqb before 0) (omega arith) r.few))
-    (λ e. rw (many-none kind (ltb-false _ _ e)) (omega arith))
-
 -- the cases of the limits, as the code meets them: `plain` is the one that stands for the sort
 module _ (sort client before : ℕ) where
   pub least-own : sort ≡ own → client ≡ least_of sort client
@@ -234,8 +193,5 @@ badged_by kind e =
 
 -- each cell of a row is one of the sorts
 module _ (kind : ℕ) {row : List ℕ} (er : row ≡ row_of kind) where
-  sort_is : (place : ℕ) → get_or row place 0 ≡ sort_at kind place
+  pub sort_is : (place : ℕ) → get_or row place 0 ≡ sort_at kind place
   sort_is place = ap (λ (r : List ℕ). get_or r place 0) er ∙ row_at kind place
-
-  pub sort_known : (place : ℕ) → get_or row place 0 < sorts
-  sort_known place = omega (arith, sort_is place, sort_small kind place)

@@ -18,28 +18,28 @@ use Rattle.rules.specs.Request.{stored_by, entered_by}
 use Rattle.soundness.specs.Sound.{key_in_range}
 use Rattle.soundness.specs.Facts.{EntryFacts, WriteFacts, Sound}
 use Rattle.soundness.specs.Room.{few_servers, server-fits, keys-row, values-row, next-entry}
-use Rattle.keeping.specs.Frame.{Numbers, Grows, Kept, kept, client-kept, write_kept, read_kept}
+use Rattle.keeping.specs.Frame.{Numbers, Grows, Kept, write_kept, read_kept}
 use Rattle.keeping.specs.Records.{tagged-word, tagged_other, tagged-here, tagged_open, open_kept}
 
 -- a version behind those that server i holds
 module _ (q i : ℕ) (key : Key) (badge setpoint : ℕ) (t : Tables) (s : Sound t) (client : q < clients_of t) (server : i < servers_of t)
     (room : held_of t i < server_places) (good : key_in_range (clients_of t) (key_word key) ≡ true) (small : badge < 65536) where
-  abbrev after : Tables
+  abbrev pub after : Tables
   after = stored_by (stored t.counts t.keys t.values i key badge setpoint) t
 
-  same : (f : ℕ) → (f ≡ held_field + i → ⊥) → count_at after.counts f ≡ count_at t.counts f
+  pub same : (f : ℕ) → (f ≡ held_field + i → ⊥) → count_at after.counts f ≡ count_at t.counts f
   same f d = get_or-set_other t.counts (held_field + i) f _ 0 d
 
   pub stored_step : step_of after ≡ step_of t
   stored_step = same step_field (λ e. omega arith)
 
-  one_more : held_of after i ≡ held_of t i + 1
+  pub one_more : held_of after i ≡ held_of t i + 1
   one_more = get_or-set_same t.counts (held_field + i) _ 0 (omega (arith, server-fits t s i server, s.long.counts))
 
-  held_other : (j : ℕ) → (j ≡ i → ⊥) → held_of after j ≡ held_of t j
+  pub held_other : (j : ℕ) → (j ≡ i → ⊥) → held_of after j ≡ held_of t j
   held_other j d = same (held_field + j) (λ e. d (omega arith))
 
-  stored-numbers : Numbers t after
+  pub stored-numbers : Numbers t after
   stored-numbers =
       record {
         method = same method_field (λ e. omega arith);
@@ -60,7 +60,7 @@ module _ (q i : ℕ) (key : Key) (badge setpoint : ℕ) (t : Tables) (s : Sound 
     key-kept : version_word after.keys j place ≡ version_word t.keys j place
     key-kept = word_other server_places t.keys i (held_of t i) (key_word key) j place room within apart
 
-  stored_grows : Grows q t after
+  pub stored_grows : Grows q t after
   stored_grows =
       record {
         numbers = stored-numbers;
@@ -82,7 +82,7 @@ module _ (q i : ℕ) (key : Key) (badge setpoint : ℕ) (t : Tables) (s : Sound 
         entry = λ tag f h l. refl;
       }
 
-  new_key : (j place : ℕ) → held_of t j ≤ place → place < held_of after j → key_in_range (clients_of t) (version_word after.keys j place) ≡ true
+  pub new_key : (j place : ℕ) → held_of t j ≤ place → place < held_of after j → key_in_range (clients_of t) (version_word after.keys j place) ≡ true
   new_key j place h l =
       by_equal j i
       (λ e.
@@ -92,7 +92,7 @@ module _ (q i : ℕ) (key : Key) (badge setpoint : ℕ) (t : Tables) (s : Sound 
       rw (e, here, word_same server_places t.keys i (held_of t i) (key_word key) (keys-row t s i server) room) good)
       (λ d. let z : ⊥ = omega (arith, held_other j d) in absurd z)
 
-  new-badge : (j place : ℕ) → held_of t j ≤ place → place < held_of after j → version_badge after.values j place < 65536
+  pub new-badge : (j place : ℕ) → held_of t j ≤ place → place < held_of after j → version_badge after.values j place < 65536
   new-badge j place h l =
       by_equal j i
       (λ e.
@@ -102,37 +102,16 @@ module _ (q i : ℕ) (key : Key) (badge setpoint : ℕ) (t : Tables) (s : Sound 
       rw (e, here, badge-same t.values i (held_of t i) badge setpoint (omega (arith, values-row t s i server))) small)
       (λ d. let z : ⊥ = omega (arith, held_other j d) in absurd z)
 
-  pub stored-kept : Kept q t after
-  stored-kept =
-      let entries = same entries_field (λ e. omega arith) in
-      let writes = same writes_field (λ e. omega arith) in
-      let reads = same reads_field (λ e. omega arith) in
-      kept q t after s stored_grows (record {
-        step = rw stored_step s.scalars.step;
-        entries = rw entries s.scalars.entries.most;
-        writes = rw writes s.scalars.writes;
-        reads = rw reads s.scalars.reads;
-        held = λ j h. by_equal j i (λ e. rw (e, one_more) (omega arith)) (λ d. rw (held_other j d) (s.server j h).held.most);
-        key = λ j place h l m. new_key j place l m;
-        badge = λ j place h l m. new-badge j place l m;
-        entry = λ tag l m. let z : ⊥ = omega (arith, entries) in absurd z;
-        client = client-kept t after stored-numbers q (few_servers t s) (λ f l. refl) (λ j f l m. refl) (s.client q client);
-        counts = rw writes s.counts;
-        write = λ n h. write_kept t after stored-numbers n refl refl refl (rw entries (s.write n (rw writes at h)).tag) (s.write n (rw writes at h));
-        read = λ n h. read_kept t after stored-numbers n refl refl (rw entries (s.read n (rw reads at h)).tag) (s.read n (rw reads at h));
-        records = λ p h. record { write = rw writes (s.records p h).write; read = rw reads (s.records p h).read };
-      })
-
 -- an entry behind those of the log, and its tag in the record of the WRITE
 module _ (q : ℕ) (key : Key) (mask : ℕ) (t : Tables) (s : Sound t) (client : q < clients_of t)
     (room : entries_of t < log_places) (good : key_in_range (clients_of t) (key_word key) ≡ true) (within : Within mask (servers_of t)) where
-  abbrev longer : Tables
+  abbrev pub longer : Tables
   longer = entered_by (enter_left true (set t.counts entries_field (entries_of t + 1)) (put_entry t.log (entries_of t) key mask)) q t
 
-  abbrev row : List ℕ
+  abbrev pub row : List ℕ
   row = key_word key ∷ mask ∷ []
 
-  alike : (f : ℕ) → (f ≡ entries_field → ⊥) → count_at longer.counts f ≡ count_at t.counts f
+  pub alike : (f : ℕ) → (f ≡ entries_field → ⊥) → count_at longer.counts f ≡ count_at t.counts f
   alike f d = get_or-set_other t.counts entries_field f _ 0 d
 
   pub entered_step : step_of longer ≡ step_of t
@@ -141,10 +120,10 @@ module _ (q : ℕ) (key : Key) (mask : ℕ) (t : Tables) (s : Sound t) (client :
   pub entry_more : entries_of longer ≡ entries_of t + 1
   entry_more = get_or-set_same t.counts entries_field _ 0 (omega (arith, s.long.counts))
 
-  held_alike : (j : ℕ) → held_of longer j ≡ held_of t j
+  pub held_alike : (j : ℕ) → held_of longer j ≡ held_of t j
   held_alike j = alike (held_field + j) (λ e. omega arith)
 
-  entered-numbers : Numbers t longer
+  pub entered-numbers : Numbers t longer
   entered-numbers =
       record {
         method = alike method_field (λ e. omega arith);
@@ -154,19 +133,7 @@ module _ (q : ℕ) (key : Key) (mask : ℕ) (t : Tables) (s : Sound t) (client :
         held = λ j h. omega (arith, held_alike j);
       }
 
-  entered_grows : Grows q t longer
-  entered_grows =
-      record {
-        numbers = entered-numbers;
-        lengths = record { counts = length-set t.counts _ _; clients = refl; links = refl; keys = refl; values = refl; log = row-length entry_width t.log (entries_of t) row; writes = length-set t.writes _ _; reads = refl };
-        row = λ p f d h. refl;
-        link = λ p j f d h l. refl;
-        key = λ j place h l. refl;
-        value = λ j place f h l g. refl;
-        entry = λ tag f h l. row_other entry_width t.log (entries_of t) row tag f (omega arith) l (λ e. omega arith);
-      }
-
-  new-entry : (tag : ℕ) → entries_of t ≤ tag → tag < entries_of longer → EntryFacts longer tag
+  pub new-entry : (tag : ℕ) → entries_of t ≤ tag → tag < entries_of longer → EntryFacts longer tag
   new-entry tag h l =
       let here : tag ≡ entries_of t = omega (arith, entry_more) in
       let has = next-entry t s room in
@@ -176,39 +143,8 @@ module _ (q : ℕ) (key : Key) (mask : ℕ) (t : Tables) (s : Sound t) (client :
       })
 
   -- every record's tag is within the longer log, the new one too
-  tag-within : (n : ℕ) → n < writes_of t → record_word longer.writes n tag_of_record < entries_of longer
+  pub tag-within : (n : ℕ) → n < writes_of t → record_word longer.writes n tag_of_record < entries_of longer
   tag-within n h =
       by_equal n (record_of t q)
       (λ e. rw (e, tagged-here t.writes (record_of t q) (entries_of t) (omega (arith, s.scalars.writes, s.long.writes)), entry_more) (omega arith))
       (λ d. rw (tagged_other t.writes (record_of t q) (entries_of t) n tag_of_record (omega arith) d, entry_more) (omega (arith, (s.write n h).tag)))
-
-  entered-write : (n : ℕ) → n < writes_of t → WriteFacts longer n
-  entered-write n h =
-      write_kept t longer entered-numbers n
-      (tagged-word t.writes (record_of t q) (entries_of t) n client_of_record (omega arith) (λ e. omega arith))
-      (tagged-word t.writes (record_of t q) (entries_of t) n number_of_record (omega arith) (λ e. omega arith))
-      (tagged-word t.writes (record_of t q) (entries_of t) n badge_of_record (omega arith) (λ e. omega arith))
-      (tag-within n h) (s.write n h)
-
-  pub entered-kept : Kept q t longer
-  entered-kept =
-      let writes = alike writes_field (λ e. omega arith) in
-      let reads = alike reads_field (λ e. omega arith) in
-      kept q t longer s entered_grows (record {
-        step = rw entered_step s.scalars.step;
-        entries = rw entry_more (omega arith);
-        writes = rw writes s.scalars.writes;
-        reads = rw reads s.scalars.reads;
-        held = λ j h. rw (held_alike j) (s.server j h).held.most;
-        key = λ j place h l m. let z : ⊥ = omega (arith, held_alike j) in absurd z;
-        badge = λ j place h l m. let z : ⊥ = omega (arith, held_alike j) in absurd z;
-        entry = new-entry;
-        client = client-kept t longer entered-numbers q (few_servers t s) (λ f l. refl) (λ j f l m. refl) (s.client q client);
-        counts = rw writes s.counts;
-        write = λ n h. entered-write n (rw writes at h);
-        read = λ n h. read_kept t longer entered-numbers n refl refl (rw entry_more (omega (arith, (s.read n (rw reads at h)).tag))) (s.read n (rw reads at h));
-        records = λ p h. record {
-          write = rw writes (open_kept t.writes longer.writes (writes_of t) p (record_of t p) (λ n l. tagged_open t.writes (record_of t q) (entries_of t) p n) _ (s.records p h).write);
-          read = rw reads (s.records p h).read;
-        };
-      })

@@ -28,7 +28,7 @@ use Rattle.keeping.specs.Links.{badge_on, link_word, put_same, put_other, put_be
 use Rattle.keeping.specs.States.{masked_below, not-all, received_none, allowed_by-A, allowed_by-B, allowed_by-C, uses-keys}
 use Rattle.keeping.specs.States.{uses-all, request-keys, request-all, no-badge}
 use Rattle.keeping.specs.Frame.{Kept, write_kept, read_kept, kept_in}
-use Rattle.keeping.specs.Moves.{Moves, moves-numbers, same_entries, moved-kept}
+use Rattle.keeping.specs.Moves.{Moves, moves-numbers, same_entries}
 use Rattle.keeping.specs.Records.{begun-word, begun-here, begun_places, records-begun, records-idle}
 use Rattle.keeping.specs.Rows.{put, Put, put_all, last_put}
 use Rattle.keeping.specs.Asked.{Asked, asked-puts, asked-keys}
@@ -40,19 +40,19 @@ use Rattle.keeping.specs.Begins.{begun_other, begun_more, begun_step, begun-leng
 -- keeps tags and keys too.
 module _ (q mask : ℕ) (puts : List Put) (clients' links' : List ℕ) (t : Tables) (s : Sound t) (b : Beginnable q mask t) (few : reads_of t < record_places)
     (asked : Asked q puts t clients') where
-  abbrev after : Tables
+  abbrev pub after : Tables
   after = begun_read_with q mask (asking clients' links') t
 
-  more-reads : reads_of after ≡ reads_of t + 1
+  pub more-reads : reads_of after ≡ reads_of t + 1
   more-reads = begun_more reads_field t.counts s.long.counts (omega arith) (λ e. omega arith)
 
-  same_writes : writes_of after ≡ writes_of t
+  pub same_writes : writes_of after ≡ writes_of t
   same_writes = begun_other reads_field t.counts s.long.counts (omega arith) (λ e. omega arith) writes_field (λ e. omega arith) (λ e. omega arith)
 
   record_room : HasRow record_width t.reads (reads_of t)
   record_room = next-read t s few
 
-  none_received : (i : ℕ) → i < targets → received_of after q i ≡ 0
+  pub none_received : (i : ℕ) → i < targets → received_of after q i ≡ 0
   none_received i h =
       asked.beyond (received_field + i) (omega arith) (omega arith)
       ∙ received_none t q i (not-all t q i (λ e. omega (arith, b.free))) ((s.client q b.client).received i h)
@@ -79,15 +79,12 @@ module _ (q mask : ℕ) (puts : List Put) (clients' links' : List ℕ) (t : Tabl
         };
       }
 
-  kept-within : Moves q t after → (i : ℕ) → i < servers_of after → KeptFacts after q i
-  kept-within m = kept_in t after (moves-numbers q t after m) q asked.kept
-
   module _ (m : Moves q t after) (reading : is_reading (state_of after q) ≡ true) (writes : is_writing (state_of after q) ≡ false) (count : count_of after q ≡ count_of t q)
       (place : record_of after q ≡ reads_of t) (c : ClientFacts after q) where
-    begun-sum : sum_below (count_of after) (clients_of t) ≡ writes_of after
+    pub begun-sum : sum_below (count_of after) (clients_of t) ≡ writes_of after
     begun-sum = rw same_writes (sum_same (count_of after) (count_of t) (clients_of t) (λ p h. by_equal p q (λ e. rw e count) (λ d. m.row p count_field d (omega arith))) ∙ s.counts)
 
-    begun_record : (n : ℕ) → n < reads_of t + 1 → ReadFacts after n
+    pub begun_record : (n : ℕ) → n < reads_of t + 1 → ReadFacts after n
     begun_record n h =
         let num = moves-numbers q t after m in
         let new = begun-here t.reads (reads_of t) q mask (step_of t + 1) 0 in
@@ -101,29 +98,15 @@ module _ (q mask : ℕ) (puts : List Put) (clients' links' : List ℕ) (t : Tabl
         (λ d. let l : n < reads_of t = omega arith in
         read_kept t after num n (kept client_of_record (omega arith) d) (kept number_of_record (omega arith) d) (rw (kept tag_of_record (omega arith) d, same_entries q t after m) (s.read n l).tag) (s.read n l))
 
-    begun_records : (p : ℕ) → p < clients_of t → RecordsFacts after p
+    pub begun_records : (p : ℕ) → p < clients_of t → RecordsFacts after p
     begun_records p h =
         record {
           write = rw same_writes (records-idle is_writing q t after t.writes (writes_of t) (λ x d. m.row x state_field d (omega arith)) (λ x d. m.row x record_field d (omega arith)) (λ x g. (s.records x g).write) (rw b.free) writes p h);
           read = rw more-reads (records-begun is_reading q t after t.reads (reads_of t) (λ x d. m.row x state_field d (omega arith)) (λ x d. m.row x record_field d (omega arith)) (λ x g. (s.records x g).read) mask (step_of t + 1) 0 record_room (rw b.free) reading place p h);
         }
 
-    begun_kept : Kept q t after
-    begun_kept =
-        let num = moves-numbers q t after m in
-        moved-kept q t after s m (record {
-          step = rw (begun_step reads_field t.counts s.long.counts (omega arith) (λ e. omega arith)) (record { least = omega arith; most = omega (arith, b.early) });
-          writes = rw same_writes s.scalars.writes;
-          reads = rw more-reads (omega arith);
-          client = c;
-          counts = begun-sum;
-          write = λ n h. write_kept t after num n refl refl refl (rw (same_entries q t after m) (s.write n (rw same_writes at h)).tag) (s.write n (rw same_writes at h));
-          read = λ n h. begun_record n (rw more-reads at h);
-          records = begun_records;
-        })
-
 -- a request that carries nothing
-abbrev ask : Content
+abbrev pub ask : Content
 ask = request opening 0
 
 -- the words put into the row, by the state that the method begins with
@@ -137,149 +120,110 @@ module _ (q mask : ℕ) (t : Tables) (s : Sound t) (b : Beginnable q mask t) (fe
   servers_few : k ≤ targets
   servers_few = omega (arith, few_servers t s)
 
-  links_room : HasLinks t.links q
+  pub links_room : HasLinks t.links q
   links_room = client-links t s q b.client
 
-  c : ClientFacts t q
+  pub c : ClientFacts t q
   c = s.client q b.client
 
-  empty : (i : ℕ) → i < targets → link_word t.links q i 0 ≡ 0
+  pub empty : (i : ℕ) → i < targets → link_word t.links q i 0 ≡ 0
   empty i h = idle-empty t q i c b.free h
 
-  counted : count_of t q ≤ 255
+  pub counted : count_of t q ≤ 255
   counted = c.count.most
 
   -- "A: take the last tag and its keys from panel 0's log, then ask each masked station for its key."
   module _ (part : method_of t ≡ 1) (reader : (eqb (method_of t) 1 && not (eqb q 0)) ≡ false) where
-    abbrev puts_a : List Put
+    abbrev pub puts_a : List Put
     puts_a = put state_field asking_setpoints ∷ put mask_field mask ∷ put record_field (reads_of t) ∷ put tag_field (last_tag t) ∷ []
 
-    abbrev links_a : List ℕ
+    abbrev pub links_a : List ℕ
     links_a = sent_gets q mask t.log (last_tag t) k t.links
 
     abbrev get : ℕ → Content
     get i = request (latest_key t.log i (last_tag t)) 0
 
-    abbrev row_a : List ℕ
+    abbrev pub row_a : List ℕ
     row_a = kept_asking q mask t.log (last_tag t) k (put_all puts_a q t.clients)
 
-    abbrev after_a : Tables
+    abbrev pub after_a : Tables
     after_a = begun_read_with q mask (asking row_a links_a) t
 
-    last_within : last_tag t < entries_of t
+    pub last_within : last_tag t < entries_of t
     last_within = omega (arith, s.scalars.entries.least)
 
-    row_asked_a : Asked q puts_a t row_a
+    pub row_asked_a : Asked q puts_a t row_a
     row_asked_a = asked-keys q puts_a t s b.client refl refl mask (last_tag t) last_within refl
 
-    word_a : (g : ℕ) → g < setpoints_field → client_word after_a.clients q g ≡ last_put puts_a (client_word t.clients q g) g
+    pub word_a : (g : ℕ) → g < setpoints_field → client_word after_a.clients q g ≡ last_put puts_a (client_word t.clients q g) g
     word_a = row_asked_a.word
 
-    moves_a : Moves q t after_a
+    pub moves_a : Moves q t after_a
     moves_a =
         begun-moves q mask puts_a row_a links_a t s b few row_asked_a
         (λ p i f d h g. sent_others q k (has_server mask) get t.links servers_few links_room f g p i d h)
         (sent-length q k (has_server mask) get t.links servers_few links_room)
 
-    sent_a : Sent after_a q
-    sent_a =
-        gets-sent q mask (last_tag t) t.links t after_a s (moves-numbers q t after_a moves_a) b.client last_within b.masked empty links_room refl (word_a state_field (omega arith)) (word_a mask_field (omega arith))
-        (allowed_by-A (method_of t) q part reader)
-        (rw (word_a count_field (omega arith)) counted)
-        (rw (word_a tag_field (omega arith), same_entries q t after_a moves_a) last_within)
-        (rw row_asked_a.badge c.badge)
-        (kept-within q mask puts_a row_a links_a t s b few row_asked_a moves_a)
-        (none_received q mask puts_a row_a links_a t s b few row_asked_a)
-
-    kept_a : Kept q t after_a
-    kept_a =
-        begun_kept q mask puts_a row_a links_a t s b few row_asked_a moves_a (rw (word_a state_field (omega arith))) (rw (word_a state_field (omega arith))) (word_a count_field (omega arith)) (word_a record_field (omega arith)) (sent-client after_a q sent_a)
-
   -- "B: ask the head"
   module _ (part : method_of t ≡ 2) where
-    abbrev puts_b : List Put
+    abbrev pub puts_b : List Put
     puts_b = begun_puts asking_keys mask (reads_of t)
 
-    abbrev links_b : List ℕ
+    abbrev pub links_b : List ℕ
     links_b = send_ask q coordinator t.links
 
-    abbrev row_b : List ℕ
+    abbrev pub row_b : List ℕ
     row_b = put_all puts_b q t.clients
 
-    abbrev after_b : Tables
+    abbrev pub after_b : Tables
     after_b = begun_read_with q mask (asking row_b links_b) t
 
-    row_asked_b : Asked q puts_b t row_b
+    pub row_asked_b : Asked q puts_b t row_b
     row_asked_b = asked-puts q puts_b t s b.client refl refl (λ e. omega arith)
 
-    word_b : (g : ℕ) → g < setpoints_field → client_word after_b.clients q g ≡ last_put puts_b (client_word t.clients q g) g
+    pub word_b : (g : ℕ) → g < setpoints_field → client_word after_b.clients q g ≡ last_put puts_b (client_word t.clients q g) g
     word_b = row_asked_b.word
 
-    moves_b : Moves q t after_b
+    pub moves_b : Moves q t after_b
     moves_b =
         begun-moves q mask puts_b row_b links_b t s b few row_asked_b
         (λ p i f d h g. put_other t.links q coordinator ask p i f (omega arith) h (λ e. d e.0) g)
         (link-length t.links q coordinator ask)
 
-    sent_b : Sent after_b q
-    sent_b =
-        let n = moves-numbers q t after_b moves_b in
-        let state = word_b state_field (omega arith) in
-        let masked = word_b mask_field (omega arith) in
-        let used : (i : ℕ) → uses (state_of after_b q) (mask_of after_b q) i ≡ eqb i coordinator = λ i. rw (state, masked) (uses-keys mask i) in
-        record {
-          allowed = rw (n.method, state) (allowed_by-B (method_of t) q part);
-          count = rw (state, word_b count_field (omega arith)) (record { least = omega arith; most = counted });
-          mask = rw (masked, n.servers) b.masked;
-          tag = rw (word_b tag_field (omega arith), same_entries q t after_b moves_b) c.tag;
-          badge = rw row_asked_b.badge c.badge;
-          kept = kept-within q mask puts_b row_b links_b t s b few row_asked_b moves_b;
-          some = (coordinator, omega arith, used coordinator);
-          asked = λ i h u. let e = eqb-true i coordinator (sym (used i) ∙ u) in rw e (put_same t.links q coordinator ask 0 (link_row_lem t s q b.client coordinator (omega arith)) (omega arith));
-          good = λ i h u. rw state (request-keys after_b q _ _);
-          badged = λ i h u. no-badge writing (state_of after_b q) (badge_on after_b q i) (λ e. omega (arith, state));
-          rest = λ i h u. put_beside t.links q coordinator ask i 0 (eqb-false i coordinator (sym (used i) ∙ u)) (omega arith) ∙ empty i h;
-          received = none_received q mask puts_b row_b links_b t s b few row_asked_b;
-        }
-
-    kept_b : Kept q t after_b
-    kept_b =
-        begun_kept q mask puts_b row_b links_b t s b few row_asked_b moves_b (rw (word_b state_field (omega arith))) (rw (word_b state_field (omega arith))) (word_b count_field (omega arith)) (word_b record_field (omega arith)) (sent-client after_b q sent_b)
-
   -- "C: ask all masked stations and the head together"
   module _ (other : method_of t ≡ 1 → ⊥) (another : method_of t ≡ 2 → ⊥) where
-    abbrev puts_c : List Put
+    abbrev pub puts_c : List Put
     puts_c = begun_puts asking_all mask (reads_of t)
 
     abbrev asks : List ℕ
     asks = sent_asks q mask k t.links
 
-    abbrev links_c : List ℕ
+    abbrev pub links_c : List ℕ
     links_c = send_ask q coordinator asks
 
-    abbrev row_c : List ℕ
+    abbrev pub row_c : List ℕ
     row_c = put_all puts_c q t.clients
 
-    abbrev after_c : Tables
+    abbrev pub after_c : Tables
     after_c = begun_read_with q mask (asking row_c links_c) t
 
-    row_asked_c : Asked q puts_c t row_c
+    pub row_asked_c : Asked q puts_c t row_c
     row_asked_c = asked-puts q puts_c t s b.client refl refl (λ e. omega arith)
 
-    word_c : (g : ℕ) → g < setpoints_field → client_word after_c.clients q g ≡ last_put puts_c (client_word t.clients q g) g
+    pub word_c : (g : ℕ) → g < setpoints_field → client_word after_c.clients q g ≡ last_put puts_c (client_word t.clients q g) g
     word_c = row_asked_c.word
 
     asks-length : length asks ≡ length t.links
     asks-length = sent-length q k (has_server mask) (λ j. ask) t.links servers_few links_room
 
-    moves_c : Moves q t after_c
+    pub moves_c : Moves q t after_c
     moves_c =
         begun-moves q mask puts_c row_c links_c t s b few row_asked_c
         (λ p i f d h g. put_other asks q coordinator ask p i f (omega arith) h (λ e. d e.0) g ∙ sent_others q k (has_server mask) (λ j. ask) t.links servers_few links_room f g p i d h)
         (link-length asks q coordinator ask ∙ asks-length)
 
     -- a link used holds a request: the coordinator's, or a masked server's
-    asked_c : (i : ℕ) → (has_server mask i || eqb i coordinator) ≡ true → link_word links_c q i 0 ≡ 1
+    pub asked_c : (i : ℕ) → (has_server mask i || eqb i coordinator) ≡ true → link_word links_c q i 0 ≡ 1
     asked_c i u =
         by_equal i coordinator
         (λ e. rw e (put_same asks q coordinator ask 0 (rw asks-length (link_row_lem t s q b.client coordinator (omega arith))) (omega arith)))
@@ -287,46 +231,8 @@ module _ (q mask : ℕ) (t : Tables) (s : Sound t) (b : Beginnable q mask t) (fe
         put_beside asks q coordinator ask i 0 d (omega arith)
         ∙ sent_there q k (has_server mask) (λ j. ask) t.links servers_few links_room 0 (omega arith) i (masked_below mask k i b.masked.below has_i) has_i)
 
-    rest_c : (i : ℕ) → i < targets → (has_server mask i || eqb i coordinator) ≡ false → link_word links_c q i 0 ≡ 0
+    pub rest_c : (i : ℕ) → i < targets → (has_server mask i || eqb i coordinator) ≡ false → link_word links_c q i 0 ≡ 0
     rest_c i h u =
         let x = neither (has_server mask i) (eqb i coordinator) u in
         put_beside asks q coordinator ask i 0 (eqb-false i coordinator x.1) (omega arith)
         ∙ (sent-not q k (has_server mask) (λ j. ask) t.links servers_few links_room 0 (omega arith) i x.0 ∙ empty i h)
-
-    sent_c : Sent after_c q
-    sent_c =
-        let n = moves-numbers q t after_c moves_c in
-        let state = word_c state_field (omega arith) in
-        let masked = word_c mask_field (omega arith) in
-        let used : (i : ℕ) → uses (state_of after_c q) (mask_of after_c q) i ≡ (has_server mask i || eqb i coordinator) = λ i. rw (state, masked) (uses-all mask i) in
-        record {
-          allowed = rw (n.method, state) (allowed_by-C (method_of t) q other another);
-          count = rw (state, word_c count_field (omega arith)) (record { least = omega arith; most = counted });
-          mask = rw (masked, n.servers) b.masked;
-          tag = rw (word_c tag_field (omega arith), same_entries q t after_c moves_c) c.tag;
-          badge = rw row_asked_c.badge c.badge;
-          kept = kept-within q mask puts_c row_c links_c t s b few row_asked_c moves_c;
-          some = (coordinator, omega arith, used coordinator ∙ or-true (has_server mask coordinator));
-          asked = λ i h u. asked_c i (sym (used i) ∙ u);
-          good = λ i h u. rw state (request-all after_c q _ _);
-          badged = λ i h u. no-badge writing (state_of after_c q) (badge_on after_c q i) (λ e. omega (arith, state));
-          rest = λ i h u. rest_c i h (sym (used i) ∙ u);
-          received = none_received q mask puts_c row_c links_c t s b few row_asked_c;
-        }
-
-    kept_c : Kept q t after_c
-    kept_c =
-        begun_kept q mask puts_c row_c links_c t s b few row_asked_c moves_c (rw (word_c state_field (omega arith))) (rw (word_c state_field (omega arith))) (word_c count_field (omega arith)) (word_c record_field (omega arith)) (sent-client after_c q sent_c)
-
-  begun-read : (eqb (method_of t) 1 && not (eqb q 0)) ≡ false → Kept q t (formerly_begun_read q mask t)
-  unfolding formerly_begun_read
-  begun-read reader =
-      by_equal (method_of t) 1
-      (λ e. rw (eq-eqb (method_of t) 1 e) (kept_a e reader))
-      (λ d. by_equal (method_of t) 2
-      (λ e. rw (ne_eqb (method_of t) 1 d, eq-eqb (method_of t) 2 e) (kept_b e))
-      (λ f. rw (ne_eqb (method_of t) 1 d, ne_eqb (method_of t) 2 f) (kept_c d f)))
-
-module _ (q mask : ℕ) (t : Tables) (s : Sound t) (a : Readable q mask t) where
-  pub begun_read-kept : Kept q t (formerly_begun_read q mask t)
-  begun_read-kept = begun-read q mask t s a.begin a.few a.part

@@ -26,8 +26,8 @@ use Rattle.keeping.specs.Accepted.{Beginnable, Writable}
 use Rattle.keeping.specs.Links.{link_word}
 use Rattle.keeping.specs.States.{masked_below, not-all, received_none, allowed-writing, uses-writing, request-writing}
 use Rattle.keeping.specs.States.{carried-badge, asks_none, own-count}
-use Rattle.keeping.specs.Frame.{Kept, write_kept, read_kept, kept_stay}
-use Rattle.keeping.specs.Moves.{Moves, moves-numbers, same_entries, moved-kept}
+use Rattle.keeping.specs.Frame.{Kept, write_kept, read_kept}
+use Rattle.keeping.specs.Moves.{Moves, moves-numbers, same_entries}
 use Rattle.keeping.specs.Records.{begun-word, begun-here, begun_places, records-begun, records-idle}
 use Rattle.keeping.specs.Rows.{put, Put, put_all, last_put, put-read, put_skip, put_elsewhere, put-length}
 use Rattle.keeping.specs.Rounds.{Sent, sent-client, idle-empty, sent_there, sent-not, sent_others, sent-length}
@@ -37,29 +37,29 @@ use Rattle.keeping.specs.Begins.{begun_other, begun_more, begun_step, begun-leng
 module _ (q mask badge : ℕ) (clients' links' : List ℕ) (t : Tables) (s : Sound t) (b : Beginnable q mask t)
     (few : writes_of t < record_places)
     (fits : badge < 65536) where
-  abbrev wrote : Tables
+  abbrev pub wrote : Tables
   wrote =
       tables_of (begun_counts writes_field t.counts) clients' links' t.keys t.values t.log
       (begun_records writes_field t.counts q (next_count t q) badge t.writes) t.reads
 
-  more-writes : writes_of wrote ≡ writes_of t + 1
+  pub more-writes : writes_of wrote ≡ writes_of t + 1
   more-writes = begun_more writes_field t.counts s.long.counts (omega arith) (λ e. omega arith)
 
-  same_reads : reads_of wrote ≡ reads_of t
+  pub same_reads : reads_of wrote ≡ reads_of t
   same_reads = begun_other writes_field t.counts s.long.counts (omega arith) (λ e. omega arith) reads_field (λ e. omega arith) (λ e. omega arith)
 
   record_room : HasRow record_width t.writes (writes_of t)
   record_room = next-write t s few
 
   -- counts are few, since all together are
-  next_few : next_count t q ≤ 255
+  pub next_few : next_count t q ≤ 255
   next_few = omega (arith, sum-part (count_of t) (clients_of t) q b.client, s.counts)
 
   module _ (m : Moves q t wrote) (state : state_of wrote q ≡ writing) (count : count_of wrote q ≡ next_count t q) (place : record_of wrote q ≡ writes_of t) (c : ClientFacts wrote q) where
-    wrote-sum : sum_below (count_of wrote) (clients_of t) ≡ writes_of wrote
+    pub wrote-sum : sum_below (count_of wrote) (clients_of t) ≡ writes_of wrote
     wrote-sum = omega (arith, sum-set (count_of wrote) (count_of t) (clients_of t) q b.client (λ p h d. m.row p count_field d (omega arith)), s.counts, more-writes)
 
-    wrote_record : (n : ℕ) → n < writes_of t + 1 → WriteFacts wrote n
+    pub wrote_record : (n : ℕ) → n < writes_of t + 1 → WriteFacts wrote n
     wrote_record n h =
         let num = moves-numbers q t wrote m in
         let new = begun-here t.writes (writes_of t) q (next_count t q) (step_of t + 1) badge in
@@ -76,31 +76,17 @@ module _ (q mask badge : ℕ) (clients' links' : List ℕ) (t : Tables) (s : Sou
         (kept badge_of_record (omega arith) d)
         (rw (kept tag_of_record (omega arith) d, same_entries q t wrote m) (s.write n l).tag) (s.write n l))
 
-    wrote_records : (p : ℕ) → p < clients_of t → RecordsFacts wrote p
+    pub wrote_records : (p : ℕ) → p < clients_of t → RecordsFacts wrote p
     wrote_records p h =
         record {
           write = rw more-writes (records-begun is_writing q t wrote t.writes (writes_of t) (λ x d. m.row x state_field d (omega arith)) (λ x d. m.row x record_field d (omega arith)) (λ x g. (s.records x g).write) (next_count t q) (step_of t + 1) badge record_room (rw b.free) (rw state) place p h);
           read = rw same_reads (records-idle is_reading q t wrote t.reads (reads_of t) (λ x d. m.row x state_field d (omega arith)) (λ x d. m.row x record_field d (omega arith)) (λ x g. (s.records x g).read) (rw b.free) (rw state) p h);
         }
 
-    wrote_kept : Kept q t wrote
-    wrote_kept =
-        let num = moves-numbers q t wrote m in
-        moved-kept q t wrote s m (record {
-          step = rw (begun_step writes_field t.counts s.long.counts (omega arith) (λ e. omega arith)) (record { least = omega arith; most = omega (arith, b.early) });
-          writes = rw more-writes (omega arith);
-          reads = rw same_reads s.scalars.reads;
-          client = c;
-          counts = wrote-sum;
-          write = λ n h. wrote_record n (rw more-writes at h);
-          read = λ n h. read_kept t wrote num n refl refl (rw (same_entries q t wrote m) (s.read n (rw same_reads at h)).tag) (s.read n (rw same_reads at h));
-          records = wrote_records;
-        })
-
 -- "Begin a WRITE: next count; a request to each masked station; state 1."
 module _ (q mask badge : ℕ) (setpoints : List ℕ) (t : Tables) (s : Sound t) (b : Beginnable q mask t) (few : writes_of t < record_places)
     (part : (eqb (method_of t) 1 && eqb q 0) ≡ false) (fits : badge < 65536) where
-  abbrev puts : List Put
+  abbrev pub puts : List Put
   puts =
       put state_field writing
       ∷ put mask_field mask
@@ -109,36 +95,36 @@ module _ (q mask badge : ℕ) (setpoints : List ℕ) (t : Tables) (s : Sound t) 
       ∷ put write_badge_field badge
       ∷ []
 
-  abbrev after : Tables
+  abbrev pub after : Tables
   after =
       wrote q mask badge
       (stored_setpoints q setpoints (servers_of t) (put_all puts q t.clients))
       (sent_sets q mask (key_of (next_count t q) q) badge setpoints (servers_of t) t.links)
       t s b few fits
 
-  servers_few : servers_of t ≤ targets
+  pub servers_few : servers_of t ≤ targets
   servers_few = omega (arith, few_servers t s)
 
-  setpoints_room : setpoints_field + servers_of t ≤ received_field
+  pub setpoints_room : setpoints_field + servers_of t ≤ received_field
   setpoints_room = omega (arith, few_servers t s)
 
   links_room : HasLinks t.links q
   links_room = client-links t s q b.client
 
-  spared : (p g : ℕ) → g < client_width → ((p ≡ q) × (setpoints_field ≤ g) × (g < setpoints_field + servers_of t) → ⊥) → client_word after.clients p g ≡ client_word (put_all puts q t.clients) p g
+  pub spared : (p g : ℕ) → g < client_width → ((p ≡ q) × (setpoints_field ≤ g) × (g < setpoints_field + servers_of t) → ⊥) → client_word after.clients p g ≡ client_word (put_all puts q t.clients) p g
   spared p g h d =
       kept_other setpoints_field every (λ i. get_or setpoints i 0) q (servers_of t) (omega (arith, setpoints_room))
       (put_all puts q t.clients) p g h d
 
-  word : (g : ℕ) → g < setpoints_field → client_word after.clients q g ≡ last_put puts (client_word t.clients q g) g
+  pub word : (g : ℕ) → g < setpoints_field → client_word after.clients q g ≡ last_put puts (client_word t.clients q g) g
   word g h = spared q g (omega arith) (λ y. omega (arith, y.1)) ∙ put-read q puts t.clients g (client_word t.clients q g) (client-row t s q b.client) refl (omega arith) refl
 
   -- from the setpoints on, only the badge is put
-  unput : (g : ℕ) → setpoints_field ≤ g → (g ≡ write_badge_field → ⊥) →
+  pub unput : (g : ℕ) → setpoints_field ≤ g → (g ≡ write_badge_field → ⊥) →
       client_word (put_all puts q t.clients) q g ≡ client_word t.clients q g
   unput g h d = put_skip q puts t.clients g (λ e. omega arith, (λ e. omega arith, (λ e. omega arith, (λ e. omega arith, (d, tt)))))
 
-  none_received : (i : ℕ) → i < targets → received_of after q i ≡ 0
+  pub none_received : (i : ℕ) → i < targets → received_of after q i ≡ 0
   none_received i h =
       let c = s.client q b.client in
       spared q (received_field + i) (omega arith) (λ y. omega (arith, y.2, setpoints_room))
@@ -149,13 +135,13 @@ module _ (q mask badge : ℕ) (setpoints : List ℕ) (t : Tables) (s : Sound t) 
   abbrev set : ℕ → Content
   set i = set_request (key_of (next_count t q) q) badge (get_or setpoints i 0)
 
-  sent : (i f : ℕ) → f < link_width → i < servers_of t → has_server mask i ≡ true → link_word after.links q i f ≡ get_or (content_words (set i)) f 0
+  pub sent : (i f : ℕ) → f < link_width → i < servers_of t → has_server mask i ≡ true → link_word after.links q i f ≡ get_or (content_words (set i)) f 0
   sent i f g h e = sent_there q (servers_of t) (has_server mask) set t.links servers_few links_room f g i h e
 
-  unsent : (i f : ℕ) → f < link_width → has_server mask i ≡ false → link_word after.links q i f ≡ link_word t.links q i f
+  pub unsent : (i f : ℕ) → f < link_width → has_server mask i ≡ false → link_word after.links q i f ≡ link_word t.links q i f
   unsent i f g e = sent-not q (servers_of t) (has_server mask) set t.links servers_few links_room f g i e
 
-  begun-moves : Moves q t after
+  pub begun-moves : Moves q t after
   begun-moves =
       record {
         count = λ f d e g. begun_other writes_field t.counts s.long.counts (omega arith) (λ z. omega arith) f d e;
@@ -178,44 +164,3 @@ module _ (q mask badge : ℕ) (setpoints : List ℕ) (t : Tables) (s : Sound t) 
           reads = refl;
         };
       }
-
-  begun-sent : Sent after q
-  begun-sent =
-      let n = moves-numbers q t after begun-moves in
-      let c = s.client q b.client in
-      let state = word state_field (omega arith) in
-      let masked = word mask_field (omega arith) in
-      let small = next_few q mask badge t.clients t.links t s b few fits in
-      let low = client-fits t s q b.client in
-      let has : (i : ℕ) → uses (state_of after q) (mask_of after q) i ≡ has_server mask i = λ i. rw (state, masked) (uses-writing mask i) in
-      let below : (i : ℕ) → has_server mask i ≡ true → i < servers_of t = λ i e. masked_below mask (servers_of t) i b.masked.below e in
-      record {
-        allowed = rw (n.method, state) (allowed-writing (method_of t) q part);
-        count = rw (state, word count_field (omega arith)) (record { least = omega arith; most = small });
-        mask = rw (masked, n.servers) b.masked;
-        tag = rw (word tag_field (omega arith), same_entries q t after begun-moves) c.tag;
-        badge = rw (spared q write_badge_field (omega arith) (λ y. omega (arith, y.2, setpoints_room))
-            ∙ put-read q puts t.clients write_badge_field (write_badge_of t q) (client-row t s q b.client) refl (omega arith) refl) fits;
-        kept = kept_stay t after n q (few_servers t s)
-            (λ f g h d. spared q f h (λ y. omega (arith, y.2, setpoints_room)) ∙ unput f (omega arith) d)
-            (λ i. asks_none after q i (λ e. omega (arith, state))) c.kept;
-        some = let x = some-server mask (servers_of t) b.masked in (x.0, omega (arith, x.1, servers_few), has x.0 ∙ x.2);
-        asked = λ i h u. let e = sym (has i) ∙ u in sent i 0 (omega arith) (below i e) e;
-        good = λ i h u.
-            let e = sym (has i) ∙ u in
-            rw (state, sent i 1 (omega arith) (below i e) e, request-writing)
-            (own-count q (next_count t q) (record { least = omega arith; most = small }) (omega (arith, low)));
-        badged = λ i h u. let e = sym (has i) ∙ u in rw (sent i 3 (omega arith) (below i e) e) (carried-badge writing (state_of after q) badge fits);
-        rest = λ i h u. unsent i 0 (omega arith) (sym (has i) ∙ u) ∙ idle-empty t q i c b.free h;
-        received = none_received;
-      }
-
-  begun-write : Kept q t after
-  begun-write =
-      wrote_kept q mask badge after.clients after.links t s b few fits begun-moves (word state_field (omega arith))
-      (word count_field (omega arith)) (word record_field (omega arith)) (sent-client after q begun-sent)
-
-module _ (q mask badge : ℕ) (setpoints : List ℕ) (t : Tables) (s : Sound t) (a : Writable q mask setpoints t) (fits : badge < 65536) where
-  pub begun_write-kept : Kept q t (begun_write q mask badge setpoints t)
-  unfolding begun_write
-  begun_write-kept = begun-write q mask badge setpoints t s a.begin a.few a.part fits

@@ -17,10 +17,10 @@ use Rattle.soundness.specs.Facts.{KeptFacts, ClientFacts, Sound}
 use Rattle.soundness.specs.Room.{client-row, link_row_lem}
 use Rattle.keeping.specs.Links.{link_word, kind_on, LinkAsks, link-asks, link-empty, put_same, put_other, put_beside}
 use Rattle.keeping.specs.States.{received_none, not-all}
-use Rattle.keeping.specs.Frame.{Kept, link-kept, received-kept, kept_in}
+use Rattle.keeping.specs.Frame.{Kept, kept_in}
 use Rattle.keeping.specs.Moves.{Moves, moves-numbers, same_entries}
 use Rattle.keeping.specs.Rounds.{unused-empty}
-use Rattle.keeping.specs.Replied.{replied_tables, Moving, going-moves, going-kept}
+use Rattle.keeping.specs.Replied.{replied_tables, Moving, going-moves}
 
 -- A reply stands on link (q, i), of a client and a target that are there.
 pub record Came (q i : ℕ) (t : Tables) : Type 0 where
@@ -46,7 +46,7 @@ module _ {q i : ℕ} {t : Tables} (a : Came q i t) where
   pub busy : (state_of t q ≡ idle → ⊥) → Within (mask_of t q) (servers_of t)
   busy e = record { some = facts.masked e; below = facts.mask }
 
-  abbrev rest : List ℕ
+  abbrev pub rest : List ℕ
   rest = emptied q i t
 
   pub gone : link_word rest q i 0 ≡ 0
@@ -81,31 +81,8 @@ module _ {q i : ℕ} {t : Tables} (a : Came q i t) where
       (badge : client_word clients' q write_badge_field ≡ write_badge_of t q)
       (kept : (j : ℕ) → j < servers_of t → KeptFacts (with_clients clients' t) q j)
       (received : (j : ℕ) → j < targets → (j ≡ i → ⊥) → received_in clients' q j ≡ received_of t q j) (more : pending rest q ≡ true) where
-    abbrev waiting : Tables
+    abbrev pub waiting : Tables
     waiting = replied_tables clients' rest t.writes t.reads t
 
-    waiting-moves : Moves q t waiting
+    pub waiting-moves : Moves q t waiting
     waiting-moves = going-moves q clients' rest t a.sound a.client a.early v
-
-    waiting-client : received_sound waiting q i ≡ true → ClientFacts waiting q
-    waiting-client here =
-        let n = moves-numbers q t waiting waiting-moves in
-        let c = facts in
-        let state = same state_field (omega arith) in
-        let mask = same mask_field (omega arith) in
-        record {
-          allowed = rw (n.method, state) c.allowed;
-          count = rw (state, same count_field (omega arith)) c.count;
-          mask = rw (n.servers, mask) c.mask;
-          masked = λ e. rw mask (c.masked (λ z. e (state ∙ z)));
-          tag = rw (same tag_field (omega arith), same_entries q t waiting waiting-moves) c.tag;
-          badge = rw badge c.badge;
-          kept = kept_in t waiting n q kept;
-          link = λ j h. by_equal j i (λ e. rw e (link-empty waiting q i gone)) (λ e. link-kept t waiting n q j h state mask (λ f g. beside j f e g) (c.link j h));
-          received = λ j h. by_equal j i (λ e. rw e here) (λ e. received-kept t waiting n q j h state mask (λ f g. beside j f e g) (received j h e) (c.received j h));
-          busy = λ e. more;
-        }
-
-    pub waiting_kept : received_sound waiting q i ≡ true → Kept q t waiting
-    waiting_kept here =
-        going-kept q clients' rest t a.sound a.client a.early v (rw (same state_field (omega arith))) (rw (same state_field (omega arith))) (same count_field (omega arith)) (same record_field (omega arith)) (waiting-client here)

@@ -29,13 +29,13 @@ pub record Numbers (t t' : Tables) : Type 0 where
   pub held : (i : ℕ) → i < 16 → held_of t i ≤ held_of t' i
 
 -- a number within a bound is within a greater one
-reply-more : (b c : Bool) (number n n' h h' : ℕ) → n ≤ n' → h ≤ h' → cond b (leb 1 number && ltb number n) (cond c (between 1 number h) true) ≡ true →
+pub reply-more : (b c : Bool) (number n n' h h' : ℕ) → n ≤ n' → h ≤ h' → cond b (leb 1 number && ltb number n) (cond c (between 1 number h) true) ≡ true →
     cond b (leb 1 number && ltb number n') (cond c (between 1 number h') true) ≡ true
 reply-more true c number n n' h h' g l e = both (leb 1 number) (ltb number n') (both_left _ _ e) (lt-ltb number n' (omega (arith, ltb-true number n (both_right (leb 1 number) _ e))))
 reply-more false true number n n' h h' g l e = let f = between_facts 1 number h e in facts-between 1 number h' (record { least = f.least; most = omega (arith, f.most) })
 reply-more false false number n n' h h' g l e = refl
 
-received_more : (b : Bool) (r h h' : ℕ) → h ≤ h' → cond b (between 1 r h) (eqb r 0) ≡ true → cond b (between 1 r h') (eqb r 0) ≡ true
+pub received_more : (b : Bool) (r h h' : ℕ) → h ≤ h' → cond b (between 1 r h) (eqb r 0) ≡ true → cond b (between 1 r h') (eqb r 0) ≡ true
 received_more true r h h' l e = let f = between_facts 1 r h e in facts-between 1 r h' (record { least = f.least; most = omega (arith, f.most) })
 received_more false r h h' l e = e
 
@@ -59,64 +59,12 @@ module _ (t t' : Tables) (n : Numbers t t') where
   unfolding request_sound
   request-kept state q word number e = rw (n.servers, n.clients) e
 
-  pub reply-kept : (state i number : ℕ) → i < targets → reply_sound state i number t ≡ true → reply_sound state i number t' ≡ true
-  unfolding reply_sound
-  reply-kept state i number h e = reply-more (eqb state entering) (eqb state asking_keys || eqb state asking_all) number (entries_of t) (entries_of t') (holding t i) (holding t' i) n.entries (holding-more i h) e
-
-  -- a link whose words stay, of a client whose state and mask stay
-  module _ (q i : ℕ) (h : i < targets) (state : state_of t' q ≡ state_of t q) (mask : mask_of t' q ≡ mask_of t q) (words : (f : ℕ) → f < link_width → link_word t'.links q i f ≡ link_word t.links q i f) where
-    pub link-kept : LinkFacts t q i → LinkFacts t' q i
-    link-kept l =
-        let a = link-asks t q i l in
-        let k = words 0 (omega arith) in
-        asks-link t' q i (record {
-          kind = rw k a.kind;
-          used = λ d. rw (state, mask) (a.used (λ e. d (k ∙ e)));
-          request = λ e. rw (state, words 1 (omega arith), words 2 (omega arith)) (request-kept _ _ _ _ (a.request (sym k ∙ e)));
-          reply = λ e. rw (state, words 2 (omega arith)) (reply-kept _ _ _ h (a.reply (sym k ∙ e)));
-          set-badge = λ e. rw (state, words 3 (omega arith)) (a.set-badge (sym k ∙ e));
-          got-badge = λ e. rw (state, words 3 (omega arith)) (a.got-badge (sym k ∙ e));
-        })
-
-    pub received-kept : received_of t' q i ≡ received_of t q i → received_sound t q i ≡ true → received_sound t' q i ≡ true
-    unfolding received_sound
-    received-kept r e =
-        rw (state, mask, r, empty-same_words t.links t'.links q i words)
-        (received_more (eqb (state_of t q) asking_all && (uses (state_of t q) (mask_of t q) i && is_empty (content_at t q i))) (received_of t q i) (holding t i) (holding t' i) (holding-more i h) e)
-
   -- what a client keeps: that of the row that it has now, and where its words stay
   pub kept_in : (q : ℕ) → ((i : ℕ) → i < servers_of t → KeptFacts (with_clients t'.clients t) q i) → (i : ℕ) → i < servers_of t' →
       KeptFacts t' q i
   kept_in q c i h =
       let f = c i (rw n.servers at h) in
       record { tag = omega (arith, f.tag, n.entries); badge = f.badge; asked = λ e. rw n.clients (f.asked e) }
-
-  pub kept_stay : (q : ℕ) → servers_of t ≤ 16 →
-      ((f : ℕ) → tags_field ≤ f → f < client_width → (f ≡ write_badge_field → ⊥) → client_word t'.clients q f ≡ client_word t.clients q f) →
-      ((i : ℕ) → asks t' q i ≡ true → asks t q i ≡ true) →
-      ((i : ℕ) → i < servers_of t → KeptFacts t q i) → (i : ℕ) → i < servers_of t' → KeptFacts t' q i
-  kept_stay q few same fewer c = kept_in q (kept_row t t'.clients q few same fewer c)
-
-  -- a client whose row and links stay
-  pub client-kept : (q : ℕ) → servers_of t ≤ 16 → ((f : ℕ) → f < client_width → client_word t'.clients q f ≡ client_word t.clients q f) →
-      ((i f : ℕ) → i < targets → f < link_width → link_word t'.links q i f ≡ link_word t.links q i f) → ClientFacts t q → ClientFacts t' q
-  client-kept q few row words c =
-      let state : state_of t' q ≡ state_of t q = row state_field (omega arith) in
-      let mask : mask_of t' q ≡ mask_of t q = row mask_field (omega arith) in
-      let count : count_of t' q ≡ count_of t q = row count_field (omega arith) in
-      let tag : tag_of t' q ≡ tag_of t q = row tag_field (omega arith) in
-      record {
-        allowed = rw (n.method, state) c.allowed;
-        count = rw (state, count) c.count;
-        mask = rw (n.servers, mask) c.mask;
-        masked = λ d. rw mask (c.masked (λ e. d (state ∙ e)));
-        tag = omega (arith, c.tag, n.entries);
-        badge = rw (row write_badge_field (omega arith)) c.badge;
-        kept = kept_stay q few (λ f g h e. row f h) (λ i e. rw (state, mask) at e) c.kept;
-        link = λ i h. link-kept q i h state mask (λ f g. words i f h g) (c.link i h);
-        received = λ i h. received-kept q i h state mask (λ f g. words i f h g) (row _ (omega arith)) (c.received i h);
-        busy = λ d. rw (pending-same t.links t'.links q words) (c.busy (λ e. d (state ∙ e)));
-      }
 
   -- a record whose client and number stay, and whose tag is within the log
   pub write_kept : (m : ℕ) → record_word t'.writes m client_of_record ≡ record_word t.writes m client_of_record →
@@ -168,7 +116,7 @@ pub record Renewed (q : ℕ) (t t' : Tables) : Type 0 where
   pub records : (p : ℕ) → p < clients_of t → RecordsFacts t' p
 
 module _ (q : ℕ) (t t' : Tables) (s : Sound t) (g : Grows q t t') where
-  long_kept : Long (servers_of t') (clients_of t') t'
+  pub long_kept : Long (servers_of t') (clients_of t') t'
   long_kept =
       let l = s.long in
       let e = g.lengths in
@@ -184,11 +132,11 @@ module _ (q : ℕ) (t t' : Tables) (s : Sound t) (g : Grows q t t') where
         reads = rw e.reads l.reads;
       })
 
-  press-kept : Press (method_of t') (servers_of t') (clients_of t')
+  pub press-kept : Press (method_of t') (servers_of t') (clients_of t')
   press-kept = rw (g.numbers.method, g.numbers.servers, g.numbers.clients) s.scalars.press
 
   -- a server: what it held, and what came
-  server-kept : Renewed q t t' → (i : ℕ) → i < servers_of t → ServerFacts t' i
+  pub server-kept : Renewed q t t' → (i : ℕ) → i < servers_of t → ServerFacts t' i
   server-kept r i h =
       let f = s.server i h in
       let more = g.numbers.held i (server-fits t s i h) in
@@ -203,7 +151,7 @@ module _ (q : ℕ) (t t' : Tables) (s : Sound t) (g : Grows q t t') where
             (λ b. r.badge i place h (ltb-false _ _ b) l);
       }
 
-  log-kept : Renewed q t t' → LogFacts t'
+  pub log-kept : Renewed q t t' → LogFacts t'
   log-kept r =
       let f = s.log in
       let some = s.scalars.entries.least in
@@ -218,29 +166,10 @@ module _ (q : ℕ) (t t' : Tables) (s : Sound t) (g : Grows q t t') where
             (λ b. r.entry tag (ltb-false _ _ b) l);
       }
 
-  -- what a step left and what it proves anew make sound tables
-  sound-kept : Renewed q t t' → Sound t'
-  sound-kept r =
-      record {
-        long = long_kept;
-        scalars = record { press = press-kept; step = r.step; entries = record { least = omega (arith, s.scalars.entries.least, g.numbers.entries); most = r.entries }; writes = r.writes; reads = r.reads };
-        server = λ i h. server-kept r i (rw g.numbers.servers at h);
-        log = log-kept r;
-        client = λ p h. by_equal p q (λ e. rw e r.client) (λ d. client-kept t t' g.numbers p (few_servers t s) (λ f l. g.row p f d l) (λ i f l m. g.link p i f d l m) (s.client p (rw g.numbers.clients at h)));
-        counts = rw g.numbers.clients r.counts;
-        write = r.write;
-        read = r.read;
-        records = λ p h. r.records p (rw g.numbers.clients at h);
-      }
-
 -- A step of client q on sound tables: what it leaves is sound, and the rest has only grown.
 pub record Kept (q : ℕ) (t t' : Tables) : Type 0 where
   pub sound : Sound t'
   pub grows : Grows q t t'
-
--- the law of every step
-pub kept : (q : ℕ) (t t' : Tables) → Sound t → Grows q t t' → Renewed q t t' → Kept q t t'
-kept q t t' s g r = record { sound = sound-kept q t t' s g r; grows = g }
 
 -- a step refused leaves all as before
 pub kept_same : (q : ℕ) (t : Tables) → Sound t → Kept q t t
@@ -293,6 +222,3 @@ module _ (q : ℕ) (t t₁ t₂ : Tables) (s : Sound t) (a : Grows q t t₁) (b 
         value = λ i place f h l g. b.value i place f (rw m.servers h) (held_then i place h l) g ∙ a.value i place f h l g;
         entry = λ tag f h l. b.entry tag f (omega (arith, m.entries)) l ∙ a.entry tag f h l;
       }
-
-pub kept_then : (q : ℕ) (t t₁ t₂ : Tables) → Sound t → Kept q t t₁ → Kept q t₁ t₂ → Kept q t t₂
-kept_then q t t₁ t₂ s a b = record { sound = b.sound; grows = grows_then q t t₁ t₂ s a.grows b.grows }

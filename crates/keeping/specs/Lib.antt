@@ -25,6 +25,5 @@ pub mod OnEntered
 pub mod OnKeys
 pub mod OnGot
 pub mod OnAll
-pub mod Replies
 pub mod Losses
 pub mod Steps

@@ -23,96 +23,26 @@ use Rattle.keeping.specs.Links.{kind_on, request-kind, reply-kind, lost-kind, li
 use Rattle.keeping.specs.States.{by_state, masked-server, own-count, range-below, uses_setpoints, request-writing, request-entering}
 use Rattle.keeping.specs.States.{request-keys, request_setpoints, request-all, carried-badge, no-badge}
 use Rattle.keeping.specs.Frame.{Kept, kept_same}
-use Rattle.keeping.specs.Placed.{request-placed, lost-placed}
 
 module _ (q i : ℕ) (t : Tables) (s : Sound t) (d : Deliverable q i t) where
-  c : ClientFacts t q
+  pub c : ClientFacts t q
   c = s.client q d.client
 
-  target : i < targets
+  pub target : i < targets
   target = target_below t s i d.target
-
-  -- A loss, accepted or refused by 14.
-  loss_by : (content : Content) → content_at t q i ≡ content → Kept q t (on_loss content q i t).tables
-  loss_by Nothing h = kept_same q t s
-  loss_by (Request w) h =
-      lost-placed q i t s d.client target d.early (λ e. omega (arith, request-kind t.links q i w (c.link i target).kind h))
-  loss_by (Reply w) h =
-      lost-placed q i t s d.client target d.early (λ e. omega (arith, reply-kind t.links q i w (c.link i target).kind h))
-  loss_by Lost h = kept_same q t s
-
-  pub link_lost-kept : Kept q t (link_lost q i t).tables
-  unfolding link_lost
-  link_lost-kept = loss_by (content_at t q i) refl
 
   -- What the client's row gives is what its state sends: of its own WRITE the key, of a server that it asks the key that it keeps.
   module _ (lost : kind_on t q i ≡ 3) where
-    full : kind_on t q i ≡ 0 → ⊥
+    pub full : kind_on t q i ≡ 0 → ⊥
     full e = omega arith
 
-    used : uses (state_of t q) (mask_of t q) i ≡ true
+    pub used : uses (state_of t q) (mask_of t q) i ≡ true
     used = (link-asks t q i (c.link i target)).used full
 
-    own : Between 1 (count_of t q) 255 → own_key q (key_word (own_key_of t q)) ≡ true
+    pub own : Between 1 (count_of t q) 255 → own_key q (key_word (own_key_of t q)) ≡ true
     own b = own-count q (count_of t q) b (omega (arith, client-fits t s q d.client))
 
-    asked_in_range : state_of t q ≡ asking_setpoints → key_in_range (clients_of t) (asked_of t q i) ≡ true
+    pub asked_in_range : state_of t q ≡ asking_setpoints → key_in_range (clients_of t) (asked_of t q i) ≡ true
     asked_in_range e =
         let masked : has_server (mask_of t q) i ≡ true = rw (e, uses_setpoints) at used in
         (c.kept i (masked-server t s q i d.client masked)).asked (rw (eq-eqb (state_of t q) asking_setpoints e) masked)
-
-    -- a request that carries no badge, in a state that is not 1
-    sent_unbadged : (state_of t q ≡ writing → ⊥) → (key : Key) (number : ℕ) → request_sound (state_of t q) q (key_word key) number t ≡ true →
-        Kept q t (answered_by (request key number) q i t).tables
-    sent_unbadged n key number good =
-        request-placed q i t s d.client target d.early full key 0 number good (no-badge writing (state_of t q) 0 n)
-
-    resent-set : state_of t q ≡ writing → Kept q t (answered_by (sent_in writing q i t) q i t).tables
-    unfolding sent_in
-    resent-set e =
-        request-placed q i t s d.client target d.early full (own_key_of t q) (write_badge_of t q) (setpoint_of t q i)
-        (rw (e, request-writing) (own (rw e at c.count))) (carried-badge writing (state_of t q) (write_badge_of t q) c.badge)
-
-    resent-enter : state_of t q ≡ entering → Kept q t (answered_by (sent_in entering q i t) q i t).tables
-    unfolding sent_in
-    resent-enter e =
-        let masked : Within (mask_of t q) (servers_of t) = record { some = c.masked (λ z. omega (arith, e)); below = c.mask } in
-        sent_unbadged (λ z. omega (arith, e)) (own_key_of t q) (mask_of t q)
-        (rw (e, request-entering) (both (own_key q (key_word (own_key_of t q))) (mask_within (mask_of t q) (servers_of t))
-        (own (rw e at c.count)) (within-test (mask_of t q) (servers_of t) masked)))
-
-    resent-get : state_of t q ≡ asking_setpoints → Kept q t (answered_by (sent_in asking_setpoints q i t) q i t).tables
-    unfolding sent_in
-    resent-get e =
-        let good = asked_in_range e in
-        sent_unbadged (λ z. omega (arith, e)) (key_at_word (asked_of t q i)) 0
-        (rw (e, request_setpoints, key_back (asked_of t q i) (range-below (clients_of t) (asked_of t q i) good)) good)
-
-    -- which keys, get all, get log
-    resent-keys : state_of t q ≡ asking_keys → Kept q t (answered_by (sent_in asking_keys q i t) q i t).tables
-    unfolding sent_in
-    resent-keys e = sent_unbadged (λ z. omega (arith, e)) opening 0 (rw e (request-keys t q 0 0))
-
-    resent-all : state_of t q ≡ asking_all → Kept q t (answered_by (sent_in asking_all q i t) q i t).tables
-    unfolding sent_in
-    resent-all e = sent_unbadged (λ z. omega (arith, e)) opening 0 (rw e (request-all t q 0 0))
-
-    resent : Kept q t (answered_by (sent_in (state_of t q) q i t) q i t).tables
-    resent =
-        by_state (mask_of t q) i (state_of t q) used
-        (λ e. rw e (resent-set e))
-        (λ e. rw e (resent-enter e))
-        (λ e. rw e (resent-keys e))
-        (λ e. rw e (resent-get e))
-        (λ e. rw e (resent-all e))
-
-  -- A resend, accepted or refused by 15.
-  resend_by : (content : Content) → content_at t q i ≡ content → Kept q t (on_resend content q i t).tables
-  resend_by Nothing h = kept_same q t s
-  resend_by (Request w) h = kept_same q t s
-  resend_by (Reply w) h = kept_same q t s
-  resend_by Lost h = resent (lost-kind t.links q i (c.link i target).kind h)
-
-  pub link_resent-kept : Kept q t (link_resent q i t).tables
-  unfolding link_resent
-  link_resent-kept = resend_by (content_at t q i) refl

@@ -13,7 +13,7 @@ use Rattle.rules.specs.Common.{counted}
 use Rattle.soundness.specs.Sound.{holding}
 use Rattle.soundness.specs.Facts.{Between, ClientFacts, WriteFacts, ReadFacts, RecordsFacts, Sound}
 use Rattle.keeping.specs.Links.{link_word}
-use Rattle.keeping.specs.Frame.{Numbers, Lengths, Grows, Kept, kept}
+use Rattle.keeping.specs.Frame.{Numbers, Lengths, Grows, Kept}
 
 pub record Moves (q : ℕ) (t t' : Tables) : Type 0 where
   pub count : (f : ℕ) → (f ≡ step_field → ⊥) → (f ≡ writes_field → ⊥) → (f ≡ reads_field → ⊥) → count_at t'.counts f ≡ count_at t.counts f
@@ -66,25 +66,6 @@ pub record Anew (q : ℕ) (t t' : Tables) : Type 0 where
   pub write : (n : ℕ) → n < writes_of t' → WriteFacts t' n
   pub read : (n : ℕ) → n < reads_of t' → ReadFacts t' n
   pub records : (p : ℕ) → p < clients_of t → RecordsFacts t' p
-
-pub moved-kept : (q : ℕ) (t t' : Tables) → Sound t → Moves q t t' → Anew q t t' → Kept q t t'
-moved-kept q t t' s m a =
-    kept q t t' s (moves_grows q t t' m)
-    (record {
-      step = a.step;
-      entries = rw (same_entries q t t' m) s.scalars.entries.most;
-      writes = a.writes;
-      reads = a.reads;
-      held = λ i h. rw (same_held q t t' m i) (s.server i h).held.most;
-      key = λ i place h l g. let z : ⊥ = omega (arith, same_held q t t' m i) in absurd z;
-      badge = λ i place h l g. let z : ⊥ = omega (arith, same_held q t t' m i) in absurd z;
-      entry = λ tag l g. let z : ⊥ = omega (arith, same_entries q t t' m) in absurd z;
-      client = a.client;
-      counts = a.counts;
-      write = a.write;
-      read = a.read;
-      records = a.records;
-    })
 
 -- one step more: the other counts stay
 module _ (counts : List ℕ) where

@@ -26,71 +26,58 @@ use Rattle.keeping.specs.Moves.{moves-numbers, same_entries, same-holding}
 use Rattle.keeping.specs.Rows.{put, Put, put_all, last_put, put-read, put-before, put_skip, put_elsewhere, put-length}
 use Rattle.keeping.specs.Told.{chosen-within, chosen_held}
 use Rattle.keeping.specs.Rounds.{idle-client}
-use Rattle.keeping.specs.Replied.{replied_tables, Moving, going-moves, finished-moves, ended-read-kept}
-use Rattle.keeping.specs.Came.{Came, facts, asks, used, row_room, gone, beside, kinds, elsewhere, rest_long, waiting_kept}
+use Rattle.keeping.specs.Replied.{replied_tables, Moving, going-moves, finished-moves}
+use Rattle.keeping.specs.Came.{Came, facts, asks, used, row_room, gone, beside, kinds, elsewhere, rest_long}
 
 module _ (q i : ℕ) (t : Tables) (a : Came q i t) (state : state_of t q ≡ asking_all) where
-  abbrev w : Contents
+  abbrev pub w : Contents
   w = contents_on t q i
 
   abbrev number : ℕ
   number = number_on t q i
 
-  abbrev rest : List ℕ
+  abbrev pub rest : List ℕ
   rest = emptied q i t
 
   abbrev got_n : List Put
   got_n = put (received_field + i) number ∷ []
 
-  abbrev row : List ℕ
+  abbrev pub row : List ℕ
   row = put_all got_n q t.clients
 
   n_inside : ltb (received_field + i) client_width ≡ true
   n_inside = lt-ltb (received_field + i) client_width (omega (arith, a.target))
 
-  n-between : Between 1 number (holding t i)
+  pub n-between : Between 1 number (holding t i)
   n-between = all_told t i number (rw state at ((asks a).reply a.kind))
 
-  n_low : (f : ℕ) → f < received_field → client_word row q f ≡ client_word t.clients q f
+  pub n_low : (f : ℕ) → f < received_field → client_word row q f ≡ client_word t.clients q f
   n_low f h = put_skip q got_n t.clients f (λ e. omega arith, tt)
 
-  n-here : received_in row q i ≡ number
+  pub n-here : received_in row q i ≡ number
   n-here = word_same client_width t.clients q (received_field + i) number (row_room a) (omega (arith, a.target))
 
-  n_beside : (j : ℕ) → (j ≡ i → ⊥) → received_in row q j ≡ received_of t q j
+  pub n_beside : (j : ℕ) → (j ≡ i → ⊥) → received_in row q j ≡ received_of t q j
   n_beside j e = put_skip q got_n t.clients (received_field + j) (λ z. e (omega arith), tt)
 
   -- the n received stand before the tags and badges kept
-  n-behind : (f : ℕ) → tags_field ≤ f → client_word row q f ≡ client_word t.clients q f
+  pub n-behind : (f : ℕ) → tags_field ≤ f → client_word row q f ≡ client_word t.clients q f
   n-behind f h = put-before q got_n t.clients tags_field f (rw (lt-ltb (received_field + i) tags_field (omega (arith, a.target)))) h
 
-  n_kept : (j : ℕ) → j < servers_of t → KeptFacts (with_clients row t) q j
+  pub n_kept : (j : ℕ) → j < servers_of t → KeptFacts (with_clients row t) q j
   n_kept =
       kept_row t row q (few_servers t a.sound) (λ f h l d. n-behind f h)
       (λ j. asks_none (with_clients row t) q j (λ e. omega (arith, n_low state_field (omega arith), state))) (facts a).kept
 
-  n_moving : Moving q row rest t
+  pub n_moving : Moving q row rest t
   n_moving = record { row = λ p f e h. put_elsewhere q got_n t.clients p f (rw n_inside) h e; link = elsewhere a; clients = put-length q got_n t.clients; links = rest_long a }
-
-  all-waits : pending rest q ≡ true → Kept q t (replied_tables row rest t.writes t.reads t)
-  all-waits more =
-      let after = replied_tables row rest t.writes t.reads t in
-      let m = going-moves q row rest t a.sound a.client a.early n_moving in
-      let here : arrived after q i ≡ true =
-      both (eqb (state_of after q) asking_all) (uses (state_of after q) (mask_of after q) i && is_empty (content_at after q i))
-      (eq-eqb (state_of after q) asking_all (n_low state_field (omega arith) ∙ state))
-      (both (uses (state_of after q) (mask_of after q) i) (is_empty (content_at after q i)) (rw (n_low state_field (omega arith), n_low mask_field (omega arith)) (used a)) (kind-empty rest q i (gone a))) in
-      let held : holding after i ≡ holding t i = same-holding q t after m i in
-      waiting_kept a row n_moving (λ f h. n_low f (omega arith)) (n-behind write_badge_field (omega arith))
-      n_kept (λ j h e. n_beside j e) more
-      (some_received after q i here (rw (n-here, held) n-between))
 
   -- all replies are in: a tag is chosen, and a version of each masked server
   module _ (none : pending rest q ≡ false) where
-    abbrev chosen : ℕ
+    abbrev pub chosen : ℕ
     chosen = tag_chosen row q t
 
-    within : chosen < entries_of t
+    pub within : chosen < entries_of t
     within = chosen-within t a.sound q i number a.client a.target state n-between none
 
     badge-fits : (j : ℕ) → j < servers_of t → has_server (mask_of t q) j ≡ true → badge_at chosen row q t j < 65536
@@ -116,14 +103,14 @@ module _ (q i : ℕ) (t : Tables) (a : Came q i t) (state : state_of t q ≡ ask
     abbrev puts_end : List Put
     puts_end = put tag_field chosen ∷ put state_field idle ∷ []
 
-    abbrev end_row : List ℕ
+    abbrev pub end_row : List ℕ
     end_row = put_all puts_end q forgot
 
     shown_other : (p f : ℕ) → f < client_width → ((p ≡ q) × (setpoints_field ≤ f) × (f < setpoints_field + servers_of t) → ⊥) → client_word shown p f ≡ client_word row p f
     shown_other p f h e =
         kept_other setpoints_field (has_server (mask_of t q)) (setpoint_at chosen row q t) q (servers_of t) setpoints_room row p f h e
 
-    badged_other : (p f : ℕ) → f < client_width → ((p ≡ q) × (badges_field ≤ f) × (f < badges_field + servers_of t) → ⊥) →
+    pub badged_other : (p f : ℕ) → f < client_width → ((p ≡ q) × (badges_field ≤ f) × (f < badges_field + servers_of t) → ⊥) →
         client_word badged p f ≡ client_word shown p f
     badged_other p f h e =
         kept_other badges_field (has_server (mask_of t q)) (badge_at chosen row q t) q (servers_of t) badges_room shown p f h e
@@ -143,7 +130,7 @@ module _ (q i : ℕ) (t : Tables) (a : Came q i t) (state : state_of t q ≡ ask
     forgot_long : length forgot ≡ length t.clients
     forgot_long = kept-length received_field every (λ j. 0) q targets (omega arith) badged ∙ badged_long
 
-    end_moving : Moving q end_row rest t
+    pub end_moving : Moving q end_row rest t
     end_moving =
         record {
           row = λ p f e h.
@@ -155,27 +142,27 @@ module _ (q i : ℕ) (t : Tables) (a : Came q i t) (state : state_of t q ≡ ask
           links = rest_long a;
         }
 
-    end-word : (g : ℕ) → g < client_width → client_word end_row q g ≡ last_put puts_end (client_word forgot q g) g
+    pub end-word : (g : ℕ) → g < client_width → client_word end_row q g ≡ last_put puts_end (client_word forgot q g) g
     end-word g h = put-read q puts_end forgot g (client_word forgot q g) (rw forgot_long (row_room a)) refl h refl
 
-    low_word : (g : ℕ) → g < setpoints_field → client_word forgot q g ≡ client_word t.clients q g
+    pub low_word : (g : ℕ) → g < setpoints_field → client_word forgot q g ≡ client_word t.clients q g
     low_word g h =
         forgot_other q g (omega arith) (λ z. omega (arith, z.1))
         ∙ (badged_other q g (omega arith) (λ z. omega (arith, z.1)) ∙ (shown_other q g (omega arith) (λ z. omega (arith, z.1)) ∙ n_low g (omega arith)))
 
-    end_received : (j : ℕ) → j < targets → received_in end_row q j ≡ 0
+    pub end_received : (j : ℕ) → j < targets → received_in end_row q j ≡ 0
     end_received j h =
         put-before q puts_end forgot setpoints_field (received_field + j) refl (omega arith)
         ∙ kept_there received_field every (λ x. 0) q targets (omega arith) badged j (rw badged_long (row_room a)) h refl
 
     -- behind the n only badges were put: those of the masked servers
-    behind : (f : ℕ) → tags_field ≤ f → f < client_width → client_word end_row q f ≡ client_word badged q f
+    pub behind : (f : ℕ) → tags_field ≤ f → f < client_width → client_word end_row q f ≡ client_word badged q f
     behind f h l = put-before q puts_end forgot setpoints_field f refl (omega arith) ∙ forgot_other q f l (λ z. omega (arith, z.2))
 
-    unbadged : (f : ℕ) → tags_field ≤ f → f < client_width → client_word shown q f ≡ client_word t.clients q f
+    pub unbadged : (f : ℕ) → tags_field ≤ f → f < client_width → client_word shown q f ≡ client_word t.clients q f
     unbadged f h l = shown_other q f l (λ z. omega (arith, z.2, few_servers t a.sound)) ∙ n-behind f h
 
-    end_kept : (j : ℕ) → j < servers_of t → KeptFacts (with_clients end_row t) q j
+    pub end_kept : (j : ℕ) → j < servers_of t → KeptFacts (with_clients end_row t) q j
     end_kept j h =
         let few = few_servers t a.sound in
         let room : HasRow client_width shown q = rw shown_long (row_room a) in
@@ -191,26 +178,3 @@ module _ (q i : ℕ) (t : Tables) (a : Came q i t) (state : state_of t q ≡ ask
               ∙ unbadged (badges_field + j) (omega arith) (omega arith)) ((facts a).kept j h).badge));
           asked = asks_none (with_clients end_row t) q j (λ e. omega (arith, end-word state_field (omega arith)));
         }
-
-    all-ends : Kept q t (ended_by_c chosen row q rest t).tables
-    all-ends =
-        let m = finished-moves q chosen end_row rest t a.sound a.client a.early end_moving (rw state) (rw state) within in
-        let count = end-word count_field (omega arith) ∙ low_word count_field (omega arith) in
-        ended-read-kept q chosen end_row rest t a.sound a.client a.early end_moving (rw state) (rw state) within
-        (end-word state_field (omega arith)) count
-        (idle-client _ q (record {
-          state = end-word state_field (omega arith);
-          count = rw count (facts a).count.most;
-          mask = rw (end-word mask_field (omega arith) ∙ low_word mask_field (omega arith), (moves-numbers q t _ m).servers) (facts a).mask;
-          tag = rw (end-word tag_field (omega arith), same_entries q t _ m) within;
-          badge = rw (behind write_badge_field (omega arith) (omega arith)
-              ∙ (badged_other q write_badge_field (omega arith) (λ z. omega (arith, z.2, few_servers t a.sound))
-              ∙ unbadged write_badge_field (omega arith) (omega arith))) (facts a).badge;
-          kept = kept_in t _ (moves-numbers q t _ m) q end_kept;
-          link = λ j h. none-pending rest q j h (kinds a j h) none;
-          received = end_received;
-        }))
-
-  pub all-delivered : Kept q t (on_all w q i t).tables
-  unfolding on_all
-  all-delivered = by-test (pending rest q) (λ b. rw b (all-waits b)) (λ b. rw b (all-ends b))

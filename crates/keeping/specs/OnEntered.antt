@@ -13,54 +13,31 @@ use Rattle.soundness.specs.Sound.{key_on}
 use Rattle.soundness.specs.Room.{few_servers}
 use Rattle.keeping.specs.Links.{number_on, contents_on}
 use Rattle.keeping.specs.States.{uses-entering, entered-tag, asks_none}
-use Rattle.keeping.specs.Frame.{Kept, kept_stay}
+use Rattle.keeping.specs.Frame.{Kept}
 use Rattle.keeping.specs.Moves.{moves-numbers, same_entries}
 use Rattle.keeping.specs.Rows.{put, Put, put_all, last_put, put-read, put-before, put_elsewhere, put-length}
 use Rattle.keeping.specs.Rounds.{idle-client}
-use Rattle.keeping.specs.Replied.{Moving, ended-moves, ended-write-kept}
+use Rattle.keeping.specs.Replied.{Moving, ended-moves}
 use Rattle.keeping.specs.Came.{Came, facts, asks, row_room, elsewhere, rest_long, received-zero, none_beside}
 
 module _ (q i : ℕ) (t : Tables) (a : Came q i t) (state : state_of t q ≡ entering) where
-  abbrev w : Contents
+  abbrev pub w : Contents
   w = contents_on t q i
 
   abbrev number : ℕ
   number = number_on t q i
 
-  abbrev rest : List ℕ
+  abbrev pub rest : List ℕ
   rest = emptied q i t
 
-  abbrev puts_entered : List Put
+  abbrev pub puts_entered : List Put
   puts_entered = put tag_field number ∷ put state_field idle ∷ []
 
-  entered_moving : Moving q (put_all puts_entered q t.clients) rest t
+  pub entered_moving : Moving q (put_all puts_entered q t.clients) rest t
   entered_moving = record { row = λ p f e h. put_elsewhere q puts_entered t.clients p f refl h e; link = elsewhere a; clients = put-length q puts_entered t.clients; links = rest_long a }
 
-  entered-word : (g : ℕ) → g < client_width → client_word (put_all puts_entered q t.clients) q g ≡ last_put puts_entered (client_word t.clients q g) g
+  pub entered-word : (g : ℕ) → g < client_width → client_word (put_all puts_entered q t.clients) q g ≡ last_put puts_entered (client_word t.clients q g) g
   entered-word g h = put-read q puts_entered t.clients g (client_word t.clients q g) (row_room a) refl h refl
 
-  tag-within : number < entries_of t
+  pub tag-within : number < entries_of t
   tag-within = (entered-tag t i number (rw state at ((asks a).reply a.kind))).1
-
-  pub entered-delivered : Kept q t (on_entered w q i t).tables
-  unfolding on_entered
-  entered-delivered =
-      let clients' = put_all puts_entered q t.clients in
-      let after = (on_entered w q i t).tables in
-      let m = ended-moves q clients' rest t a.sound a.client a.early entered_moving (rw state) (rw state) in
-      let n = moves-numbers q t after m in
-      let not_five : state_of t q ≡ asking_all → ⊥ = λ e. omega (arith, state) in
-      ended-write-kept q clients' rest t a.sound a.client a.early entered_moving (rw state) (rw state) (entered-word state_field (omega arith)) (entered-word count_field (omega arith))
-      (idle-client after q (record {
-        state = entered-word state_field (omega arith);
-        count = rw (entered-word count_field (omega arith)) (facts a).count.most;
-        mask = rw (entered-word mask_field (omega arith), n.servers) (facts a).mask;
-        tag = rw (entered-word tag_field (omega arith), same_entries q t after m) tag-within;
-        badge = rw (entered-word write_badge_field (omega arith)) (facts a).badge;
-        kept =
-            kept_stay t after n q (few_servers t a.sound)
-            (λ f g h d. put-before q puts_entered t.clients setpoints_field f refl (omega arith))
-            (λ j. asks_none after q j (λ e. omega (arith, entered-word state_field (omega arith)))) (facts a).kept;
-        link = none_beside a (λ j. rw state (uses-entering (mask_of t q) j));
-        received = λ j h. put-before q puts_entered t.clients setpoints_field (received_field + j) refl (omega arith) ∙ received-zero a not_five j h;
-      }))

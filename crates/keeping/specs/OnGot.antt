@@ -17,11 +17,11 @@ use Rattle.keeping.specs.Frame.{Kept, kept_in}
 use Rattle.keeping.specs.Moves.{moves-numbers, same_entries}
 use Rattle.keeping.specs.Rows.{Avoids, put, Put, put_all, put-read, put-before, put_skip, put_elsewhere, put-length}
 use Rattle.keeping.specs.Rounds.{idle-client}
-use Rattle.keeping.specs.Replied.{replied_tables, Moving, finished-moves, ended-read-kept}
-use Rattle.keeping.specs.Came.{Came, facts, asks, used, row_room, kinds, elsewhere, rest_long, received-zero, waiting_kept}
+use Rattle.keeping.specs.Replied.{replied_tables, Moving, finished-moves}
+use Rattle.keeping.specs.Came.{Came, facts, asks, used, row_room, kinds, elsewhere, rest_long, received-zero}
 
 module _ (q i : ℕ) (t : Tables) (a : Came q i t) (state : state_of t q ≡ asking_setpoints) where
-  abbrev w : Contents
+  abbrev pub w : Contents
   w = contents_on t q i
 
   abbrev number : ℕ
@@ -33,7 +33,7 @@ module _ (q i : ℕ) (t : Tables) (a : Came q i t) (state : state_of t q ≡ ask
   badge-fits : badge < 65536
   badge-fits = badge-carried asking_setpoints (state_of t q) badge state ((asks a).got-badge a.kind)
 
-  abbrev rest : List ℕ
+  abbrev pub rest : List ℕ
   rest = emptied q i t
 
   server : i < servers_of t
@@ -42,13 +42,13 @@ module _ (q i : ℕ) (t : Tables) (a : Came q i t) (state : state_of t q ≡ ask
   place : setpoints_field + i < received_field
   place = omega (arith, server-fits t a.sound i server)
 
-  not-all_state : state_of t q ≡ asking_all → ⊥
+  pub not-all_state : state_of t q ≡ asking_all → ⊥
   not-all_state e = omega (arith, state)
 
-  abbrev got : List Put
+  abbrev pub got : List Put
   got = put (setpoints_field + i) number ∷ put (badges_field + i) badge ∷ []
 
-  abbrev got_last : List Put
+  abbrev pub got_last : List Put
   got_last = put (setpoints_field + i) number ∷ put (badges_field + i) badge ∷ put state_field idle ∷ []
 
   -- the words put stand in the row
@@ -58,22 +58,22 @@ module _ (q i : ℕ) (t : Tables) (a : Came q i t) (state : state_of t q ≡ ask
   badge_inside : ltb (badges_field + i) client_width ≡ true
   badge_inside = lt-ltb (badges_field + i) client_width (omega (arith, place))
 
-  got_moving : Moving q (put_all got q t.clients) rest t
+  pub got_moving : Moving q (put_all got q t.clients) rest t
   got_moving = record { row = λ p f e h. put_elsewhere q got t.clients p f (rw (got_inside, badge_inside)) h e; link = elsewhere a; clients = put-length q got t.clients; links = rest_long a }
 
   -- between setpoints and badges nothing is put
-  between_skips : (f : ℕ) → received_field ≤ f → f < badges_field → Avoids got f
+  pub between_skips : (f : ℕ) → received_field ≤ f → f < badges_field → Avoids got f
   between_skips f h l = (λ e. omega (arith, place), (λ e. omega arith, tt))
 
   -- nor behind the badges
-  beyond_skips : (f : ℕ) → write_badge_field ≤ f → client_word (put_all got q t.clients) q f ≡ client_word t.clients q f
+  pub beyond_skips : (f : ℕ) → write_badge_field ≤ f → client_word (put_all got q t.clients) q f ≡ client_word t.clients q f
   beyond_skips f h = put_skip q got t.clients f (λ e. omega (arith, place), (λ e. omega (arith, place), tt))
 
-  got_low : (f : ℕ) → f < setpoints_field → client_word (put_all got q t.clients) q f ≡ client_word t.clients q f
+  pub got_low : (f : ℕ) → f < setpoints_field → client_word (put_all got q t.clients) q f ≡ client_word t.clients q f
   got_low f h = put_skip q got t.clients f (λ e. omega arith, (λ e. omega arith, tt))
 
   -- the badge is the one that came, those of the other servers stay
-  got_kept : (j : ℕ) → j < servers_of t → KeptFacts (with_clients (put_all got q t.clients) t) q j
+  pub got_kept : (j : ℕ) → j < servers_of t → KeptFacts (with_clients (put_all got q t.clients) t) q j
   got_kept j h =
       let few = few_servers t a.sound in
       record {
@@ -88,30 +88,20 @@ module _ (q i : ℕ) (t : Tables) (a : Came q i t) (state : state_of t q ≡ ask
             (((facts a).kept j h).asked (rw (got_low state_field (omega arith), got_low mask_field (omega arith)) at e));
       }
 
-  got-waits : pending rest q ≡ true → Kept q t (replied_tables (put_all got q t.clients) rest t.writes t.reads t)
-  got-waits more =
-      let after = replied_tables (put_all got q t.clients) rest t.writes t.reads t in
-      let received : (j : ℕ) → j < targets → received_in (put_all got q t.clients) q j ≡ received_of t q j =
-      λ j h. put_skip q got t.clients (received_field + j) (between_skips (received_field + j) (omega arith) (omega arith)) in
-      waiting_kept a (put_all got q t.clients) got_moving got_low (beyond_skips write_badge_field (omega arith)) got_kept
-      (λ j h e. received j h) more
-      (none_received after q i (not-all after q i (λ e. not-all_state (sym (got_low state_field (omega arith)) ∙ e)))
-      (received i a.target ∙ received-zero a not-all_state i a.target))
-
-  last_moving : Moving q (put_all got_last q t.clients) rest t
+  pub last_moving : Moving q (put_all got_last q t.clients) rest t
   last_moving = record { row = λ p f e h. put_elsewhere q got_last t.clients p f (rw (got_inside, badge_inside)) h e; link = elsewhere a; clients = put-length q got_last t.clients; links = rest_long a }
 
-  last_word : (g : ℕ) → g < setpoints_field → (g ≡ 0 → ⊥) → client_word (put_all got_last q t.clients) q g ≡ client_word t.clients q g
+  pub last_word : (g : ℕ) → g < setpoints_field → (g ≡ 0 → ⊥) → client_word (put_all got_last q t.clients) q g ≡ client_word t.clients q g
   last_word g h e = put_skip q got_last t.clients g (λ z. omega arith, (λ z. omega arith, (e, tt)))
 
   -- the last word put is the state
-  state-behind : (f : ℕ) → setpoints_field ≤ f → client_word (put_all got_last q t.clients) q f ≡ client_word (put_all got q t.clients) q f
+  pub state-behind : (f : ℕ) → setpoints_field ≤ f → client_word (put_all got_last q t.clients) q f ≡ client_word (put_all got q t.clients) q f
   state-behind f h = put-before q (put state_field idle ∷ []) (put_all got q t.clients) setpoints_field f refl h
 
-  last_state : client_word (put_all got_last q t.clients) q 0 ≡ idle
+  pub last_state : client_word (put_all got_last q t.clients) q 0 ≡ idle
   last_state = put-read q got_last t.clients 0 (state_of t q) (row_room a) (rw (got_inside, badge_inside)) (omega arith) refl
 
-  last-kept : (j : ℕ) → j < servers_of t → KeptFacts (with_clients (put_all got_last q t.clients) t) q j
+  pub last-kept : (j : ℕ) → j < servers_of t → KeptFacts (with_clients (put_all got_last q t.clients) t) q j
   last-kept j h =
       record {
         tag = rw (state-behind (tags_field + j) (omega arith)) (got_kept j h).tag;
@@ -119,28 +109,8 @@ module _ (q i : ℕ) (t : Tables) (a : Came q i t) (state : state_of t q ≡ ask
         asked = asks_none (with_clients (put_all got_last q t.clients) t) q j (λ e. omega (arith, last_state));
       }
 
-  last_received : (j : ℕ) → j < targets → received_in (put_all got_last q t.clients) q j ≡ 0
+  pub last_received : (j : ℕ) → j < targets → received_in (put_all got_last q t.clients) q j ≡ 0
   last_received j h =
       state-behind (received_field + j) (omega arith)
       ∙ (put_skip q got t.clients (received_field + j) (between_skips (received_field + j) (omega arith) (omega arith))
       ∙ received-zero a not-all_state j h)
-
-  pub got-delivered : Kept q t (on_got w q i t).tables
-  unfolding on_got
-  got-delivered =
-      let clients' = put_all got_last q t.clients in
-      let m = finished-moves q (tag_of t q) clients' rest t a.sound a.client a.early last_moving (rw state) (rw state) (facts a).tag in
-      by-test (pending rest q)
-      (λ b. rw b (got-waits b))
-      (λ b. rw b
-      (ended-read-kept q (tag_of t q) clients' rest t a.sound a.client a.early last_moving (rw state) (rw state) (facts a).tag last_state (last_word count_field (omega arith) (λ e. omega arith))
-      (idle-client _ q (record {
-        state = last_state;
-        count = rw (last_word count_field (omega arith) (λ e. omega arith)) (facts a).count.most;
-        mask = rw (last_word mask_field (omega arith) (λ e. omega arith), (moves-numbers q t _ m).servers) (facts a).mask;
-        tag = rw (last_word tag_field (omega arith) (λ e. omega arith), same_entries q t _ m) (facts a).tag;
-        badge = rw (state-behind write_badge_field (omega arith) ∙ beyond_skips write_badge_field (omega arith)) (facts a).badge;
-        kept = kept_in t _ (moves-numbers q t _ m) q last-kept;
-        link = λ j h. none-pending rest q j h (kinds a j h) b;
-        received = last_received;
-      }))))

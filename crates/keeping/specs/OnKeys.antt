@@ -22,52 +22,52 @@ use Rattle.keeping.specs.Rows.{put, Put, put_all, last_put}
 use Rattle.keeping.specs.Asked.{Asked, asked-keys}
 use Rattle.keeping.specs.Rounds.{sent-client, sent_others, sent-length}
 use Rattle.keeping.specs.Gets.{gets-sent}
-use Rattle.keeping.specs.Replied.{Moving, going-moves, going-kept}
+use Rattle.keeping.specs.Replied.{Moving, going-moves}
 use Rattle.keeping.specs.Came.{Came, facts, asks, used, busy, elsewhere, rest_long, received-zero, none_beside}
 
 module _ (q i : ℕ) (t : Tables) (a : Came q i t) (state : state_of t q ≡ asking_keys) where
-  abbrev w : Contents
+  abbrev pub w : Contents
   w = contents_on t q i
 
   abbrev number : ℕ
   number = number_on t q i
 
-  abbrev rest : List ℕ
+  abbrev pub rest : List ℕ
   rest = emptied q i t
 
-  abbrev last_known : ℕ
+  abbrev pub last_known : ℕ
   last_known = number - 1
 
   abbrev puts_keys : List Put
   puts_keys = put tag_field last_known ∷ put state_field asking_setpoints ∷ []
 
   -- the row as the words put, the tags and the keys kept leave it
-  abbrev row : List ℕ
+  abbrev pub row : List ℕ
   row = kept_asking q (mask_of t q) t.log last_known (servers_of t) (put_all puts_keys q t.clients)
 
   abbrev get : ℕ → Content
   get j = request (latest_key t.log j last_known) 0
 
-  abbrev gets : List ℕ
+  abbrev pub gets : List ℕ
   gets = sent_gets q (mask_of t q) t.log last_known (servers_of t) rest
 
-  known-within : last_known < entries_of t
+  pub known-within : last_known < entries_of t
   known-within =
       let f = keys-told t i number (rw state at ((asks a).reply a.kind)) in
       let all = holding-log t i (keys-target (mask_of t q) i (rw state at (used a))) in
       omega (arith, f.least, f.most)
 
-  rest_room : HasLinks rest q
+  pub rest_room : HasLinks rest q
   rest_room = rw (rest_long a) (client-links t a.sound q a.client)
 
   few : servers_of t ≤ targets
   few = omega (arith, few_servers t a.sound)
 
-  row-asked : Asked q puts_keys t row
+  pub row-asked : Asked q puts_keys t row
   row-asked =
       asked-keys q puts_keys t a.sound a.client refl refl (mask_of t q) last_known known-within refl
 
-  keys_moving : Moving q row gets t
+  pub keys_moving : Moving q row gets t
   keys_moving =
       record {
         row = row-asked.elsewhere;
@@ -76,21 +76,5 @@ module _ (q i : ℕ) (t : Tables) (a : Came q i t) (state : state_of t q ≡ ask
         links = sent-length q (servers_of t) (has_server (mask_of t q)) get rest few rest_room ∙ rest_long a;
       }
 
-  keys-word : (g : ℕ) → g < setpoints_field → client_word row q g ≡ last_put puts_keys (client_word t.clients q g) g
+  pub keys-word : (g : ℕ) → g < setpoints_field → client_word row q g ≡ last_put puts_keys (client_word t.clients q g) g
   keys-word = row-asked.word
-
-  pub keys-delivered : Kept q t (on_keys w q i t).tables
-  unfolding on_keys
-  keys-delivered =
-      let after = (on_keys w q i t).tables in
-      let m = going-moves q row gets t a.sound a.client a.early keys_moving in
-      let n = moves-numbers q t after m in
-      going-kept q row gets t a.sound a.client a.early keys_moving (rw (keys-word state_field (omega arith), state)) (rw (keys-word state_field (omega arith), state)) (keys-word count_field (omega arith)) (keys-word record_field (omega arith))
-      (sent-client after q
-      (gets-sent q (mask_of t q) last_known rest t after a.sound n a.client known-within (busy a (λ e. omega (arith, state))) (none_beside a (λ j. rw state (uses-keys (mask_of t q) j))) rest_room refl (keys-word state_field (omega arith)) (keys-word mask_field (omega arith))
-      (allowed_setpoints (method_of t) q (rw state at (facts a).allowed))
-      (rw (keys-word count_field (omega arith)) (facts a).count.most)
-      (rw (keys-word tag_field (omega arith), same_entries q t after m) known-within)
-      (rw row-asked.badge (facts a).badge)
-      (kept_in t after n q row-asked.kept)
-      (λ j h. row-asked.beyond (received_field + j) (omega arith) (omega arith) ∙ received-zero a (λ e. omega (arith, state)) j h)))

@@ -190,7 +190,7 @@ module _ (m k p : ℕ) (setpoints : List ℕ) (t : Tables) (press : Press m k p)
         received = λ i h. o.word q (received_field + i);
       })
 
-  opened_facts : Sound t
+  pub opened_facts : Sound t
   opened_facts =
       record {
         long = rw (o.servers, o.clients) o.long;
@@ -212,8 +212,3 @@ module _ (m k p : ℕ) (setpoints : List ℕ) (t : Tables) (press : Press m k p)
           read = rw (o.word q state_field, o.reads) (facts-none t.reads 0 q _ (count-zero (is_open t.reads q)));
         };
       }
-
--- "Open" on tables that are long enough, accepted, leaves sound tables.
-pub opened-sound : (m k p : ℕ) (setpoints : List ℕ) (t : Tables) → Openable m k p setpoints t → Sound (opened m k p setpoints t)
-opened-sound m k p setpoints t a =
-    opened_facts m k p setpoints (opened m k p setpoints t) a.press (opened-words m k p setpoints t a)

@@ -29,7 +29,7 @@ words end xs = map (λ x. x.end) xs
 
 -- ---- the parts by number
 
-abbrev place_of : Part → ℕ
+abbrev pub place_of : Part → ℕ
 place_of count = 0
 place_of kind = 1
 place_of tag = 2
@@ -38,10 +38,10 @@ place_of mask = 4
 place_of begin = 5
 place_of end = 6
 
-abbrev parts : List Part
+abbrev pub parts : List Part
 parts = count ∷ kind ∷ tag ∷ client ∷ mask ∷ begin ∷ end ∷ []
 
-in_place : InPlace place_of parts
+pub in_place : InPlace place_of parts
 in_place test count = refl
 in_place test kind = refl
 in_place test tag = refl
@@ -93,15 +93,6 @@ module _ (listing : Tables → List Line) (machine : Machine Step) (method : ℕ
     abbrev pub Computed : Type 0
     Computed = decided.Computed place_of parts (verdict lines rowed) broken
 
-  agreed : SameOrder listing machine → Accepted machine method → lines ≡ rowed
+  pub agreed : SameOrder listing machine → Accepted machine method → lines ≡ rowed
   unfolding lines rowed
   agreed d e = d (opens method) zeros method 2 2 first e steps
-
-  pub differs : (part : Part) (more : List Part) → Accepted machine method → Computed (part ∷ more) → Differs (part ∷ more)
-  differs part more e c =
-      let stated = all_stated place_of parts in_place Agree (λ p. same (words p lines) (words p rowed)) (part ∷ more) c in
-      record {
-        accepted = e;
-        stated = stated;
-        refuted = λ d. first-broken place_of parts Agree part more (stated part) (ap (words part) (agreed d e));
-      }

@@ -7,7 +7,7 @@ use Rattle.rules.specs.declared.Answer.{Answer}
 use Rattle.rules.specs.declared.Answer.TheVariants.{Ok}
 use Rattle.soundness.specs.Facts.{Sound}
 use Rattle.soundness.specs.Room.{few_servers}
-use Rattle.keeping.specs.Steps.{open-sound}
+use Rattle.keeping.proofs.Steps.{open-sound}
 use Rattle.schedule.specs.declared.Step.TheVariants.{Open}
 use Rattle.schedule.specs.Lines.{lines_of}
 use Rattle.schedule.specs.Steps.{Named, step_text}

@@ -19,7 +19,8 @@ use Rattle.schedule.specs.declared.Step.TheVariants.{Unreadable, Open, BeginWrit
 use Rattle.schedule.specs.Decimal.{decimal, spaced_all}
 use Rattle.schedule.specs.DecimalLaws.{word_short, two_short}
 use Rattle.schedule.specs.Steps.{line_most, Named, alone, line_numbers, step_text}
-use Rattle.schedule.specs.ReadBack.{AllFit, FitsLine, AllShort, spaced_short, step_back}
+use Rattle.schedule.specs.ReadBack.{AllFit, FitsLine, AllShort, spaced_short}
+use Rattle.schedule.proofs.ReadBack.{step_back}
 use Rattle.playing.specs.Played.{played, played_line}
 use Rattle.workload.specs.declared.LoadStep.{LoadStep}
 use Rattle.workload.specs.declared.Next.TheVariants.{Refused, End, Given}

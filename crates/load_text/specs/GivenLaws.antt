@@ -15,7 +15,7 @@ use Rattle.refusals.specs.Refusals.{is_retired, press_opens, open_refusal}
 use Rattle.refusals.specs.Steps.{open'}
 use Rattle.refusals.specs.Either.{unstopped}
 use Rattle.keeping.specs.Accepted.{openable}
-use Rattle.keeping.specs.Steps.{open-sound}
+use Rattle.keeping.proofs.Steps.{open-sound}
 use Rattle.load_text.specs.declared.Wanted.{Wanted}
 use Rattle.load_text.specs.declared.Asked.TheVariants.{Load}
 use Rattle.load_text.specs.declared.Giving.{Giving}

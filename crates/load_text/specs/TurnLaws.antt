@@ -7,7 +7,7 @@ use Rattle.tables.specs.Tables.{Tables, servers_of}
 use Rattle.rules.specs.declared.Answer.{Answer}
 use Rattle.rules.specs.declared.Answer.TheVariants.{Ok, Refused}
 use Rattle.soundness.specs.Facts.{Sound}
-use Rattle.keeping.specs.Steps.{open-sound}
+use Rattle.keeping.proofs.Steps.{open-sound}
 use Rattle.workload.specs.declared.Next.{Next}
 use Rattle.workload.specs.declared.Next.TheVariants as next
 use Rattle.workload.specs.Load.{next_step}

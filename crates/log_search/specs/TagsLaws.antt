@@ -16,7 +16,8 @@ use Rattle.keys.specs.Masks.{has_server}
 use Rattle.keys.specs.Bits.{without, and_bit, without_bit, no_bit}
 use Rattle.tables.specs.Layout.{entry_mask}
 use Rattle.coordinator.specs.Latest.{wrote, latest_tag, latest_tag_at}
-use Rattle.coordinator.specs.LatestLaws.{latest-first, latest-here, latest-before}
+use Rattle.coordinator.specs.LatestLaws.{latest-here, latest-before}
+use Rattle.coordinator.proofs.LatestLaws.{latest-first}
 use Rattle.log_search.specs.Tags.{wrote_any, latest_of_any}
 
 -- numbers that fail are passed over

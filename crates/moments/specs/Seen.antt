@@ -7,7 +7,7 @@ use Rattle.tables.specs.Tables.{Tables, step_of}
 use Rattle.soundness.specs.Facts.{Sound}
 use Rattle.moments.specs.Claim.{at_work}
 use Rattle.moments.specs.During.{during, not_yet, during_now, during-ended}
-use Rattle.moments.specs.Sorts.{Sort, work_now, work_beyond}
+use Rattle.moments.specs.Sorts.{Sort}
 
 module _ (sort : Sort) where
   abbrev pub begin_in : Tables → ℕ → ℕ
@@ -37,14 +37,6 @@ module _ (sort : Sort) where
     pub early : step_of u ≤ step_of t
     pub known : (n : ℕ) → n < sort.begun t → at_work sort.kind u n ≡ during (begin_in t n) (end_in t n) (step_of u)
     pub beyond : (n : ℕ) → sort.begun t ≤ n → at_work sort.kind u n ≡ false
-
-  -- a moment by its own records
-  pub seen_now : (t : Tables) → Sound t → Timed t → Seen t t
-  seen_now t s k = record {
-    early = omega arith;
-    known = λ n l. work_now sort t s n l ∙ sym (during_now (begin_in t n) (end_in t n) (step_of t) (k.begun n l) (k.most n l));
-    beyond = work_beyond sort t s;
-  }
 
   module _ (t t' : Tables) (g : Grew t t') (next : step_of t' ≡ step_of t + 1) where
     -- whether a record was there before

@@ -57,7 +57,7 @@ open-end records q n e = eqb-true _ _ (both_right (eqb (record_word records n cl
     (eqb (record_word records n end_of_record) 0) e)
 
 module _ (sort : Sort) (t : Tables) (s : Sound t) where
-  abbrev end : ℕ → ℕ
+  abbrev pub end : ℕ → ℕ
   end n = record_word (sort.records t) n end_of_record
 
   -- the client that is at it
@@ -84,13 +84,3 @@ module _ (sort : Sort) (t : Tables) (s : Sound t) where
       any_at (λ q. sort.kind (state_of t q) && eqb (record_of t q) n) (clients_of t) q lq (both _ _ k (eq-eqb _ _ here)))
       (λ k. let none = none_facts (sort.records t) (sort.begun t) q (record_of t q) (rw k at (sort.opens t s q lq)) in
       let y : ⊥ = omega (arith, none, sum-part (λ j. one (is_open (sort.records t) q j)) (sort.begun t) n l, one-true mine) in absurd y)
-
-  -- so at its own moment it is in progress exactly where it has no end
-  pub work_now : (n : ℕ) → n < sort.begun t → at_work sort.kind t n ≡ eqb (end n) 0
-  work_now n l =
-      by_equal (end n) 0
-      (λ z. open_works n l z ∙ sym (eq-eqb _ _ z))
-      (λ z. by-test (at_work sort.kind t n) (λ e. absurd (z (work_facts n e).1)) (λ e. e ∙ sym (ne_eqb _ _ z)))
-
-  pub work_beyond : (n : ℕ) → sort.begun t ≤ n → at_work sort.kind t n ≡ false
-  work_beyond n l = by-test (at_work sort.kind t n) (λ e. let z : ⊥ = omega (arith, (work_facts n e).0) in absurd z) (λ e. e)

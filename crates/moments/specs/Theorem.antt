@@ -15,7 +15,8 @@ use Rattle.refusals.specs.Steps.{badge_of, open', begin_write, begin_read, deliv
 use Rattle.refusals.specs.Either.{by_refusal, by_refusal-arrived}
 use Rattle.soundness.specs.Facts.{Sound}
 use Rattle.keeping.specs.Accepted.{Openable, writable, readable, as-formerly, deliverable, target_below}
-use Rattle.keeping.specs.Opening.{opened-words, opened-sound}
+use Rattle.keeping.specs.Opening.{opened-words}
+use Rattle.keeping.proofs.Opening.{opened-sound}
 use Rattle.claim.specs.Steps.{Step, opening, beginning-write, beginning-read, request, reply, losing, resending, Event, play}
 use Rattle.claim.specs.Steps.{begun-write, begun-read, requested, replied, lost, resent}
 use Rattle.claim.specs.Steps as event
@@ -27,9 +28,9 @@ use Rattle.serial.proofs.Theorem.{play_fair, mixed_fair}
 use Rattle.moments.specs.Claim.{ByMoments}
 use Rattle.moments.specs.Growth.{stays, moves}
 use Rattle.moments.specs.StepLaws.{write_moves, read-moves, requested-steps, replied-steps, lost-steps, resent-steps}
-use Rattle.moments.specs.Machines.{Started, Goes, Recording, overlap_by_moments}
+use Rattle.moments.specs.Machines.{Started, Goes, Recording}
 
-opened_starts : (method k p : ℕ) (setpoints : List ℕ) (t : Tables) → Openable method k p setpoints t →
+pub opened_starts : (method k p : ℕ) (setpoints : List ℕ) (t : Tables) → Openable method k p setpoints t →
     Started (opened_with method setpoints) (opened method k p setpoints t)
 opened_starts method k p setpoints t o =
     let words = opened-words method k p setpoints t o in
@@ -39,7 +40,7 @@ module _ (t : Tables) (s : Sound t) where
   abbrev Leaving : (Answer → Event) → Left → Type 0
   Leaving event x = Goes (event x.answer) t x.tables
 
-  step_goes : (step : Step) → Goes (play step t).event t (play step t).tables
+  pub step_goes : (step : Step) → Goes (play step t).event t (play step t).tables
   unfolding open' begin_write begin_read deliver_request deliver_reply lose resend
   step_goes (opening method k p setpoints) =
       by_refusal (Leaving (event.opened method k p setpoints)) (open_refusal method k p setpoints t)
@@ -67,13 +68,6 @@ module _ (t : Tables) (s : Sound t) where
   step_goes (resending q i) =
       by_refusal (Leaving (resent q i)) (delivery_refusal q i t) (link_resent q i t) t (λ m e. stays refl) (λ e. resent-steps t s q i)
 
-pub play_records : Recording play
-play_records = record { starts = play_starts Started opened_starts; sound = play_fair.sound; goes = λ step t s. step_goes t s step }
-
--- The overlap is by moments.
-pub theorem : ByMoments play
-theorem = overlap_by_moments play play_records
-
 -- and so it is where openings and begins go by the former rules
 pub mixed_records : Recording mixed
 mixed_records = record {
@@ -89,6 +83,3 @@ mixed_records = record {
       })
       step;
 }
-
-pub former : ByMoments mixed
-former = overlap_by_moments mixed mixed_records

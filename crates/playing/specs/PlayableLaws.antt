@@ -14,9 +14,9 @@ use Rattle.soundness.specs.Facts.{Sound, sound_facts}
 use Rattle.refusals.specs.Refusals.{open_refusal, write_refusal, read_refusal, delivery_refusal}
 use Rattle.refusals.specs.Steps.{unless, open', begin_write, begin_read, deliver_request, deliver_reply, lose, resend}
 use Rattle.keeping.specs.Accepted.{openable}
-use Rattle.keeping.specs.Opening.{opened-sound}
-use Rattle.keeping.specs.Steps.{open_keeps, begin_write-sound, begin_read-sound, deliver_request-sound, deliver_reply-sound}
-use Rattle.keeping.specs.Steps.{lose-sound, resend-sound}
+use Rattle.keeping.proofs.Opening.{opened-sound}
+use Rattle.keeping.proofs.Steps.{open_keeps, begin_write-sound, begin_read-sound, deliver_request-sound, deliver_reply-sound}
+use Rattle.keeping.proofs.Steps.{lose-sound, resend-sound}
 use Rattle.ranges.specs.Tests.{by-test}
 use Rattle.schedule.specs.declared.Step.{Step}
 use Rattle.schedule.specs.declared.Step.TheVariants.{Unreadable, Open, BeginWrite, BeginRead, Request, Reply, Lose, Resend}

@@ -9,7 +9,7 @@ use Rattle.recordings.specs.Recording.{frames_of, most_frames, well_made, is_on}
 use Rattle.recordings.specs.Comparing.{frames_on, compared}
 use Rattle.recordings.specs.Claim.{Right, Claim}
 use Rattle.recordings.specs.Whole.{well-made-least}
-use Rattle.recordings.specs.ClaimLaws.{claim}
+use Rattle.recordings.proofs.ClaimLaws.{claim}
 use Rattle.recording_exports.specs.Numbers.{compared_number}
 
 -- what an answer has: a target below 256, a place below 65,536, a refusal that is a number below 256 and not 0

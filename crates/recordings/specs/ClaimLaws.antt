@@ -23,11 +23,11 @@ unfolding further
 further_nowhere Nowhere e = refl
 further_nowhere (At m) e = let z : ◌≡◌ {A = ℕ} 0 1 = cc in let y : ⊥ = omega arith in absurd y
 
-nowhere-not_at : {C : Type 0} (n : ℕ) → Nowhere ≡ At n → C
+pub nowhere-not_at : {C : Type 0} (n : ℕ) → Nowhere ≡ At n → C
 nowhere-not_at n e = let z : ◌≡◌ {A = ℕ} 0 1 = cc in let y : ⊥ = omega arith in absurd y
 
 -- there is none exactly where they are equal
-nowhere-equal : (xs ys : List (List ℕ)) → first_difference xs ys ≡ Nowhere → xs ≡ ys
+pub nowhere-equal : (xs ys : List (List ℕ)) → first_difference xs ys ≡ Nowhere → xs ≡ ys
 unfolding first_difference
 nowhere-equal [] [] e = refl
 nowhere-equal [] (y ∷ ys) e = nowhere-not_at 0 (sym e)
@@ -94,7 +94,7 @@ at_first (x ∷ xs) (y ∷ ys) n e =
     }))
 
 -- there is one first only, and none of equal rows
-first_one : (xs ys : List (List ℕ)) (n m : ℕ) → First xs ys n → First xs ys m → n ≡ m
+pub first_one : (xs ys : List (List ℕ)) (n m : ℕ) → First xs ys n → First xs ys m → n ≡ m
 first_one xs ys n m f g =
     by-test (ltb n m)
     (λ b. absurd (f.differs (g.before n (ltb-true n m b))))
@@ -102,7 +102,7 @@ first_one xs ys n m f g =
     (λ d. absurd (g.differs (f.before m (ltb-true m n d))))
     (λ d. omega (arith, ltb-false n m b, ltb-false m n d)))
 
-first_unequal : (xs ys : List (List ℕ)) (n : ℕ) → First xs ys n → xs ≡ ys → ⊥
+pub first_unequal : (xs ys : List (List ℕ)) (n : ℕ) → First xs ys n → xs ≡ ys → ⊥
 first_unequal xs ys n f e =
     let l : length xs ≡ length ys = ap (λ (r : List (List ℕ)). length r) e in
     by-test (ltb n (length xs))
@@ -111,7 +111,7 @@ first_unequal xs ys n f e =
     f.differs (record { there = h; there_too = omega arith; equal = ap (λ (r : List (List ℕ)). get_or r n []) e }))
     (λ b. let h = ltb-false n (length xs) b in f.some h (omega arith))
 
-difference-swapped : (xs ys : List (List ℕ)) → first_difference xs ys ≡ first_difference ys xs
+pub difference-swapped : (xs ys : List (List ℕ)) → first_difference xs ys ≡ first_difference ys xs
 unfolding first_difference
 difference-swapped [] [] = refl
 difference-swapped [] (y ∷ ys) = refl
@@ -126,7 +126,7 @@ module _ (xs ys : List (List ℕ)) where
   difference_at link = difference_on (client_at link) (target_at link) xs ys
 
   -- what the n links from one on give
-  data View (n link : ℕ) : Type 0 where
+  pub data View (n link : ℕ) : Type 0 where
     none : ((l : ℕ) → link ≤ l → l < link + n → difference_on (client_at l) (target_at l) xs ys ≡ Nowhere)
         → from_link xs ys n link ≡ Agree → View n link
     some : (l p : ℕ) → link ≤ l → l < link + n
@@ -146,7 +146,7 @@ module _ (xs ys : List (List ℕ)) where
   view_by n link Nowhere e v = view-next n link e v
   view_by n link (At p) e v = some link p (omega arith) (omega arith) (λ m i j. let z : ⊥ = omega arith in absurd z) e (rw e)
 
-  view : (n link : ℕ) → View n link
+  pub view : (n link : ℕ) → View n link
   unfolding from_link
   view zero link = none (λ l g h. let z : ⊥ = omega arith in absurd z) refl
   view (suc n) link = view_by n link (difference_on (client_at link) (target_at link) xs ys) refl (view n (suc link))
@@ -159,45 +159,24 @@ module _ (xs ys : List (List ℕ)) where
     number-below : 17 * c + t < links
     number-below = omega arith
 
-    client_is : client_at (17 * c + t) ≡ c
+    pub client_is : client_at (17 * c + t) ≡ c
     client_is = omega arith
 
-    target_is : target_at (17 * c + t) ≡ t
+    pub target_is : target_at (17 * c + t) ≡ t
     target_is = omega arith
-
-    difference_is : difference_on (client_at (17 * c + t)) (target_at (17 * c + t)) xs ys ≡ difference_on c t xs ys
-    difference_is = ap₂ (λ (a b : ℕ). difference_on a b xs ys) client_is target_is
-
-    link-equal : difference_on (client_at (17 * c + t)) (target_at (17 * c + t)) xs ys ≡ Nowhere → frames_on c t xs ≡ frames_on c t ys
-    unfolding difference_on
-    link-equal e = nowhere-equal (frames_on c t xs) (frames_on c t ys) (sym difference_is ∙ e)
 
   link_nowhere : (c t : ℕ) → frames_on c t xs ≡ frames_on c t ys → difference_on c t xs ys ≡ Nowhere
   unfolding difference_on
   link_nowhere c t e = equal_nowhere (frames_on c t xs) (frames_on c t ys) e
 
-  link-first : (c t n : ℕ) → difference_on c t xs ys ≡ At n → First (frames_on c t xs) (frames_on c t ys) n
+  pub link-first : (c t n : ℕ) → difference_on c t xs ys ≡ At n → First (frames_on c t xs) (frames_on c t ys) n
   unfolding difference_on
   link-first c t n e = at_first (frames_on c t xs) (frames_on c t ys) n e
-
-  -- a link with a difference, and none before it, is named
-  named_at : (l p : ℕ) → l < links
-      → ((m : ℕ) → m < l → difference_on (client_at m) (target_at m) xs ys ≡ Nowhere)
-      → difference_on (client_at l) (target_at l) xs ys ≡ At p
-      → Named xs ys (client_at l) (target_at l) p
-  named_at l p h f e =
-      record {
-        client_there = omega arith;
-        target_there = omega arith;
-        lower_clients = λ c t i j. link-equal c t (omega arith) j (f (17 * c + t) (omega arith));
-        lower-targets = λ t i. link-equal (client_at l) t (omega arith) (omega arith) (f (17 * client_at l + t) (omega arith));
-        first = link-first (client_at l) (target_at l) p e;
-      }
 
   -- and what is named is that link
   module _ (c t n : ℕ) (w : Named xs ys c t n) where
     -- no lower one has a difference
-    lower : (l : ℕ) → l < 17 * c + t → difference_on (client_at l) (target_at l) xs ys ≡ Nowhere
+    pub lower : (l : ℕ) → l < 17 * c + t → difference_on (client_at l) (target_at l) xs ys ≡ Nowhere
     lower l h =
         link_nowhere (client_at l) (target_at l)
         (by-test (ltb (client_at l) c)
@@ -208,27 +187,6 @@ module _ (xs ys : List (List ℕ)) where
         let q : client_at l ≡ c = omega arith in
         rw q (w.lower-targets (target_at l) (omega arith))))
 
-    one_there : (l p : ℕ) → ((m : ℕ) → m < l → difference_on (client_at m) (target_at m) xs ys ≡ Nowhere)
-        → difference_on (client_at l) (target_at l) xs ys ≡ At p
-        → Differ (client_at l) (target_at l) p ≡ Differ c t n
-    one_there l p f e =
-        let i = w.client_there in
-        let j = w.target_there in
-        by-test (ltb l (17 * c + t))
-        (λ b. nowhere-not_at p (sym (lower l (ltb-true _ _ b)) ∙ e))
-        (λ b. by-test (ltb (17 * c + t) l)
-        (λ d. absurd (first_unequal _ _ n w.first (link-equal c t i j (f (17 * c + t) (ltb-true _ _ d)))))
-        (λ d.
-        let g = ltb-false l (17 * c + t) b in
-        let h = ltb-false (17 * c + t) l d in
-        let qc : client_at l ≡ c = omega arith in
-        let qt : target_at l ≡ t = omega arith in
-        let first = link-first c t p (ap₂ (λ (a b : ℕ). difference_on a b xs ys) (sym qc) (sym qt) ∙ e) in
-        let qp : p ≡ n = first_one _ _ p n first w.first in
-        λ k. Differ (qc k) (qt k) (qp k)))
-
-  -- ---- what the links of two recordings give
-
   pub links_agree : Agreeing xs ys → from_link xs ys links 0 ≡ Agree
   links_agree a = go (view links 0)
     where
@@ -236,44 +194,6 @@ module _ (xs ys : List (List ℕ)) where
       go (none f d) = d
       go (some l p g h f e d) =
           nowhere-not_at p (sym (link_nowhere (client_at l) (target_at l) (a (client_at l) (target_at l) (omega arith) (omega arith))) ∙ e)
-
-  pub links_agree_only : from_link xs ys links 0 ≡ Agree → Agreeing xs ys
-  links_agree_only a = go (view links 0)
-    where
-      go : View links 0 → Agreeing xs ys
-      go (none f d) c t h k = link-equal c t h k (f (17 * c + t) (omega arith) (omega arith))
-      go (some l p g h f e d) c t i k =
-          let z : Differ (client_at l) (target_at l) p ≡ Agree = sym d ∙ a in
-          let y : ◌≡◌ {A = ℕ} 0 1 = cc in
-          let x : ⊥ = omega arith in
-          absurd x
-
-  pub links_differ : (c t n : ℕ) → Named xs ys c t n → from_link xs ys links 0 ≡ Differ c t n
-  links_differ c t n w = go (view links 0)
-    where
-      go : View links 0 → from_link xs ys links 0 ≡ Differ c t n
-      go (none f d) =
-          let i = w.client_there in
-          let j = w.target_there in
-          absurd (first_unequal _ _ n w.first (link-equal c t i j (f (17 * c + t) (omega arith) (omega arith))))
-      go (some l p g h f e d) = d ∙ one_there c t n w l p (λ m k. f m (omega arith) k) e
-
-  pub links_differ_only : (c t n : ℕ) → from_link xs ys links 0 ≡ Differ c t n → Named xs ys c t n
-  links_differ_only c t n a = go (view links 0)
-    where
-      go : View links 0 → Named xs ys c t n
-      go (none f d) =
-          let z : Agree ≡ Differ c t n = sym d ∙ a in
-          let y : ◌≡◌ {A = ℕ} 0 1 = cc in
-          let x : ⊥ = omega arith in
-          absurd x
-      go (some l p g h f e d) =
-          let z : Differ (client_at l) (target_at l) p ≡ Differ c t n = sym d ∙ a in
-          let qc : client_at l ≡ c = cc in
-          let qt : target_at l ≡ t = cc in
-          let qp : p ≡ n = cc in
-          let w : Named xs ys (client_at l) (target_at l) p = named_at l p (omega arith) (λ m k. f m (omega arith) k) e in
-          rw (qc, qt, qp) at w
 
   pub links-not-refused : {C : Type 0} (n : ℕ) → from_link xs ys links 0 ≡ Refused n → C
   links-not-refused {C} n a = go (view links 0)
@@ -290,17 +210,7 @@ module _ (xs ys : List (List ℕ)) where
           let x : ⊥ = omega arith in
           absurd x
 
-links-swapped : (xs ys : List (List ℕ)) (n link : ℕ) → from_link xs ys n link ≡ from_link ys xs n link
-unfolding from_link difference_on
-links-swapped xs ys zero link = refl
-links-swapped xs ys (suc n) link =
-    ap₂ (or_else link)
-    (difference-swapped (frames_on (client_at link) (target_at link) xs) (frames_on (client_at link) (target_at link) ys))
-    (links-swapped xs ys n (suc link))
-
--- ---- the claim
-
-both-swapped : (a b : Bool) → (a && b) ≡ (b && a)
+pub both-swapped : (a b : Bool) → (a && b) ≡ (b && a)
 both-swapped true true = refl
 both-swapped true false = refl
 both-swapped false true = refl
@@ -310,50 +220,17 @@ module _ (lengths bytes lengths' bytes' : List ℕ) where
   abbrev fine : Bool
   fine = well_made lengths bytes && well_made lengths' bytes'
 
-  well : (well_made lengths bytes && well_made lengths' bytes') ≡ true
+  pub well : (well_made lengths bytes && well_made lengths' bytes') ≡ true
       → compared lengths bytes lengths' bytes' ≡ from_link (frames_of lengths bytes) (frames_of lengths' bytes') links 0
   unfolding compared
   well e = rw e
 
-  ill : (well_made lengths bytes && well_made lengths' bytes') ≡ false → compared lengths bytes lengths' bytes' ≡ Refused 16
+  pub ill : (well_made lengths bytes && well_made lengths' bytes') ≡ false → compared lengths bytes lengths' bytes' ≡ Refused 16
   unfolding compared
   ill e = rw e
 
   -- an answer that is no refusal is of recordings that are well made
-  is_well : (a : Compared) → (a ≡ Refused 16 → ⊥) → compared lengths bytes lengths' bytes' ≡ a
+  pub is_well : (a : Compared) → (a ≡ Refused 16 → ⊥) → compared lengths bytes lengths' bytes' ≡ a
       → (well_made lengths bytes && well_made lengths' bytes') ≡ true
   is_well a d e =
       by-test (well_made lengths bytes && well_made lengths' bytes') (λ t. t) (λ t. absurd (d (sym e ∙ ill t)))
-
-  is_right : Right compared lengths bytes lengths' bytes'
-  is_right =
-      let xs = frames_of lengths bytes in
-      let ys = frames_of lengths' bytes' in
-      record {
-        refused = ill;
-        refused_only =
-            λ n e.
-            by-test (well_made lengths bytes && well_made lengths' bytes')
-            (λ t. links-not-refused xs ys n (sym (well t) ∙ e))
-            (λ t. let z : Refused 16 ≡ Refused n = sym (ill t) ∙ e in let q : n ≡ 16 = cc in (q, t));
-        agree = λ t a. well t ∙ links_agree xs ys a;
-        agree_only =
-            λ e.
-            let t = is_well Agree (λ z. let y : ◌≡◌ {A = ℕ} 0 1 = cc in omega arith) e in
-            (t, links_agree_only xs ys (sym (well t) ∙ e));
-        differ = λ c i n t w. well t ∙ links_differ xs ys c i n w;
-        differ_only =
-            λ c i n e.
-            let t = is_well (Differ c i n) (λ z. let y : ◌≡◌ {A = ℕ} 0 1 = cc in omega arith) e in
-            (t, links_differ_only xs ys c i n (sym (well t) ∙ e));
-      }
-
-  is-swapped : compared lengths bytes lengths' bytes' ≡ compared lengths' bytes' lengths bytes
-  unfolding compared
-  is-swapped =
-      ap₂ (λ (b : Bool) (a : Compared). cond b a (Refused 16))
-      (both-swapped (well_made lengths bytes) (well_made lengths' bytes'))
-      (links-swapped (frames_of lengths bytes) (frames_of lengths' bytes') links 0)
-
-pub claim : Claim compared
-claim = record { right = is_right; swapped = is-swapped }

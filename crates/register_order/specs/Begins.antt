@@ -20,8 +20,8 @@ use Rattle.soundness.specs.Room.{few_servers, client-row}
 use Rattle.rules.specs.declared.Answer.TheVariants.{Ok}
 use Rattle.keeping.specs.Accepted.{Writable, Readable}
 use Rattle.keeping.specs.Begins.{begun_other, begun_more, begun_step}
-use Rattle.keeping.specs.BeginWrite.{begun_write-kept}
-use Rattle.keeping.specs.BeginRead.{begun_read-kept}
+use Rattle.keeping.proofs.BeginWrite.{begun_write-kept}
+use Rattle.keeping.proofs.BeginRead.{begun_read-kept}
 use Rattle.keeping.specs.Rows.{Put, put, put_all, last_put, in_row, put-read}
 use Rattle.claim.specs.Steps.{begun-write, begun-read}
 use Rattle.refusals.specs.Steps.{badge_of}

@@ -8,7 +8,7 @@ use Rattle.rules.specs.Request.{refused}
 use Rattle.rules.specs.Loss.{on_loss, link_lost, sent_by, on_resend, link_resent}
 use Rattle.keeping.specs.Accepted.{Deliverable}
 use Rattle.keeping.specs.Frame.{Kept}
-use Rattle.keeping.specs.Losses.{link_lost-kept, link_resent-kept}
+use Rattle.keeping.proofs.Losses.{link_lost-kept, link_resent-kept}
 use Rattle.claim.specs.Steps.{lost, resent}
 use Rattle.claim.specs.History.{History}
 use Rattle.register_order.specs.Agreement.{Agrees}

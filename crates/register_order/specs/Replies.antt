@@ -29,7 +29,7 @@ use Rattle.keeping.specs.Links.{number_on, contents_on, at-reply, reply-kind, re
 use Rattle.keeping.specs.States.{by_state, entering-target, entered-tag, masked-server, uses_setpoints}
 use Rattle.keeping.specs.Moves.{counted_other, counted_step}
 use Rattle.keeping.specs.Came.{Came, asks, used}
-use Rattle.keeping.specs.Replies.{reply_delivered-kept}
+use Rattle.keeping.proofs.Replies.{reply_delivered-kept}
 use Rattle.claim.specs.Steps.{replied}
 use Rattle.claim.specs.History.{Doing, nothing, writing, tagged, reading, History, delivered, wrote, showed, marked}
 use Rattle.serial.proofs.Fair.{Standing}

@@ -25,7 +25,7 @@ use Rattle.keeping.specs.Frame.{Kept}
 use Rattle.keeping.specs.Links.{link-asks, request-kind}
 use Rattle.keeping.specs.States.{by_state, entering-target, masked-server, uses-writing}
 use Rattle.keeping.specs.Moves.{counted_other, counted_step, counted-length}
-use Rattle.keeping.specs.Requests.{request_delivered-kept}
+use Rattle.keeping.proofs.Requests.{request_delivered-kept}
 use Rattle.claim.specs.Steps.{requested}
 use Rattle.claim.specs.History.{Doing, nothing, writing, tagged, reading, History, given, at_coordinator}
 use Rattle.serial.proofs.Fair.{Standing}

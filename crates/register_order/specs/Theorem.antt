@@ -16,7 +16,8 @@ use Rattle.refusals.specs.Refusals.{open_refusal, write_refusal, read_refusal, d
 use Rattle.refusals.specs.Steps.{badge_of, open', begin_write, begin_read, deliver_request, deliver_reply, lose, resend}
 use Rattle.refusals.specs.Either.{by_refusal, by_refusal-arrived}
 use Rattle.keeping.specs.Accepted.{Openable, openable, writable, readable, as-formerly, deliverable}
-use Rattle.keeping.specs.Opening.{Opened, opened-words, opened-sound}
+use Rattle.keeping.specs.Opening.{Opened, opened-words}
+use Rattle.keeping.proofs.Opening.{opened-sound}
 use Rattle.listing.specs.Register.{is_finished, register}
 use Rattle.listing.specs.Places.{places-none}
 use Rattle.claim.specs.Steps.{Step, opening, beginning-write, beginning-read, request, reply, losing, resending, Event, begun-write}

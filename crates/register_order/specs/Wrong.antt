@@ -31,7 +31,8 @@ use Rattle.claim.specs.WrongStores.{first, entering_twice}
 use Rattle.claim.specs.Lists.{then_read_by_b, then_read_by_c, two_reads, reply_less, request_only, overtaken, lossy_by_b}
 use Rattle.claim.specs.Lists.{entered_again, entered_between}
 use Rattle.listed_order.specs.Parts as part
-use Rattle.listed_order.specs.Parts.{lines, rowed, Differs, Computed, differs}
+use Rattle.listed_order.specs.Parts.{lines, rowed, Differs, Computed}
+use Rattle.listed_order.proofs.Parts.{differs}
 use Rattle.listed_order.specs.Parts.{Part}
 use Rattle.register_order.specs.WrongListings.{by_end, by_begin_falling, reads_ahead, finished_only, untagged_too, unfinished_too}
 use Rattle.register_order.specs.WrongListings.{kinds_exchanged, writes_by_begin, misread, miswritten}

@@ -52,7 +52,7 @@ pub record Carrying {S : Type 0} (machine : Machine S) : Type 0 where
   pub carries : (step : S) (t : Tables) → Sound t → Carries t (machine step t)
 
 -- the row gives what the link was first sent, while it is not empty
-abbrev Given : Tables → ℕ → ℕ → Content → Type 0
+abbrev pub Given : Tables → ℕ → ℕ → Content → Type 0
 Given t q i sent = q < clients_of t → i < targets → is_empty (content_at t q i) ≡ false → sent_by q i t ≡ sent
 
 module _ (t : Tables) (q i : ℕ) (sent : Content) (g : Given t q i sent) where
@@ -62,7 +62,7 @@ module _ (t : Tables) (q i : ℕ) (sent : Content) (g : Given t q i sent) where
       x.now ∙ g x.client x.target x.full
   again (Refused n) t' p j s = tt
 
-  at_event : (e : Event) (t' : Tables) → SentAt e t t' → RepeatsAt e q i (content_at t' q i) sent
+  pub at_event : (e : Event) (t' : Tables) → SentAt e t t' → RepeatsAt e q i (content_at t' q i) sent
   at_event (opened method k p setpoints answer) t' s = tt
   at_event (begun-write p mask badge setpoints answer) t' s = tt
   at_event (begun-read p mask answer) t' s = tt
@@ -71,25 +71,9 @@ module _ (t : Tables) (q i : ℕ) (sent : Content) (g : Given t q i sent) where
   at_event (lost p j answer) t' s = tt
   at_event (resent p j answer) t' s = again answer t' p j s
 
-  given-after : (x : Played) → Carries t x → Given x.tables q i (sent_after (content_at t q i) (content_at x.tables q i) sent)
+  pub given-after : (x : Played) → Carries t x → Given x.tables q i (sent_after (content_at t q i) (content_at x.tables q i) sent)
   given-after x c l m full =
       let k = c.clients q i l m in
       by-test (is_empty (content_at t q i))
       (λ e. rw e (rw e at (k.1 full)))
       (λ e. rw e ((rw e at (k.1 full)) ∙ g (k.0 full) m e))
-
-module _ {S : Type 0} (machine : Machine S) (m : Carrying machine) where
-  repeats : (q i : ℕ) (steps : List S) (t : Tables) (sent : Content) → Sound t → Given t q i sent → Repeats q i t sent (run machine steps t)
-  repeats q i [] t sent s g = tt
-  repeats q i (step ∷ steps) t sent s g =
-      let x = machine step t in
-      let c = m.carries step t s in (
-        at_event t q i sent g x.event x.tables c.sent,
-        repeats q i steps x.tables (sent_after (content_at t q i) (content_at x.tables q i) sent) c.sound (given-after t q i sent g x c),
-      )
-
-  pub sends-again : SendsAgain machine
-  sends-again first t method k p setpoints e steps q i =
-      let start = (machine first t).tables in
-      let s : Started (opened_with method setpoints) start = subst (λ (x : Event). Starts Started x start) e (m.starts first t) in
-      repeats q i steps start Nothing s.sound (λ l n full. absurd (not-both (s.empty q i l n) full))

@@ -25,12 +25,13 @@ use Rattle.keeping.specs.Accepted.{Openable, openable, Writable, writable, Reada
 use Rattle.keeping.specs.Accepted.{target_below}
 use Rattle.keeping.specs.Links.{kind-empty}
 use Rattle.keeping.specs.Frame.{Kept, kept_same}
-use Rattle.keeping.specs.Opening.{opened-words, opened-sound}
-use Rattle.keeping.specs.BeginWrite.{begun_write-kept}
-use Rattle.keeping.specs.BeginRead.{begun_read-kept}
-use Rattle.keeping.specs.Requests.{request_delivered-kept}
-use Rattle.keeping.specs.Replies.{reply_delivered-kept}
-use Rattle.keeping.specs.Losses.{link_lost-kept, link_resent-kept}
+use Rattle.keeping.specs.Opening.{opened-words}
+use Rattle.keeping.proofs.Opening.{opened-sound}
+use Rattle.keeping.proofs.BeginWrite.{begun_write-kept}
+use Rattle.keeping.proofs.BeginRead.{begun_read-kept}
+use Rattle.keeping.proofs.Requests.{request_delivered-kept}
+use Rattle.keeping.proofs.Replies.{reply_delivered-kept}
+use Rattle.keeping.proofs.Losses.{link_lost-kept, link_resent-kept}
 use Rattle.claim.specs.Steps.{Step, opening, beginning-write, beginning-read, request, reply, losing, resending, Event, Played, play}
 use Rattle.claim.specs.Steps.{begun-write, begun-read, requested, replied, lost, resent}
 use Rattle.claim.specs.Steps as event
@@ -44,10 +45,10 @@ use Rattle.resending.specs.Still.{still-same, still-carries, requested_still, lo
 use Rattle.resending.specs.Begins.{write-carries, read-carries}
 use Rattle.resending.specs.Replies.{replied-carries}
 use Rattle.resending.specs.Others.{other-carries}
-use Rattle.resending.specs.Machines.{SentIf, SentAt, Carries, Started, Carrying, sends-again}
+use Rattle.resending.specs.Machines.{SentIf, SentAt, Carries, Started, Carrying}
 
 -- Behind an accepted opening all links are empty.
-opened_starts : (method k p : ℕ) (setpoints : List ℕ) (t : Tables) → Openable method k p setpoints t →
+pub opened_starts : (method k p : ℕ) (setpoints : List ℕ) (t : Tables) → Openable method k p setpoints t →
     Started (opened_with method setpoints) (opened method k p setpoints t)
 opened_starts method k p setpoints t o = record {
   sound = opened-sound method k p setpoints t o;
@@ -126,7 +127,7 @@ module _ (t : Tables) (s : Sound t) where
   read-begun-carries : (q mask : ℕ) → Readable q mask t → Leaving (begun-read q mask) (left Ok (formerly_begun_read q mask t))
   read-begun-carries q mask r = by-client q _ (begun_read-kept q mask t s r) (read-carries t s q mask r.begin) tt
 
-  step-carries : (step : Step) → Carries t (play step t)
+  pub step-carries : (step : Step) → Carries t (play step t)
   unfolding open' begin_write begin_read deliver_request deliver_reply lose resend
   step-carries (opening method k p setpoints) =
       by_refusal (Leaving (event.opened method k p setpoints)) (open_refusal method k p setpoints t) (left Ok (opened method k p setpoints t)) t
@@ -161,13 +162,6 @@ module _ (t : Tables) (s : Sound t) where
       (λ m e. refused-carries (resent q i (Refused m)) tt)
       (λ e. resent-carries q i (deliverable q i t e))
 
-pub play-carries : Carrying play
-play-carries = record { starts = play_starts Started opened_starts; carries = λ step t s. step-carries t s step }
-
--- What is sent again is what was first sent.
-pub theorem : SendsAgain play
-theorem = sends-again play play-carries
-
 -- and so it is where openings and begins go by the former rules
 pub mixed-carries : Carrying mixed
 mixed-carries = record {
@@ -182,6 +176,3 @@ mixed-carries = record {
       })
       step;
 }
-
-pub former : SendsAgain mixed
-former = sends-again mixed mixed-carries

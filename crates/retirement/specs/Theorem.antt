@@ -20,64 +20,16 @@ use Rattle.claim.specs.Steps.{Step, opening, beginning-write, beginning-read, re
 use Rattle.claim.specs.Steps.{begun-write, begun-read, requested, replied, lost, resent}
 use Rattle.claim.specs.Steps as event
 use Rattle.retirement.specs.Claim.{Unopened, Unbegun, NothingNew, Retired}
-use Rattle.retirement.specs.Unmoved.{Unmoved, unmoved-same, unmoved_then, requested-stays, lost-stays, resent-stays, replied-stays}
+use Rattle.retirement.specs.Unmoved.{Unmoved, unmoved-same, unmoved_then}
 
 -- a step that opens nothing: it begins nothing, and leaves what is counted
-abbrev Stays : Tables → Event → Tables → Type 0
+abbrev pub Stays : Tables → Event → Tables → Type 0
 Stays t e t' = Unopened e → Unbegun e × Unmoved t t'
 
 module _ (t : Tables) (method : method_of t ≡ 1) where
-  abbrev Leaving : (Answer → Event) → Left → Type 0
+  abbrev pub Leaving : (Answer → Event) → Left → Type 0
   Leaving event x = Stays t (event x.answer) x.tables
 
   -- no begin is accepted: its method would not be 1
-  retired : is_retired (method_of t) ≡ false → ⊥
+  pub retired : is_retired (method_of t) ≡ false → ⊥
   retired e = true≢false (sym (eq-eqb (method_of t) 1 method) ∙ e)
-
-  step_stays : (step : Step) → Stays t (play step t).event (play step t).tables
-  unfolding open' begin_write begin_read deliver_request deliver_reply lose resend
-  step_stays (opening m k p setpoints) =
-      by_refusal (Leaving (event.opened m k p setpoints)) (open_refusal m k p setpoints t) (left Ok (opened m k p setpoints t)) t
-      (λ n e u. (tt, unmoved-same t))
-      (λ e u. absurd u)
-  step_stays (beginning-write q mask badge setpoints) =
-      by_refusal (Leaving (begun-write q mask badge setpoints)) (write_refusal q mask setpoints t)
-      (left Ok (begun_write q mask (badge_of badge) setpoints t)) t
-      (λ n e u. (tt, unmoved-same t))
-      (λ e u. absurd (retired (write_current q mask setpoints t e)))
-  step_stays (beginning-read q mask) =
-      by_refusal (Leaving (begun-read q mask)) (read_refusal q mask t) (left Ok (begun_read q mask t)) t
-      (λ n e u. (tt, unmoved-same t))
-      (λ e u. absurd (retired (read_current q mask t e)))
-  step_stays (request q i) =
-      by_refusal (Leaving (requested q i)) (delivery_refusal q i t) (request_delivered q i t) t
-      (λ n e u. (tt, unmoved-same t))
-      (λ e u. (tt, requested-stays t q i))
-  step_stays (reply q i) =
-      by_refusal-arrived (λ x. Stays t (replied q i x.delivered) x.tables) (delivery_refusal q i t) (reply_delivered q i t) t
-      (λ n e u. (tt, unmoved-same t))
-      (λ e u. let s = delivery-sound q i t e in
-      (tt, replied-stays t (few_servers t s) q i (target_below t s i (deliverable q i t e).target)))
-  step_stays (losing q i) =
-      by_refusal (Leaving (lost q i)) (delivery_refusal q i t) (link_lost q i t) t
-      (λ n e u. (tt, unmoved-same t))
-      (λ e u. (tt, lost-stays t q i))
-  step_stays (resending q i) =
-      by_refusal (Leaving (resent q i)) (delivery_refusal q i t) (link_resent q i t) t
-      (λ n e u. (tt, unmoved-same t))
-      (λ e u. (tt, resent-stays t q i))
-
--- the one induction over lists of steps
-pub theorem : Retired play
-theorem t method [] u = record { unbegun = tt; writes = refl; reads = refl; counts = λ q. refl }
-theorem t method (step ∷ steps) u =
-    let x = play step t in
-    let here = step_stays t method step u.0 in
-    let m = here.1 in
-    let rest = theorem x.tables (m.method ∙ method) steps u.1 in
-    record {
-      unbegun = (here.0, rest.unbegun);
-      writes = rest.writes ∙ m.writes;
-      reads = rest.reads ∙ m.reads;
-      counts = λ q. rest.counts q ∙ m.counts q;
-    }

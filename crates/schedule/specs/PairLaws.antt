@@ -87,17 +87,10 @@ module _ (byte : ℕ) (h : may_have_setpoints byte ≡ false) where
   alone-pair (a ∷ b ∷ []) = pair-alone byte a b
   alone-pair (a ∷ b ∷ d ∷ more) = refl
 
-  names-bare : (read : Read) {r : Reading} (held : List ℕ) → r ≡ reading_of (named_by byte read)
+  pub names-bare : (read : Read) {r : Reading} (held : List ℕ) → r ≡ reading_of (named_by byte read)
       → Names (named_by byte read) held r held
   names-bare read held e =
       let none : (named_by byte read).setpoints ≡ [] =
       rw (named-pair byte h read.numbers)
       (either (λ (x : Named). x.setpoints ≡ []) read.whole (alone-pair read.numbers) refl) in
       record { reading = e; place = rw none }
-
--- a whole line of such a byte leaves the place for setpoints as it was
-pub line-pair : (line : List ℕ) (held : List ℕ) {r : Reading} → (length line ≡ 0 → ⊥) → length line ≤ line_most
-    → may_have_setpoints (get_or line 0 0) ≡ false
-    → r ≡ reading_of (named_by (get_or line 0 0) (numbers_of (take (length line - 1) (drop 1 line)))) → Names (step_of line) held r held
-line-pair line held h k s e =
-    line_names line h k (names-bare (get_or line 0 0) s (numbers_of (take (length line - 1) (drop 1 line))) held e)

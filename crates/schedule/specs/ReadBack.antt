@@ -116,7 +116,7 @@ pub record FitsLine (n : Named) : Type 0 where
   pub size : length (step_text n) ≤ line_most
   pub shape : Shaped n.step n.setpoints
 
-named_back : (step : Step) (setpoints : List ℕ) → Shaped step setpoints
+pub named_back : (step : Step) (setpoints : List ℕ) → Shaped step setpoints
     → named (line_byte step) (line_numbers step setpoints) ≡ record { step = step; setpoints = setpoints }
 named_back Unreadable setpoints h = absurd h
 named_back (Open method servers clients) setpoints h = refl
@@ -126,12 +126,6 @@ named_back (Request client target) setpoints h = rw h
 named_back (Reply client target) setpoints h = rw h
 named_back (Lose client target) setpoints h = rw h
 named_back (Resend client target) setpoints h = rw h
-
--- A step printed as a line is read back as that step.
-pub step_back : (n : Named) → FitsLine n → step_of (step_text n) ≡ n
-step_back n f =
-    step-read (line_byte n.step) (spaced_all (line_numbers n.step n.setpoints)) f.size
-    ∙ rw (numbers_back (line_numbers n.step n.setpoints) f.numbers) (named_back n.step n.setpoints f.shape)
 
 -- A printed step is one line, whatever stands behind its byte 10: no byte of its text is one.
 abbrev NoTen : List ℕ → Type 0
@@ -263,19 +257,19 @@ abbrev pub Told : List ℕ → Named → Type 0
 Told text n = (n ≡ unreadable) ⊎ (text ≡ step_text n)
 
 module _ (byte : ℕ) where
-  told_open : (l : List ℕ) → byte ≡ 79 → Told (byte ∷ spaced_all l) (named_open l)
+  pub told_open : (l : List ℕ) → byte ≡ 79 → Told (byte ∷ spaced_all l) (named_open l)
   told_open [] e = inl refl
   told_open (a ∷ []) e = inl refl
   told_open (a ∷ b ∷ []) e = inl refl
   told_open (a ∷ b ∷ c ∷ l) e = inr (rw e)
 
-  told-write : (l : List ℕ) → byte ≡ 87 → Told (byte ∷ spaced_all l) (named_write l)
+  pub told-write : (l : List ℕ) → byte ≡ 87 → Told (byte ∷ spaced_all l) (named_write l)
   told-write [] e = inl refl
   told-write (a ∷ []) e = inl refl
   told-write (a ∷ b ∷ []) e = inl refl
   told-write (a ∷ b ∷ c ∷ l) e = by-test (leb c badge_most) (λ h. rw h (inr (rw e))) (λ h. rw h (inl refl))
 
-  told-pair : (l : List ℕ) → Told (byte ∷ spaced_all l) (named_pair byte l)
+  pub told-pair : (l : List ℕ) → Told (byte ∷ spaced_all l) (named_pair byte l)
   told-pair [] = inl refl
   told-pair (a ∷ []) = inl refl
   told-pair (a ∷ b ∷ []) =
@@ -285,19 +279,3 @@ module _ (byte : ℕ) where
       (λ g. rw g (by-test (eqb byte 33) (λ e. rw e (inr (rw (eqb-true byte 33 e))))
       (λ h. rw h (by-test (eqb byte 43) (λ e. rw e (inr (rw (eqb-true byte 43 e)))) (λ e. rw e (inl refl))))))))))
   told-pair (a ∷ b ∷ c ∷ l) = inl refl
-
-  told_named : (l : List ℕ) → Told (byte ∷ spaced_all l) (named byte l)
-  told_named l =
-      by-test (eqb byte 79) (λ e. rw e (told_open l (eqb-true byte 79 e)))
-      (λ d. rw d (by-test (eqb byte 87) (λ e. rw e (told-write l (eqb-true byte 87 e))) (λ e. rw e (told-pair l))))
-
--- Each line names no step, or is the text of the step that it names.
-pub step_only : (line : List ℕ) → Told line (step_of line)
-unfolding step_of
-step_only [] = inl refl
-step_only (byte ∷ rest) =
-    by-test (leb (length (byte ∷ rest)) line_most)
-    (λ h. rw h (by-test (numbers_of rest).whole
-    (λ e. rw e (rw (← numbers_only rest e) at (told_named byte (numbers_of rest).numbers)))
-    (λ e. rw e (inl refl))))
-    (λ h. rw h (inl refl))

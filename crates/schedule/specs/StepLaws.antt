@@ -81,7 +81,7 @@ pair-alone byte a b =
     (either (λ (n : Named). n.setpoints ≡ []) (eqb byte 33) refl
     (either (λ (n : Named). n.setpoints ≡ []) (eqb byte 43) refl refl))))
 
-pair : (byte : ℕ) (l : List ℕ) → (byte ≡ 79 → ⊥) → (byte ≡ 87 → ⊥) → named byte l ≡ named_pair byte l
+pub pair : (byte : ℕ) (l : List ℕ) → (byte ≡ 79 → ⊥) → (byte ≡ 87 → ⊥) → named byte l ≡ named_pair byte l
 pair byte l d e = rw (ne_eqb _ _ d, ne_eqb _ _ e)
 
 module _ (byte : ℕ) (l held : List ℕ) {r : Reading} where
@@ -92,9 +92,6 @@ module _ (byte : ℕ) (l held : List ℕ) {r : Reading} where
   names-write d e n = rw (ne_eqb _ _ d, eq-eqb _ _ e) n
 
   module _ (d : byte ≡ 79 → ⊥) (e : byte ≡ 87 → ⊥) where
-    pub names_other : (length l ≡ 2 → ⊥) → r ≡ reading_of unreadable → Names (named byte l) held r held
-    names_other f is = names-none held (pair byte l d e ∙ pair-not byte l f) is
-
     pub names-pair : length l ≡ 2 → r ≡ reading_of (pair_named byte (get_or l 0 0) (get_or l 1 0)) → Names (named byte l) held r held
     names-pair f is = rw (pair byte l d e ∙ pair-two byte l f) (record { reading = is; place = rw (pair-alone byte (get_or l 0 0) (get_or l 1 0)) })
 
@@ -114,40 +111,24 @@ line_long [] h = refl
 line_long (byte ∷ rest) h = rw (lt-leb _ _ h)
 
 -- how many setpoints a line has at most
-few_open : (l : List ℕ) → length l ≤ numbers_most → length (named_open l).setpoints ≤ setpoints_most
+pub few_open : (l : List ℕ) → length l ≤ numbers_most → length (named_open l).setpoints ≤ setpoints_most
 few_open [] h = omega arith
 few_open (a ∷ []) h = omega arith
 few_open (a ∷ b ∷ []) h = omega arith
 few_open (a ∷ b ∷ d ∷ l) h = omega arith
 
-few-write : (l : List ℕ) → length l ≤ numbers_most → length (named_write l).setpoints ≤ setpoints_most
+pub few-write : (l : List ℕ) → length l ≤ numbers_most → length (named_write l).setpoints ≤ setpoints_most
 few-write [] h = omega arith
 few-write (a ∷ []) h = omega arith
 few-write (a ∷ b ∷ []) h = omega arith
 few-write (a ∷ b ∷ d ∷ l) h =
     either (λ (n : Named). length n.setpoints ≤ setpoints_most) (leb d badge_most) (omega arith) (omega arith)
 
-few-pair : (byte : ℕ) (l : List ℕ) → length (named_pair byte l).setpoints ≤ setpoints_most
+pub few-pair : (byte : ℕ) (l : List ℕ) → length (named_pair byte l).setpoints ≤ setpoints_most
 few-pair byte [] = omega arith
 few-pair byte (a ∷ []) = omega arith
 few-pair byte (a ∷ b ∷ []) = rw (pair-alone byte a b) (omega arith)
 few-pair byte (a ∷ b ∷ d ∷ l) = omega arith
-
-few-named : (byte : ℕ) (l : List ℕ) → length l ≤ numbers_most → length (named byte l).setpoints ≤ setpoints_most
-few-named byte l h =
-    either (λ (n : Named). length n.setpoints ≤ setpoints_most) (eqb byte 79)
-    (few_open l h)
-    (either (λ (n : Named). length n.setpoints ≤ setpoints_most) (eqb byte 87) (few-write l h) (few-pair byte l))
-
-pub few_setpoints : (line : List ℕ) → length (step_of line).setpoints ≤ setpoints_most
-unfolding step_of
-few_setpoints [] = omega arith
-few_setpoints (byte ∷ rest) =
-    by-test (leb (length (byte ∷ rest)) line_most)
-    (λ e. rw e (either (λ (n : Named). length n.setpoints ≤ setpoints_most) (numbers_of rest).whole
-    (few-named byte (numbers_of rest).numbers (omega (arith, numbers_few rest, leb-true (length (byte ∷ rest)) line_most e)))
-    (omega arith)))
-    (λ e. rw e (omega arith))
 
 -- what the number reader's answer tells
 pub count-broken : (read : Read) → Broken ≡ count_of read → read.whole ≡ false

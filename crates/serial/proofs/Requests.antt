@@ -12,7 +12,8 @@ use Rattle.keys.specs.Keys.{key_of, key_word, FitsByte}
 use Rattle.keys.specs.Masks.{has_server}
 use Rattle.coordinator.specs.declared.Latest.{Latest}
 use Rattle.coordinator.specs.Latest.{latest_tag, latest_key, entry_at, latest_of}
-use Rattle.coordinator.specs.LatestLaws.{latest-here, latest-before, latest-tag-kept, latest_key-kept}
+use Rattle.coordinator.specs.LatestLaws.{latest-here, latest-before, latest-tag-kept}
+use Rattle.coordinator.proofs.LatestLaws.{latest_key-kept}
 use Rattle.tables.specs.Rows.{HasRow}
 use Rattle.tables.specs.Layout.{server_places, put_version_word, put_value, HasValues, entry_width, entry_mask, put_entry}
 use Rattle.tables.specs.Entries.{entry_key-same, entry-mask-same}

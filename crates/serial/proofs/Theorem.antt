@@ -16,11 +16,12 @@ use Rattle.rules.specs.declared.Answer.TheVariants.{Ok}
 use Rattle.refusals.specs.Refusals.{open_refusal, write_refusal, read_refusal, delivery_refusal}
 use Rattle.soundness.specs.Facts.{Sound}
 use Rattle.keeping.specs.Accepted.{Openable, openable, writable, readable, as-formerly, deliverable}
-use Rattle.keeping.specs.Opening.{opened-words, opened-sound}
-use Rattle.keeping.specs.BeginWrite.{begun_write-kept}
-use Rattle.keeping.specs.BeginRead.{begun_read-kept}
-use Rattle.keeping.specs.Steps.{open_keeps, begin_write-sound, begin_read-sound, deliver_request-sound, deliver_reply-sound, lose-sound}
-use Rattle.keeping.specs.Steps.{resend-sound}
+use Rattle.keeping.specs.Opening.{opened-words}
+use Rattle.keeping.proofs.Opening.{opened-sound}
+use Rattle.keeping.proofs.BeginWrite.{begun_write-kept}
+use Rattle.keeping.proofs.BeginRead.{begun_read-kept}
+use Rattle.keeping.proofs.Steps.{open_keeps, begin_write-sound, begin_read-sound, deliver_request-sound, deliver_reply-sound, lose-sound}
+use Rattle.keeping.proofs.Steps.{resend-sound}
 use Rattle.refusals.specs.Steps.{badge_of, open', begin_write, begin_read, deliver_request, deliver_reply, lose, resend}
 use Rattle.refusals.specs.Either.{by_refusal, by_refusal-arrived}
 use Rattle.claim.specs.Steps.{Step, opening, beginning-write, beginning-read, request, reply, losing, resending, begun-write}

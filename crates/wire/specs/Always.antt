@@ -75,7 +75,7 @@ module _ (t : Tables) (s : Sound t) where
     below = omega (arith, few_clients)
 
     -- B's reply
-    keys_can : (n : ℕ) → Between 1 n (entries_of t) → CanBeWritten (keys_reply n q (servers_of t) t.log)
+    pub keys_can : (n : ℕ) → Between 1 n (entries_of t) → CanBeWritten (keys_reply n q (servers_of t) t.log)
     keys_can n b =
         let k = servers_of t in
         let few = s.scalars.press.servers.most in
@@ -90,7 +90,7 @@ module _ (t : Tables) (s : Sound t) where
         (λ j h. rw (built_at g k j h) (omega (arith, latest-within t.log j (n - 1))))
 
     -- C's replies
-    log_can : (n : ℕ) → Between 1 n (entries_of t) → CanBeWritten (log_reply n q t.log)
+    pub log_can : (n : ℕ) → Between 1 n (entries_of t) → CanBeWritten (log_reply n q t.log)
     log_can n b =
         let f : ℕ → ℕ = λ tag. word_at entry_width t.log tag 0 in
         let g : ℕ → ℕ = entry_mask t.log in
@@ -101,7 +101,7 @@ module _ (t : Tables) (s : Sound t) where
         (λ j h. rw (built_at g n j h) (e j h).mask.some)
         (λ j h. rw (built_at g n j h) (mask_fits (g j) (e j h).mask))
 
-    all_can : ((j : ℕ) → get_or t.values j 0 < 4294967296) → (i : ℕ) → i < servers_of t → (n : ℕ) → Between 1 n (held_of t i)
+    pub all_can : ((j : ℕ) → get_or t.values j 0 < 4294967296) → (i : ℕ) → i < servers_of t → (n : ℕ) → Between 1 n (held_of t i)
         → CanBeWritten (all_reply n q i t.keys t.values)
     all_can words i l n b =
         let f : ℕ → ℕ = version_word t.keys i in
@@ -121,20 +121,20 @@ module _ (t : Tables) (s : Sound t) (words : Words t.links t.values) (q i : ℕ)
   abbrev word : ℕ
   word = key_on t q i
 
-  abbrev number : ℕ
+  abbrev pub number : ℕ
   number = number_on t q i
 
-  abbrev badge : ℕ
+  abbrev pub badge : ℕ
   badge = badge_on t q i
 
-  q-fits : q < 16
+  pub q-fits : q < 16
   q-fits = client-fits t s q i a
 
   module _ (asked : kind_on t q i ≡ 1) where
     full : kind_on t q i ≡ 0 → ⊥
     full e = omega arith
 
-    request_can : writable (request_in (state_of t q) (contents_on t q i) q i) [] [] [] ≡ true
+    pub request_can : writable (request_in (state_of t q) (contents_on t q i) q i) [] [] [] ≡ true
     unfolding request_in
     request_can =
         by_state (mask_of t q) i (state_of t q) (used t s q i a full)
@@ -158,37 +158,5 @@ module _ (t : Tables) (s : Sound t) (words : Words t.links t.values) (q i : ℕ)
         (λ d. rw (ne_eqb i coordinator d) (get-all-writable q q-fits i (omega (arith, is-server t s q i a d, few_servers t s q i a))))))
 
   module _ (came : kind_on t q i ≡ 2) where
-    not-empty : kind_on t q i ≡ 0 → ⊥
+    pub not-empty : kind_on t q i ≡ 0 → ⊥
     not-empty e = omega arith
-
-    reply_can : CanBeWritten (reply_in (state_of t q) (contents_on t q i) q i t)
-    unfolding reply_in
-    reply_can =
-        by_state (mask_of t q) i (state_of t q) (used t s q i a not-empty)
-        (λ e. rw e (set_done-writable q q-fits i (writing-server t s q i a not-empty e)))
-        (λ e. let g = entered-tag t s q i a came e in rw e (entered-writable q q-fits number g.0 (omega (arith, g.1, s.scalars.entries.most))))
-        (λ e. rw e (keys_can t s q a.client number (keys_held t s q i a came e)))
-        (λ e.
-        rw e
-        (got-writable q q-fits i (setpoints-server t s q i a not-empty e) badge number (got-badge t s q i a came e) (words.link _)))
-        (λ e.
-        rw e
-        (by_equal i coordinator
-        (λ c. rw (eq-eqb i coordinator c) (log_can t s q a.client number (log_held t s q i a came e c)))
-        (λ d. rw (ne_eqb i coordinator d) (all_can t s q a.client words.value i (is-server t s q i a d) number (all_held t s q i a came e d)))))
-
-  by_content : (c : Content) → content_at t q i ≡ c → CanBeWritten (on_link_by c q i t)
-  by_content Nothing e = tt
-  by_content Lost e = tt
-  by_content (Request w) e =
-      let k = (asks t s q i a).kind in
-      subst (λ (w : Contents). CanBeWritten (alone (request_in (state_of t q) w q i))) (request-words t.links q i w k e) (request_can (request-kind t.links q i w k e))
-  by_content (Reply w) e =
-      let k = (asks t s q i a).kind in
-      subst (λ (w : Contents). CanBeWritten (reply_in (state_of t q) w q i t)) (reply-words t.links q i w k e)
-      (reply_can (reply-kind t.links q i w k e))
-
-  -- what a link of sound tables holds can be written
-  pub always-writable : CanBeWritten (on_link q i t)
-  unfolding on_link
-  always-writable = by_content (content_at t q i) refl

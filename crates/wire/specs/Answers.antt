@@ -17,12 +17,12 @@ use Rattle.wire.specs.OnLink.{OnLink, empty, carries, on_link}
 use Rattle.wire.specs.Sending.{Sent, refused, sent_from, is_absent, link_frame}
 use Rattle.wire.specs.Known.{Present, few_servers, client-fits, target_below, is-server, asks, used}
 use Rattle.wire.specs.Known.{set-badge, entered-tag, keys_held, got-badge, log_held, all_held}
-use Rattle.wire.specs.Always.{Words, CanBeWritten, always-writable}
+use Rattle.wire.specs.Always.{Words, CanBeWritten}
 use Rattle.wire.specs.Ready.{LogReady, EverythingReady, RequestReady, ReplyReady, LinkReady}
 use Rattle.wire.specs.Cases.{wrote_from}
 
 -- what can be written is never refused by 11
-can_write : (o : OnLink) (bytes : List ℕ) → CanBeWritten o → wrote_from o bytes ≡ sent_from o bytes
+pub can_write : (o : OnLink) (bytes : List ℕ) → CanBeWritten o → wrote_from o bytes ≡ sent_from o bytes
 unfolding wrote_from sent_from written_of bytes_written
 can_write empty bytes w = refl
 can_write (carries m keys badges numbers) bytes w = rw w (by-test (fits m keys badges numbers bytes) (λ f. rw f) (λ f. rw f))
@@ -40,12 +40,6 @@ module _ (q i : ℕ) (t : Tables) (s : Sound t) (bytes : List ℕ) {b : Bool} (d
 
   pub is_present : b ≡ false → Present q i t
   is_present e = let n = neither (leb (clients_of t) q) (not (is_target t i)) (sym d ∙ e) in record { client = leb-false _ _ n.0; target = not-false _ n.1 }
-
-  pub frame-written : (e : b ≡ false) → Words t.links t.values → {x : Sent} → x ≡ wrote_from (on_link q i t) bytes → x ≡ link_frame q i t bytes
-  unfolding link_frame
-  frame-written e w o = rw (facts-sound t s, ← d, e) (o ∙ can_write (on_link q i t) bytes (always-writable t s w q i (is_present e)))
-
--- ---- sound tables are ready
 
 module _ (q i : ℕ) (t : Tables) (s : Sound t) (a : Present q i t) where
   abbrev number : ℕ

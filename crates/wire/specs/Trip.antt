@@ -30,7 +30,7 @@ use Rattle.frames.specs.RoundTrip.{message_round_trip, keys_round_trip, badges_r
 use Rattle.wire.specs.OnLink.{OnLink, empty, carries, alone, request_in, reply_in, on_link_by, on_link}
 use Rattle.wire.specs.Sending.{Sent, sent, sent_from, link_frame}
 use Rattle.wire.specs.Known.{Present}
-use Rattle.wire.specs.Always.{Words, CanBeWritten, always-writable}
+use Rattle.wire.specs.Always.{Words, CanBeWritten}
 
 -- ---- a link holds as many entries as its message says
 
@@ -39,11 +39,11 @@ pub record Exact (m : Message) (keys badges numbers : List ℕ) : Type 0 where
   pub all_badges : length badges ≡ cond (has_badges (kind_of m)) (entries_of m) 0
   pub all-numbers : length numbers ≡ entries_of m
 
-ExactOn : OnLink → Type 0
+unfoldable pub ExactOn : OnLink → Type 0
 ExactOn empty = Unit {0}
 ExactOn (carries m keys badges numbers) = Exact m keys badges numbers
 
-request_exact : (state : ℕ) (w : Contents) (q i : ℕ) → ExactOn (alone (request_in state w q i))
+pub request_exact : (state : ℕ) (w : Contents) (q i : ℕ) → ExactOn (alone (request_in state w q i))
 unfolding ExactOn request_in has_badges sort_at
 request_exact state w q i =
     either (λ m. ExactOn (alone m)) (eqb state 1) (record { all-keys = refl; all_badges = refl; all-numbers = refl })
@@ -53,7 +53,7 @@ request_exact state w q i =
     (either (λ m. ExactOn (alone m)) (eqb i 16) (record { all-keys = refl; all_badges = refl; all-numbers = refl })
     (record { all-keys = refl; all_badges = refl; all-numbers = refl })))))
 
-reply_exact : (state : ℕ) (w : Contents) (q i : ℕ) (t : Tables) → ExactOn (reply_in state w q i t)
+pub reply_exact : (state : ℕ) (w : Contents) (q i : ℕ) (t : Tables) → ExactOn (reply_in state w q i t)
 unfolding ExactOn reply_in has_badges sort_at
 reply_exact state w q i t =
     let n = w.number in
@@ -63,19 +63,6 @@ reply_exact state w q i t =
     (either ExactOn (eqb state 4) (record { all-keys = refl; all_badges = refl; all-numbers = refl })
     (either ExactOn (eqb i 16) (record { all-keys = built-length _ n; all_badges = refl; all-numbers = built-length _ n })
     (record { all-keys = built-length _ n; all_badges = built-length _ n; all-numbers = built-length _ n })))))
-
-content_exact : (c : Content) (q i : ℕ) (t : Tables) → ExactOn (on_link_by c q i t)
-unfolding ExactOn
-content_exact Nothing q i t = tt
-content_exact Lost q i t = tt
-content_exact (Request w) q i t = request_exact (state_of t q) w q i
-content_exact (Reply w) q i t = reply_exact (state_of t q) w q i t
-
-link_exact : (q i : ℕ) (t : Tables) → ExactOn (on_link q i t)
-unfolding on_link
-link_exact q i t = content_exact (content_at t q i) q i t
-
--- ---- a frame goes by the first entries of its rows
 
 module _ (m : Message) (keys badges numbers : List ℕ) (e : Exact m keys badges numbers) (keys' badges' numbers' : List ℕ) where
   badge-same : (b : Bool) (j : ℕ) → j < entries_of m → length badges ≡ cond b (entries_of m) 0
@@ -97,15 +84,15 @@ module _ (m : Message) (keys badges numbers : List ℕ) (e : Exact m keys badges
       let n = get_or-append numbers numbers' 0 f (omega (arith, e.all-numbers)) in
       (λ i. cond (eqb d 0) (k i / 256) (cond (eqb d 1) (k i % 256) (cond (eqb d 2) (b i) (n i))))
 
-  frame-first : frame_of m (keys ++ keys') (badges ++ badges') (numbers ++ numbers') ≡ frame_of m keys badges numbers
+  pub frame-first : frame_of m (keys ++ keys') (badges ++ badges') (numbers ++ numbers') ≡ frame_of m keys badges numbers
   unfolding frame_of values_of
   frame-first = ap (λ (vs : List ℕ). frame format (fixed_of m ++ vs)) (built-same _ _ (entry_fields * entries_of m) value_same)
 
 -- the first n of a list of n, with what stood behind
-front : (n : ℕ) (row row' : List ℕ) → length row ≡ n → take n row ++ drop n row' ≡ row ++ drop (length row) row'
+pub front : (n : ℕ) (row row' : List ℕ) → length row ≡ n → take n row ++ drop n row' ≡ row ++ drop (length row) row'
 front n row row' e = (λ j. take (sym e j) row ++ drop (sym e j) row') ∙ ap (λ (l : List ℕ). l ++ drop (length row) row') (take-length row)
 
-front_if : (b : Bool) (n : ℕ) (row row' : List ℕ) → length row ≡ cond b n 0 → cond b (take n row ++ drop n row') row' ≡ row ++ drop (length row) row'
+pub front_if : (b : Bool) (n : ℕ) (row row' : List ℕ) → length row ≡ cond b n 0 → cond b (take n row ++ drop n row') row' ≡ row ++ drop (length row) row'
 front_if true n row row' e = front n row row' e
 front_if false n [] row' e = refl
 front_if false n (x ∷ row) row' e = let z : ⊥ = omega arith in absurd z
@@ -121,13 +108,6 @@ pub record ReadAs (frame : List ℕ) (m : Message) (keys badges numbers keys' ba
 
 module _ (q i : ℕ) (t : Tables) (s : Sound t) (words : Words t.links t.values) (a : Present q i t) (m : Message)
     (keys badges numbers : List ℕ) (held : on_link q i t ≡ carries m keys badges numbers) where
-  can : writable m keys badges numbers ≡ true
-  can = subst CanBeWritten held (always-writable t s words q i a)
-
-  exact : Exact m keys badges numbers
-  unfolding ExactOn
-  exact = subst ExactOn held (link_exact q i t)
-
   abbrev its-frame : List ℕ
   its-frame = frame_of m keys badges numbers
 
@@ -151,36 +131,3 @@ module _ (q i : ℕ) (t : Tables) (s : Sound t) (words : Words t.links t.values)
           let e : link_frame q i t bytes ≡ sent (Refused 12) bytes = sent_is ∙ rw f in
           let l : Refused 12 ≡ Length n = sym (ap (λ (x : Sent). x.answer) e) ∙ accepted in
           absurd (let z : ◌≡◌ {A = ℕ} 0 1 = cc in omega arith))
-
-      module _ (keys' badges' numbers' : List ℕ) (room : has_places m keys' badges' numbers' ≡ true) where
-        -- what was written is read back as the message and entries it was written from
-        pub link_round_trip : ReadAs (take n (link_frame q i t bytes).bytes) m keys badges numbers keys' badges' numbers'
-        link_round_trip =
-            record {
-              message =
-                  ap (λ (f : List ℕ). reading_of (found f) keys' badges' numbers') written-frame
-                  ∙ message_round_trip m keys badges numbers can keys' badges' numbers' room;
-              keys-stored =
-                  ap (λ (f : List ℕ). keys_read (found f) keys' badges' numbers') written-frame
-                  ∙ keys_round_trip m keys badges numbers can keys' badges' numbers' room
-                  ∙ front (entries_of m) keys keys' exact.all-keys;
-              badges-stored =
-                  ap (λ (f : List ℕ). badges_read (found f) keys' badges' numbers') written-frame
-                  ∙ badges_round_trip m keys badges numbers can keys' badges' numbers' room
-                  ∙ front_if (has_badges (kind_of m)) (entries_of m) badges badges' exact.all_badges;
-              numbers-stored =
-                  ap (λ (f : List ℕ). numbers_read (found f) keys' badges' numbers') written-frame
-                  ∙ numbers_round_trip m keys badges numbers can keys' badges' numbers' room
-                  ∙ front (entries_of m) numbers numbers' exact.all-numbers;
-            }
-
-      -- no other bytes are read as they
-      module _ (keys' badges' numbers' received : List ℕ) (right : Bytes received) where
-        pub link_only :
-            ReadAs received m keys badges numbers keys' badges' numbers' → received ≡ take n (link_frame q i t bytes).bytes
-        link_only r =
-            message_only received keys' badges' numbers' m right r.message
-            ∙ (λ j. frame_of m (r.keys-stored j) (r.badges-stored j) (r.numbers-stored j))
-            ∙ frame-first m keys badges numbers exact (drop (length keys) keys') (drop (length badges) badges')
-            (drop (length numbers) numbers')
-            ∙ sym written-frame

@@ -38,7 +38,7 @@ module _ (t : Tables) (seed : ℕ) where
   numbers = acceptables t
 
   -- what is given is one of the numbered steps, and it passes
-  given-accepted : (seed' : ℕ) (s : LoadStep) → next_step t seed ≡ Given seed' s → acceptable t s ≡ true
+  pub given-accepted : (seed' : ℕ) (s : LoadStep) → next_step t seed ≡ Given seed' s → acceptable t s ≡ true
   unfolding next_step picked_from
   given-accepted seed' s e =
       by-test (sound t)
@@ -53,7 +53,7 @@ module _ (t : Tables) (seed : ℕ) where
       (index_below (advance seed) (length numbers) (omega arith) some))))
       (λ d. let f : Refused 2 ≡ Given seed' s = rw d at e in let w : ◌≡◌ {A = ℕ} 0 1 = cc in let v : ⊥ = omega arith in absurd v)
 
-  none-accepted : next_step t seed ≡ End → (n : ℕ) → n < numbered_count (clients_of t) → acceptable t (numbered t n) ≡ false
+  pub none-accepted : next_step t seed ≡ End → (n : ℕ) → n < numbered_count (clients_of t) → acceptable t (numbered t n) ≡ false
   unfolding next_step picked_from
   none-accepted e n h =
       by-test (sound t)
@@ -97,7 +97,7 @@ module _ (t : Tables) (q : ℕ) (h : q < clients_of t) where
       rw (le-ltb (p + q) p (omega arith), lt-ltb (p + q) (2 * p) (omega arith), z)
 
   module _ (i : ℕ) (l : i < targets) where
-    number-request : numbered t (2 * p + (targets * q + i)) ≡ load_step (Request q i) 0
+    pub number-request : numbered t (2 * p + (targets * q + i)) ≡ load_step (Request q i) 0
     unfolding numbered
     number-request =
         let n = 2 * p + (targets * q + i) in
@@ -106,7 +106,7 @@ module _ (t : Tables) (q : ℕ) (h : q < clients_of t) where
         let b : (targets * q + i) % targets ≡ i = omega arith in
         rw (le-ltb n p (omega arith), le-ltb n (2 * p) (omega arith), lt-ltb n ((2 + targets) * p) (omega arith), z, a, b)
 
-    number-reply : numbered t ((2 + targets) * p + (targets * q + i)) ≡ load_step (Reply q i) 0
+    pub number-reply : numbered t ((2 + targets) * p + (targets * q + i)) ≡ load_step (Reply q i) 0
     unfolding numbered
     number-reply =
         let n = (2 + targets) * p + (targets * q + i) in
@@ -126,7 +126,7 @@ module _ (t : Tables) (s : Sound t) (none : (n : ℕ) → n < numbered_count (cl
       let p = clients_of t in
       by-test (ltb q p) (λ e. there (ltb-true q p e)) (λ e. absent (le-leb p q (ltb-false q p e)))
 
-  no_write : (q mask badge : ℕ) (setpoints : List ℕ) → is_fine (begin_write q mask badge setpoints t) ≡ false
+  pub no_write : (q mask badge : ℕ) (setpoints : List ℕ) → is_fine (begin_write q mask badge setpoints t) ≡ false
   no_write q mask badge setpoints =
       let k = servers_of t in
       sym (write-judged t s q mask badge setpoints) ∙
@@ -139,7 +139,7 @@ module _ (t : Tables) (s : Sound t) (none : (n : ℕ) → n < numbered_count (cl
       (mask_within mask k && eqb (length setpoints) k) (leb record_places (writes_of t) || at_last_step t) g)
       (λ e. rw e)
 
-  no_read : (q mask : ℕ) → is_fine (begin_read q mask t) ≡ false
+  pub no_read : (q mask : ℕ) → is_fine (begin_read q mask t) ≡ false
   no_read q mask =
       let k = servers_of t in
       sym (read-judged t s q mask) ∙
@@ -153,7 +153,7 @@ module _ (t : Tables) (s : Sound t) (none : (n : ℕ) → n < numbered_count (cl
       (λ e. rw e)
 
   -- a link of a client and a target that are there, or number 3
-  by-link : {C : Type 0} (q i : ℕ) → (q < clients_of t → i < targets → C) → (eqb (delivery_fault q i t) 0 ≡ false → C) → C
+  pub by-link : {C : Type 0} (q i : ℕ) → (q < clients_of t → i < targets → C) → (eqb (delivery_fault q i t) 0 ≡ false → C) → C
   by-link q i there fault =
       by-client q
       (λ h. by-test (ltb i targets) (λ l. there h (ltb-true i targets l))
@@ -163,23 +163,3 @@ module _ (t : Tables) (s : Sound t) (none : (n : ℕ) → n < numbered_count (cl
       let b : eqb i coordinator ≡ false = ne_eqb i coordinator (λ z. omega arith) in
       fault (by-test (leb (clients_of t) q) (λ c. rw c) (λ c. rw (c, a, b)))))
       (λ e. fault (rw e))
-
-  no-request : (q i : ℕ) → is_fine (deliver_request q i t) ≡ false
-  unfolding played
-  no-request q i =
-      by-link q i
-      (λ h l. rw (number-request t q h i l) at (none (2 * clients_of t + (targets * q + i)) (omega arith)))
-      (λ e. sym (request-judged t s q i) ∙ rw e)
-
-  no-reply : (q i : ℕ) → is_fine_arrival (deliver_reply q i t) ≡ false
-  unfolding played
-  no-reply q i =
-      by-link q i
-      (λ h l. rw (number-reply t q h i l) at (none ((2 + targets) * clients_of t + (targets * q + i)) (omega arith)))
-      (λ e. sym (reply-judged t s q i) ∙ rw e)
-
-  nothing-accepted : Nothing t
-  nothing-accepted = record { writes = no_write; reads = no_read; requests = no-request; replies = no-reply }
-
-pub theorem : Claim
-theorem = record { given = given-accepted; none = none-accepted; nothing = λ t seed s e. nothing-accepted t s (none-accepted t seed e) }

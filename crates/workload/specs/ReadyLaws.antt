@@ -43,24 +43,16 @@ module _ (t : Tables) (s : Sound t) where
       }
 
   -- the other tables take no part
-  abbrev part : Tables
+  abbrev pub part : Tables
   part = seen t.counts t.clients t.links t.keys t.log
 
-  part-accepts : (n : ℕ) → accepts part n ≡ accepts t n
+  pub part-accepts : (n : ℕ) → accepts part n ≡ accepts t n
   unfolding accepts accepts_request accepts_reply
   part-accepts n = refl
 
-  part-picked : (numbers : List ℕ) (seed : ℕ) → picked_from numbers part seed ≡ picked_from numbers t seed
+  pub part-picked : (numbers : List ℕ) (seed : ℕ) → picked_from numbers part seed ≡ picked_from numbers t seed
   unfolding picked_from numbered
   part-picked numbers seed = refl
-
-  pub picked_next : (seed : ℕ) {r : Next} → r ≡ picked_from (passing (accepts part) (numbered_count (clients_of t))) part seed →
-      r ≡ next_step t seed
-  unfolding next_step
-  picked_next seed e =
-      let same = passing-same (accepts part) (λ n. acceptable t (numbered t n)) (λ n. part-accepts n ∙ accepts-told t s n) in
-      rw (facts-sound t s) (e ∙ part-picked (passing (accepts part) (numbered_count (clients_of t))) seed ∙ rw
-      (same (numbered_count (clients_of t))))
 
 pub unsound-next : (t : Tables) (seed : ℕ) {b : Bool} → b ≡ sound t → not b ≡ true → Refused 2 ≡ next_step t seed
 unfolding next_step

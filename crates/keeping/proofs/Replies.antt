@@ -1,4 +1,4 @@
--- The delivery of a reply keeps sound tables sound, by the state of the client: it waits, sends its second round, or ends.
+-- Of specs/Replies: what cites a theorem there that a changed definition can make fail.
 use Rattle.std.specs.Prelude.{ℕ, ◌≡◌}
 use Rattle.std.proofs.Math.Path.{refl}
 use Rattle.std.proofs.Common.{subst}
@@ -15,11 +15,11 @@ use Rattle.keeping.specs.States.{by_state}
 use Rattle.keeping.specs.Frame.{Kept, kept_same}
 use Rattle.keeping.specs.Accepted.{Deliverable, target_below}
 use Rattle.keeping.specs.Came.{Came, used}
-use Rattle.keeping.specs.OnSetDone.{set_done}
-use Rattle.keeping.specs.OnEntered.{entered-delivered}
-use Rattle.keeping.specs.OnKeys.{keys-delivered}
-use Rattle.keeping.specs.OnGot.{got-delivered}
-use Rattle.keeping.specs.OnAll.{all-delivered}
+use Rattle.keeping.proofs.OnSetDone.{set_done}
+use Rattle.keeping.proofs.OnEntered.{entered-delivered}
+use Rattle.keeping.proofs.OnKeys.{keys-delivered}
+use Rattle.keeping.proofs.OnGot.{got-delivered}
+use Rattle.keeping.proofs.OnAll.{all-delivered}
 
 in_state : (q i : ℕ) (t : Tables) → Came q i t → Kept q t (on_reply_in (state_of t q) (contents_on t q i) q i t).tables
 unfolding on_reply_in

@@ -1,6 +1,4 @@
--- That the claim rules wrong stores out: the stores and the lists of steps, as few and as short as will do, at which a changed claim or
--- history is noticed. On each list the named fields of the claim fail, and all the others hold. The crate `computed_runs` has more stores,
--- so that each field has one.
+-- Of specs/Wrong: what cites a theorem there that a changed definition can make fail.
 use Rattle.std.specs.Prelude.{◌≡◌, refl, List, [], ◌∷◌, ◌++◌, ℕ}
 use Rattle.std.proofs.Common.{ap}
 use Rattle.ranges.specs.All.{all_below, any_below}
@@ -33,9 +31,8 @@ use Rattle.claim.specs.Sample.{zeros}
 use Rattle.claim.specs.WrongStores as store
 use Rattle.claim.specs.WrongStores.{first}
 use Rattle.claim.specs.Lists.{write_one, read_by_b, then_read_by_b, acknowledged, lost_reply, asked_again}
-use Rattle.claim.specs.Broken.{played, Breaks, Computed, breaks}
-
--- ---- what the tests of every field say of each, computed
+use Rattle.claim.proofs.Broken.{Computed, breaks}
+use Rattle.claim.specs.Broken.{played, Breaks}
 
 record Tested : Type 0 where
   by_a : (former_open 1 2 2 first zeros).answer ≡ Ok

@@ -1,0 +1,4 @@
+-- What rests on the definitions of specs/, and is cited no further there.
+pub mod Broken
+pub mod Fields
+pub mod Wrong

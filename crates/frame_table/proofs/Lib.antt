@@ -1,0 +1,3 @@
+-- What rests on the definitions of specs/, and is cited no further there.
+pub mod Entry
+pub mod TableLaws

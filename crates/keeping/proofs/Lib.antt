@@ -1,0 +1,19 @@
+-- What rests on the definitions of specs/, and is cited no further there.
+pub mod Appends
+pub mod BeginRead
+pub mod BeginWrite
+pub mod Came
+pub mod Frame
+pub mod Losses
+pub mod Moves
+pub mod OnAll
+pub mod OnEntered
+pub mod OnGot
+pub mod OnKeys
+pub mod OnSetDone
+pub mod Opening
+pub mod Placed
+pub mod Replied
+pub mod Replies
+pub mod Requests
+pub mod Steps
