@@ -35,7 +35,7 @@ add-play-line c =
     let at_test = c.before.before.before.before.before.before.before.before.before in
     let at-loop = at_test.before in
     let start = at-loop.before.before.before.before.before.before.before.before.before.before.before in
-    omega (arith, at-loop.loop.invariant.1.0.counting.below, at_test.loop-test.true, start.well-formed)
+    omega (arith, at-loop.loop.invariant.1.0.counting.below, at_test.loop-test.true, start.well_formed)
 
 play-line-requires : tie.Need-play-line-requires invariant-loop decreases-loop
 play-line-requires c κs =

@@ -1,0 +1,12 @@
+-- `acceptable_steps::accepts_write` meets its contract: the fault of a WRITE to all servers, 0 where there is none.
+use mathlib.Core.List.{[]}
+use Rattle.workload.specs.Accepts.{seen}
+use Rattle.workload.specs.Cases.{by-write}
+use Rattle.acceptable_steps.proofs.accepts_write.Goals as goal
+
+pub returns : goal.returns
+returns c =
+    let a = c.args in
+    λ links keys log. by-write (seen a.counts.now a.clients.now links keys log) a.client c.count_at-servers.ensures
+    c.all_servers-all.ensures
+    (c.write_fault.ensures links keys [] log [] [])

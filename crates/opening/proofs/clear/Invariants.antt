@@ -1,0 +1,12 @@
+-- `opening::clear` meets its contract: the words that the loop has passed are 0.
+use Prim.Native.Nat.{◌≤◌, ◌-◌}
+use mathlib.Core.Path.{◌≡◌}
+use mathlib.Core.List.{◌++◌}
+use lib.ListN.{length, replicate, drop}
+use Rattle.opening.proofs.clear.Given as goal
+
+abbrev pub invariant-loop-at : goal.invariant-loop-at
+invariant-loop-at l = (l.at ≤ length l.initial.words) × ((length l.words ≡ length l.initial.words) × (l.words ≡ replicate l.at 0 ++ drop l.at l.initial.words))
+
+abbrev pub decreases-loop-at : goal.decreases-loop-at
+decreases-loop-at l = length l.initial.words - l.at

@@ -1,0 +1,12 @@
+-- `record_tests::overlap` meets its contract: `found` counts the WRITEs passed that overlap.
+use Prim.Native.Nat.{◌≤◌, ◌-◌}
+use mathlib.Core.Path.{◌≡◌}
+use Rattle.ranges.specs.Sum.{count_below}
+use Rattle.record_tests.specs.Records.{overlaps}
+use Rattle.record_tests.proofs.overlap.Given as goal
+
+abbrev pub invariant-loop-place : goal.invariant-loop-place
+invariant-loop-place l = (l.place ≤ l.begun) × (l.found ≡ count_below (overlaps l.writes l.begin l.end) l.place)
+
+abbrev pub decreases-loop-place : goal.decreases-loop-place
+decreases-loop-place l = l.begun - l.place

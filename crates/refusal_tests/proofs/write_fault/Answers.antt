@@ -1,0 +1,71 @@
+-- `refusal_tests::write_fault` meets its contract: each way out is one value of the tests in their order.
+use mathlib.Core.Bool.{not}
+use Prim.Native.Nat.{ℕ}
+use mathlib.Core.Path.{sym, ap, ◌∙◌}
+use mathlib.Core.Bool.{Bool, ◌&&◌}
+use lib.Dec.{eqb}
+use borrow.Author.Tests.{not-true}
+use Rattle.ranges.specs.Tests.{holds, most, above, is, is-not}
+use Rattle.keys.specs.Masks.{mask_within}
+use Rattle.refusals.specs.Refusals.{is_retired}
+use Rattle.refusals.specs.Cases.{refused_7, begins}
+use Rattle.refusal_tests.proofs.write_fault.Reads as reads
+use Rattle.refusal_tests.proofs.write_fault.Goals as goal
+
+pub returns-then-count_at-client : goal.returns-then-count_at-client
+returns-then-count_at-client c = λ links keys values log writes reads. rw (most c.count_at.ensures c.if-count_at-client.true)
+
+pub returns-then-is_retired : goal.returns-then-is_retired
+returns-then-is_retired c =
+    λ links keys values log writes reads.
+    rw (
+      above c.count_at.ensures c.if-count_at-client.false,
+      ← c.count_at-2.ensures,
+      sym c.is_retired.ensures ∙ c.if-is_retired.true,
+    )
+
+pub returns-then-client_word-ne-IDLE : goal.returns-then-client_word-ne-IDLE
+returns-then-client_word-ne-IDLE c =
+    λ links keys values log writes reads.
+    rw (
+      above c.count_at.ensures c.if-count_at-client.false,
+      ← c.count_at-2.ensures,
+      sym c.is_retired.ensures ∙ c.if-is_retired.false,
+      is-not c.client_word.ensures c.if-client_word-ne-IDLE.true,
+    )
+
+pub returns-then-not-fits_write : goal.returns-then-not-fits_write
+returns-then-not-fits_write c =
+    λ links keys values log writes reads.
+    rw (
+      above c.count_at.ensures c.if-count_at-client.false,
+      ← c.count_at-2.ensures,
+      sym c.is_retired.ensures ∙ c.if-is_retired.false,
+      is c.client_word.ensures c.if-client_word-ne-IDLE.false,
+      ← c.count_at-3.ensures,
+      sym c.fits_write.ensures ∙ not-true _ (ap not c.if-not-fits_write.true),
+    )
+
+pub returns-then-is_spent : goal.returns-then-is_spent
+returns-then-is_spent c =
+    let a = c.args in
+    let fits : ℕ → Bool = λ k. mask_within a.mask k && eqb a.given k in
+    λ links keys values log writes reads.
+    refused_7
+    (above c.count_at.ensures c.if-count_at-client.false)
+    (sym (c.is_retired.ensures ∙ ap is_retired c.count_at-2.ensures) ∙ c.if-is_retired.false)
+    (is c.client_word.ensures c.if-client_word-ne-IDLE.false)
+    (holds (c.fits_write.ensures ∙ ap fits c.count_at-3.ensures) (ap not c.if-not-fits_write.false))
+    (sym c.is_spent.ensures ∙ c.if-is_spent.true)
+
+pub returns : goal.returns
+returns c =
+    let a = c.args in
+    let fits : ℕ → Bool = λ k. mask_within a.mask k && eqb a.given k in
+    λ links keys values log writes reads.
+    begins
+    (above c.count_at.ensures c.if-count_at-client.false)
+    (sym (c.is_retired.ensures ∙ ap is_retired c.count_at-2.ensures) ∙ c.if-is_retired.false)
+    (is c.client_word.ensures c.if-client_word-ne-IDLE.false)
+    (holds (c.fits_write.ensures ∙ ap fits c.count_at-3.ensures) (ap not c.if-not-fits_write.false))
+    (sym c.is_spent.ensures ∙ c.if-is_spent.false)

@@ -1,0 +1,6 @@
+-- `wire_exports::wire_list_register` meets its contract: the number is the answer's, and `listing::list_register` leaves the list.
+use Rattle.wire_exports.specs.NumberLaws.{listed_so}
+use Rattle.wire_exports.proofs.wire_list_register.Goals as goal
+
+pub returns : goal.returns
+returns c = listed_so c.listed_number.ensures c.list_register-listed.ensures
