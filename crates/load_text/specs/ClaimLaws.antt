@@ -17,7 +17,7 @@ use Rattle.playing.specs.PlayableLaws.{step-sound}
 use Rattle.workload.specs.declared.Next.{Next}
 use Rattle.workload.specs.declared.Next.TheVariants as next
 use Rattle.workload.specs.Load.{load_played, is_accepted, next_step}
-use Rattle.workload.specs.ClaimLaws as workload
+use Rattle.workload.proofs.ClaimLaws as workload
 use Rattle.workload_run.specs.Run.{taken, after_pick, take_step}
 use Rattle.load_text.specs.declared.Wanted.{Wanted}
 use Rattle.load_text.specs.declared.Asked.TheVariants.{Load}

@@ -93,7 +93,7 @@ pub record Place (file : List ℕ) (at : ℕ) : Type 0 where
 
 -- more frames than there may be are refused, whichever of their lengths were read
 module _ (f : ℕ → ℕ) (n : ℕ) (bytes : List ℕ) where
-  same_judgement : well_made (built f (min n most_read)) bytes ≡ well_made (built f n) bytes
+  pub same_judgement : well_made (built f (min n most_read)) bytes ≡ well_made (built f n) bytes
   same_judgement =
       by-test (leb n most_read)
       (λ b. let h = leb-true n most_read b in let e : min n most_read ≡ n = omega arith in ap (λ (m : ℕ). well_made (built f m) bytes) e)
@@ -102,7 +102,7 @@ module _ (f : ℕ → ℕ) (n : ℕ) (bytes : List ℕ) where
       sym (well-made_many (built f (min n most_read)) bytes (omega (arith, built-length f (min n most_read))))
       ∙ well-made_many (built f n) bytes (omega (arith, built-length f n)))
 
-  well-made-read : well_made (built f n) bytes ≡ true → built f (min n most_read) ≡ built f n
+  pub well-made-read : well_made (built f n) bytes ≡ true → built f (min n most_read) ≡ built f n
   well-made-read t =
       by-test (leb n most_read)
       (λ b. let h = leb-true n most_read b in let e : min n most_read ≡ n = omega arith in ap (built f) e)
@@ -111,44 +111,16 @@ module _ (f : ℕ → ℕ) (n : ℕ) (bytes : List ℕ) where
       absurd (true≢false (sym t ∙ sym (well-made_many (built f n) bytes (omega (arith, built-length f n))))))
 
 module _ (f g : ℕ → ℕ) (n m : ℕ) (bytes bytes' : List ℕ) where
-  abbrev read_one : List ℕ
+  abbrev pub read_one : List ℕ
   read_one = built f (min n most_read)
 
-  abbrev read_other : List ℕ
+  abbrev pub read_other : List ℕ
   read_other = built g (min m most_read)
-
-  pub compared-read :
-      compared (built f (min n most_read)) bytes (built g (min m most_read)) bytes' ≡ compared (built f n) bytes (built g m) bytes'
-  compared-read =
-      by-test (well_made (built f n) bytes)
-      (λ t. by-test (well_made (built g m) bytes')
-      (λ u. ap₂ (λ (l k : List ℕ). compared l bytes k bytes') (well-made-read f n bytes t) (well-made-read g m bytes' u))
-      (λ u.
-      sym (compared-refused_other read_one bytes read_other bytes' (same_judgement f n bytes ∙ t) (same_judgement g m bytes' ∙ u))
-      ∙ compared-refused_other (built f n) bytes (built g m) bytes' t u))
-      (λ t.
-      sym (compared-refused read_one bytes read_other bytes' (same_judgement f n bytes ∙ t))
-      ∙ compared-refused (built f n) bytes (built g m) bytes' t)
 
 -- as many as were read
 pub read-counted : (file before : List ℕ) {after : List ℕ} {n : ℕ} → LengthsRead file before after n → n ≡ length (take n after)
 read-counted file before {n = n} r =
     sym (ap (λ (l : List ℕ). length l) (laid_front (length_at file) n before r.stored) ∙ built-length (length_at file) n)
-
--- the comparison of what was read is that of the files
-pub files-read : (file file' before before' : List ℕ) {after after' : List ℕ} {n n' at at' : ℕ}
-    → LengthsRead file before after n → LengthsRead file' before' after' n' → Place file at → Place file' at'
-    → compared (take n after) (take (length file - at) (drop at file)) (take n' after') (take (length file' - at') (drop at' file'))
-    ≡ compared_files file file'
-unfolding compared_files lengths_in
-files-read file file' before before' {after' = after'} {n = n} {n' = n'} {at = at} {at' = at'} r r' p p' =
-    let front = laid_front (length_at file) n before r.stored ∙ ap (built (length_at file)) r.count in
-    let front' = laid_front (length_at file') n' before' r'.stored ∙ ap (built (length_at file')) r'.count in
-    let back = take_all (length file - at) (drop at file) (omega (arith, length-drop at file)) ∙ p.bytes in
-    let back' = take_all (length file' - at') (drop at' file') (omega (arith, length-drop at' file')) ∙ p'.bytes in
-    ap₂ (λ (l b : List ℕ). compared l b (take n' after') (take (length file' - at') (drop at' file'))) front back
-    ∙ ap₂ (λ (l b : List ℕ). compared (built (length_at file) (min (frames_in file) most_read)) (bytes_in file) l b) front' back'
-    ∙ compared-read (length_at file) (length_at file') (frames_in file) (frames_in file') (bytes_in file) (bytes_in file')
 
 -- so many bytes at the start of a row, as the program lends them
 abbrev pub Counts : ℕ → List ℕ → Type 0

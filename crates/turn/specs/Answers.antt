@@ -1,11 +1,10 @@
 -- Why an answered line leaves the rest to be printed as it was.
-use Rattle.std.specs.Prelude.{ℕ, ◌+◌, ◌-◌, ◌≤◌, ◌<◌, ◌≡◌, Bool, true, false, cond, take, ltb, leb}
-use Rattle.std.proofs.Common.{sym, ◌∙◌, arith, length-append, ltb-true, ltb-false, leb-true, leb-false}
+use Rattle.std.specs.Prelude.{ℕ, ◌+◌, ◌≤◌, ◌<◌, ◌≡◌, Bool, true, false, cond, take}
+use Rattle.std.proofs.Common.{sym, ◌∙◌, arith, length-append}
 use Rattle.std.proofs.Math.Path.{ap}
-use mathlib.Core.List.{List, [], ◌∷◌, ◌++◌}
+use mathlib.Core.List.{List, [], ◌++◌}
 use Rattle.std.proofs.Math.ListN.{length, drop, drop_of_length-le}
 use Rattle.std.proofs.Math.Seq.{length-take-le}
-use Rattle.std.proofs.lemmas.Bool.{lt-leb}
 use Rattle.ranges.specs.Tests.{by-test}
 use Rattle.tables.specs.Tables.{Tables}
 use Rattle.schedule.specs.Lines.{line_of, lines_of}
@@ -59,17 +58,17 @@ module _ (run r : Run) (line : List ℕ) (t : Tables) (out : List ℕ) where
 
 -- A line of what is held is answered and passed.
 module _ (run : Run) (window : List ℕ) (within : run.held ≤ length window) (t : Tables) (unread : List ℕ) where
-  abbrev part : List ℕ
+  abbrev pub part : List ℕ
   part = held_by run window
 
-  abbrev line : List ℕ
+  abbrev pub line : List ℕ
   line = line_of part
 
-  abbrev Later : Run → Type 0
+  abbrev pub Later : Run → Type 0
   Later r = rest_of run (part ++ unread) t ≡ line_text run line t ++ rest_of r (held_by r window ++ unread) (line_tables run line t)
 
   module _ (used : ℕ) where
-    later-found : length line < length part → Later (passed run (length line) (lines_then run) used)
+    pub later-found : length line < length part → Later (passed run (length line) (lines_then run) used)
     unfolding answers_from
     later-found found =
         let n : run.from + length line < run.held = omega (arith, found, part_length run window within) in
@@ -80,7 +79,7 @@ module _ (run : Run) (window : List ℕ) (within : run.held ≤ length window) (
         {x = behind_line (part ++ unread)} {y = behind_line part ++ unread} (behind-found part unread found)))
         (λ e. rw e (ap (λ (l : List (List ℕ)). answers_from (run.lines + 1) l t) (lines-found part unread found))))
 
-    later_open : length part ≤ length line → line_most < length line → run.from ≤ run.held →
+    pub later_open : length part ≤ length line → line_most < length line → run.from ≤ run.held →
         Later (passed run (length line) (lines_then run) used)
     unfolding answers_from
     later_open open' long from =
@@ -97,13 +96,3 @@ module _ (run : Run) (window : List ℕ) (within : run.held ≤ length window) (
         ∙ ap (λ (p : Played).
         shown_text (run.lines + 1) p.shown ++ answers_from (run.lines + 1 + 1) (lines_of (behind_line unread)) p.tables)
         (ap (λ (l : List ℕ). played_line (l ++ line_of unread) t) (sym w) ∙ long-played line (line_of unread) t long))))
-
-    -- it is passed where its byte 10 is held, or where it is longer than a step's line can be
-    pub answered_later : (length line ≤ line_most → length line < length part) → run.from ≤ run.held →
-        Later (passed run (length line) (lines_then run) used)
-    answered_later whole from =
-        by-test (ltb (length line) (length part))
-        (λ e. later-found (ltb-true _ _ e))
-        (λ e. by-test (leb (length line) line_most)
-        (λ f. later-found (whole (leb-true _ _ f)))
-        (λ f. later_open (ltb-false _ _ e) (leb-false _ _ f) from))

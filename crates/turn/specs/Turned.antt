@@ -1,6 +1,6 @@
 -- A turn of the program. What one turn prints and what the rest will print is what was to be printed, whatever is still to come;
 -- and its tables are those that the line leaves.
-use Rattle.std.specs.Prelude.{ℕ, ◌+◌, ◌-◌, ◌≤◌, ◌≡◌, Bool, true, false, cond, ◌&&◌, List, [], ◌++◌, length, eqb}
+use Rattle.std.specs.Prelude.{ℕ, ◌+◌, ◌-◌, ◌≤◌, ◌≡◌, true, false, cond, ◌&&◌, List, [], ◌++◌, length, eqb}
 use Rattle.tables.specs.Tables.{Tables}
 use Rattle.schedule.specs.Lines.{line_of}
 use Rattle.printing.specs.Printed.{Printed}

@@ -11,7 +11,8 @@ use Rattle.workload.specs.declared.Next.{Next}
 use Rattle.workload.specs.declared.Next.TheVariants as next
 use Rattle.workload.specs.Load.{next_step}
 use Rattle.workload.specs.Claim.{Nothing}
-use Rattle.workload.specs.ClaimLaws.{theorem, sound-given}
+use Rattle.workload.specs.ClaimLaws.{sound-given}
+use Rattle.workload.proofs.ClaimLaws.{theorem}
 use Rattle.workload_run.specs.Run.{Running, running, gone_on, listed_next, after_pick, pick_one, take_step, load}
 use Rattle.workload_run.specs.RunLaws.{pick-sound}
 use Rattle.workload_run.specs.Claim.{LoadClaim}

@@ -1,6 +1,7 @@
 -- What is read of the two files is what they hold, or is refused as they are.
 use mathlib.Core.Path.{◌∙◌}
-use Rattle.recording_files.specs.FileLaws.{files-read, read-counted}
+use Rattle.recording_files.specs.FileLaws.{read-counted}
+use Rattle.recording_files.proofs.FileLaws.{files-read}
 use Rattle.recording_files.proofs.compare_files.Goals as goal
 
 pub slice_bounds-compare-end : goal.slice_bounds-compare-end

@@ -4,7 +4,8 @@ use Rattle.std.proofs.lemmas.Result.{IfOk-weaker, err_from_is_err_and}
 use Rattle.tables.specs.Tables.{tables_of}
 use Rattle.window.specs.WindowLaws.{lacking, wants, ready-fits, ready_room}
 use Rattle.window.specs.Refills.{drop-take}
-use Rattle.turn.specs.Turns.{turned-read, turned-made}
+use Rattle.turn.specs.Turns.{turned-read}
+use Rattle.turn.proofs.TurnsMade.{turned-made}
 use Rattle.streaming.proofs.turn.Goals as goal
 
 pub read_on-requires-clause-from_le_held : goal.read_on-requires-clause-from_le_held
