@@ -27,6 +27,7 @@ use Rattle.wire.specs.Answers.{can_write, is_present}
 module _ (q i : ℕ) (t : Tables) (s : Sound t) (bytes : List ℕ) {b : Bool} (d : b ≡ is_absent q i t) where
   pub frame-written : (e : b ≡ false) → Words t.links t.values → {x : Sent} → x ≡ wrote_from (on_link q i t) bytes → x ≡ link_frame q i t bytes
   unfolding link_frame
-  frame-written e w o = rw (facts-sound t s, ← d, e) (o ∙ can_write (on_link q i t) bytes (always-writable t s w q i (is_present q i t s bytes d e)))
+  frame-written e w o = rw (facts-sound t s, ← d, e)
+      (o ∙ can_write (on_link q i t) bytes (always-writable t s w q i (is_present q i t s bytes d e)))
 
 -- ---- sound tables are ready

@@ -7,4 +7,5 @@ pub returns-in-Read : goal.returns-in-Read
 returns-in-Read c = parts_same c.both_parts.ensures c.head_of.ensures c.tail_of.ensures ∙ sym (ap parts_of c.in-Read.is)
 
 pub returns-in-Refused : goal.returns-in-Refused
-returns-in-Refused c = parts_same c.both_parts-in-Refused.ensures c.refused.ensures c.refused-in-Refused.ensures ∙ sym (ap parts_of c.in-Refused.is)
+returns-in-Refused c =
+    parts_same c.both_parts-in-Refused.ensures c.refused.ensures c.refused-in-Refused.ensures ∙ sym (ap parts_of c.in-Refused.is)

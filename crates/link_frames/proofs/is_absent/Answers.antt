@@ -7,7 +7,13 @@ use Rattle.wire.specs.Cases.{absent-client, absent-target}
 use Rattle.link_frames.proofs.is_absent.Goals as goal
 
 pub returns-then-count_at-client : goal.returns-then-count_at-client
-returns-then-count_at-client c clients links keys values log writes reads = let a = c.args in absent-client a.client a.target (tables_of a.counts.now clients links keys values log writes reads) c.count_at.ensures c.if-count_at-client.true
+returns-then-count_at-client c clients links keys values log writes reads =
+    let a = c.args in
+    absent-client a.client a.target (tables_of a.counts.now clients links keys values log writes reads) c.count_at.ensures
+    c.if-count_at-client.true
 
 pub returns : goal.returns
-returns c clients links keys values log writes reads = let a = c.args in absent-target a.client a.target (tables_of a.counts.now clients links keys values log writes reads) c.count_at.ensures c.if-count_at-client.false (c.is_target.ensures ∙ ap (λ (k : ℕ). is_target_of k a.target) c.count_at-2.ensures)
+returns c clients links keys values log writes reads =
+    let a = c.args in
+    absent-target a.client a.target (tables_of a.counts.now clients links keys values log writes reads) c.count_at.ensures
+    c.if-count_at-client.false (c.is_target.ensures ∙ ap (λ (k : ℕ). is_target_of k a.target) c.count_at-2.ensures)

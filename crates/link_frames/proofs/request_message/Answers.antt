@@ -18,19 +18,23 @@ returns-then-state-eq-ENTERING c =
 pub returns-then-state-eq-ASKING_KEYS : goal.returns-then-state-eq-ASKING_KEYS
 returns-then-state-eq-ASKING_KEYS c =
     let a = c.args in
-    request-keys a.state a.contents a.client a.target c.if-state-eq-WRITING.false c.if-state-eq-ENTERING.false c.if-state-eq-ASKING_KEYS.true
+    request-keys a.state a.contents a.client a.target c.if-state-eq-WRITING.false c.if-state-eq-ENTERING.false
+    c.if-state-eq-ASKING_KEYS.true
 
 pub returns-then-state-eq-ASKING_SETPOINTS : goal.returns-then-state-eq-ASKING_SETPOINTS
 returns-then-state-eq-ASKING_SETPOINTS c =
     let a = c.args in
-    request-get a.state a.contents a.client a.target c.if-state-eq-WRITING.false c.if-state-eq-ENTERING.false c.if-state-eq-ASKING_KEYS.false c.if-state-eq-ASKING_SETPOINTS.true
+    request-get a.state a.contents a.client a.target c.if-state-eq-WRITING.false c.if-state-eq-ENTERING.false
+    c.if-state-eq-ASKING_KEYS.false c.if-state-eq-ASKING_SETPOINTS.true
 
 pub returns-then-target-eq16 : goal.returns-then-target-eq16
 returns-then-target-eq16 c =
     let a = c.args in
-    request-log a.state a.contents a.client a.target c.if-state-eq-WRITING.false c.if-state-eq-ENTERING.false c.if-state-eq-ASKING_KEYS.false c.if-state-eq-ASKING_SETPOINTS.false c.if-target-eq16.true
+    request-log a.state a.contents a.client a.target c.if-state-eq-WRITING.false c.if-state-eq-ENTERING.false
+    c.if-state-eq-ASKING_KEYS.false c.if-state-eq-ASKING_SETPOINTS.false c.if-target-eq16.true
 
 pub returns : goal.returns
 returns c =
     let a = c.args in
-    request-all a.state a.contents a.client a.target c.if-state-eq-WRITING.false c.if-state-eq-ENTERING.false c.if-state-eq-ASKING_KEYS.false c.if-state-eq-ASKING_SETPOINTS.false c.if-target-eq16.false
+    request-all a.state a.contents a.client a.target c.if-state-eq-WRITING.false c.if-state-eq-ENTERING.false
+    c.if-state-eq-ASKING_KEYS.false c.if-state-eq-ASKING_SETPOINTS.false c.if-target-eq16.false

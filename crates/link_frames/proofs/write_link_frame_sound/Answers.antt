@@ -7,15 +7,30 @@ use Rattle.wire.proofs.Answers.{frame-written}
 use Rattle.link_frames.proofs.write_link_frame_sound.Goals as goal
 
 pub returns-then-is_absent : goal.returns-then-is_absent
-returns-then-is_absent c = let a = c.args in frame_absent a.client a.target (tables_of a.counts.now a.clients.now a.links.now a.keys.now a.values.now a.log.now a.writes.now a.reads.now) c.requires a.bytes.now (c.is_absent.ensures a.clients.now a.links.now a.keys.now a.values.now a.log.now a.writes.now a.reads.now) c.if-is_absent.true
+returns-then-is_absent c =
+    let a = c.args in
+    frame_absent a.client a.target
+    (tables_of a.counts.now a.clients.now a.links.now a.keys.now a.values.now a.log.now a.writes.now a.reads.now) c.requires a.bytes.now
+    (c.is_absent.ensures a.clients.now a.links.now a.keys.now a.values.now a.log.now a.writes.now a.reads.now) c.if-is_absent.true
 
 pub write_link-requires : goal.write_link-requires
 write_link-requires c =
     let a = c.args in
-    link-ready a.client a.target (tables_of a.counts.now a.clients.now a.links.now a.keys.now a.values.now a.log.now a.writes.now a.reads.now) c.requires (is_present a.client a.target (tables_of a.counts.now a.clients.now a.links.now a.keys.now a.values.now a.log.now a.writes.now a.reads.now) c.requires a.bytes.now (c.is_absent.ensures a.clients.now a.links.now a.keys.now a.values.now a.log.now a.writes.now a.reads.now) c.if-is_absent.false)
+    link-ready a.client a.target
+    (tables_of a.counts.now a.clients.now a.links.now a.keys.now a.values.now a.log.now a.writes.now a.reads.now) c.requires
+    (is_present a.client a.target
+    (tables_of a.counts.now a.clients.now a.links.now a.keys.now a.values.now a.log.now a.writes.now a.reads.now) c.requires a.bytes.now
+    (c.is_absent.ensures a.clients.now a.links.now a.keys.now a.values.now a.log.now a.writes.now a.reads.now) c.if-is_absent.false)
 
 pub returns : goal.returns
 returns c =
     let a = c.args in
-    let w : Words a.links.now a.values.now = record { link = λ j. omega (arith, c.shared_slice_known-3-1.given j); value = λ j. omega (arith, c.shared_slice_known-5-1.given j) } in
-    frame-written a.client a.target (tables_of a.counts.now a.clients.now a.links.now a.keys.now a.values.now a.log.now a.writes.now a.reads.now) c.requires a.bytes.now (c.is_absent.ensures a.clients.now a.links.now a.keys.now a.values.now a.log.now a.writes.now a.reads.now) c.if-is_absent.false w (c.write_link.ensures a.writes.now a.reads.now)
+    let w : Words a.links.now a.values.now =
+    record {
+      link = λ j. omega (arith, c.shared_slice_known-3-1.given j);
+      value = λ j. omega (arith, c.shared_slice_known-5-1.given j);
+    } in
+    frame-written a.client a.target
+    (tables_of a.counts.now a.clients.now a.links.now a.keys.now a.values.now a.log.now a.writes.now a.reads.now) c.requires a.bytes.now
+    (c.is_absent.ensures a.clients.now a.links.now a.keys.now a.values.now a.log.now a.writes.now a.reads.now) c.if-is_absent.false w
+    (c.write_link.ensures a.writes.now a.reads.now)

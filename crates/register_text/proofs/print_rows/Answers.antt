@@ -15,8 +15,14 @@ pub loop-i-preserved : goal.loop-i-preserved
 loop-i-preserved c =
     let l = c.loop-i in
     let a = c.args in
-    let p = c.print_row-next in
-    (printed-row a.out.now a.list.now a.at l.i (omega (arith, c.requires.rows_in_bounds.1)) l.invariant.0 p.ensures.0, (omega (arith, p.ensures.1, l.invariant.1.0), (omega (arith, c.loop-i-test.true), p.auto.out ∙ l.invariant.1.1.1)))
+    let p = c.print_row-next in (
+      printed-row a.out.now a.list.now a.at l.i (omega (arith, c.requires.rows_in_bounds.1)) l.invariant.0 p.ensures.0,
+      (omega (arith, p.ensures.1, l.invariant.1.0), (omega (arith, c.loop-i-test.true), p.auto.out ∙ l.invariant.1.1.1)),
+    )
 
 pub returns : goal.returns
-returns c = let l = c.loop-i in let a = c.args in let e : l.i ≡ a.rows = omega (arith, l.invariant.1.1.0, c.loop-i-test.false) in (subst (λ (n : ℕ). Printed a.out.now a.at (rows_text a.list.now n) l.next l.out) e l.invariant.0, omega (arith, l.invariant.1.0, e))
+returns c =
+    let l = c.loop-i in
+    let a = c.args in
+    let e : l.i ≡ a.rows = omega (arith, l.invariant.1.1.0, c.loop-i-test.false) in
+    (subst (λ (n : ℕ). Printed a.out.now a.at (rows_text a.list.now n) l.next l.out) e l.invariant.0, omega (arith, l.invariant.1.0, e))

@@ -8,7 +8,9 @@ use Rattle.register_text.specs.Text.{rows_text}
 use Rattle.register_text.proofs.print_rows.Given as goal
 
 abbrev pub invariant-loop-i : goal.invariant-loop-i
-invariant-loop-i l = Printed l.initial.out l.at (rows_text l.list l.i) l.next l.out × ((l.next ≤ l.at + record_most * l.i) × ((l.i ≤ l.rows) × (length l.out ≡ length l.initial.out)))
+invariant-loop-i l =
+    Printed l.initial.out l.at (rows_text l.list l.i) l.next l.out
+    × ((l.next ≤ l.at + record_most * l.i) × ((l.i ≤ l.rows) × (length l.out ≡ length l.initial.out)))
 
 abbrev pub decreases-loop-i : goal.decreases-loop-i
 decreases-loop-i l = l.rows - l.i

@@ -9,10 +9,16 @@ use Rattle.store.specs.Unsound.{unsound-read}
 use Rattle.store.proofs.begin_read.Goals as goal
 
 pub returns-then-not-sound : goal.returns-then-not-sound
-returns-then-not-sound c = let a = c.args in unsound-read (tables_of a.counts.now a.clients.now a.links.now a.keys.now a.values.now a.log.now a.writes.now a.reads.now) c.sound.ensures (ap not c.if-not-sound.true) a.client a.mask
+returns-then-not-sound c =
+    let a = c.args in
+    unsound-read (tables_of a.counts.now a.clients.now a.links.now a.keys.now a.values.now a.log.now a.writes.now a.reads.now)
+    c.sound.ensures (ap not c.if-not-sound.true) a.client a.mask
 
 pub begin_read_sound-requires : goal.begin_read_sound-requires
-begin_read_sound-requires c = let a = c.args in sound_facts (tables_of a.counts.now a.clients.now a.links.now a.keys.now a.values.now a.log.now a.writes.now a.reads.now) (sym c.sound.ensures ∙ not-false _ (ap not c.if-not-sound.false))
+begin_read_sound-requires c =
+    let a = c.args in
+    sound_facts (tables_of a.counts.now a.clients.now a.links.now a.keys.now a.values.now a.log.now a.writes.now a.reads.now)
+    (sym c.sound.ensures ∙ not-false _ (ap not c.if-not-sound.false))
 
 pub shape_of-counts-then-not-sound : goal.shape_of-counts-then-not-sound
 shape_of-counts-then-not-sound c = search

@@ -15,7 +15,10 @@ returns-then-not-sound c =
     a.setpoints.now
 
 pub begin_write_sound-requires : goal.begin_write_sound-requires
-begin_write_sound-requires c = let a = c.args in sound_facts (tables_of a.counts.now a.clients.now a.links.now a.keys.now a.values.now a.log.now a.writes.now a.reads.now) (sym c.sound.ensures ∙ not-false _ (ap not c.if-not-sound.false))
+begin_write_sound-requires c =
+    let a = c.args in
+    sound_facts (tables_of a.counts.now a.clients.now a.links.now a.keys.now a.values.now a.log.now a.writes.now a.reads.now)
+    (sym c.sound.ensures ∙ not-false _ (ap not c.if-not-sound.false))
 
 pub shape_of-counts-then-not-sound : goal.shape_of-counts-then-not-sound
 shape_of-counts-then-not-sound c = search

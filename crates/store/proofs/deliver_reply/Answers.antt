@@ -9,12 +9,16 @@ use Rattle.store.specs.Unsound.{unsound-reply}
 use Rattle.store.proofs.deliver_reply.Goals as goal
 
 pub returns-then-not-sound : goal.returns-then-not-sound
-returns-then-not-sound c = let a = c.args in unsound-reply (tables_of a.counts.now a.clients.now a.links.now a.keys.now a.values.now a.log.now a.writes.now a.reads.now) c.sound.ensures (ap not c.if-not-sound.true) a.client a.target c.showing_nothing.ensures
+returns-then-not-sound c =
+    let a = c.args in
+    unsound-reply (tables_of a.counts.now a.clients.now a.links.now a.keys.now a.values.now a.log.now a.writes.now a.reads.now)
+    c.sound.ensures (ap not c.if-not-sound.true) a.client a.target c.showing_nothing.ensures
 
 pub deliver_reply_sound-requires : goal.deliver_reply_sound-requires
 deliver_reply_sound-requires c =
     let a = c.args in
-    sound_facts (tables_of a.counts.now a.clients.now a.links.now a.keys.now a.values.now a.log.now a.writes.now a.reads.now) (sym c.sound.ensures ∙ not-false _ (ap not c.if-not-sound.false))
+    sound_facts (tables_of a.counts.now a.clients.now a.links.now a.keys.now a.values.now a.log.now a.writes.now a.reads.now)
+    (sym c.sound.ensures ∙ not-false _ (ap not c.if-not-sound.false))
 
 pub returns : goal.returns
 returns c = c.deliver_reply_sound.ensures

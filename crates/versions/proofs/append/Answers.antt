@@ -5,11 +5,13 @@ use Rattle.versions.proofs.append.Goals as goal
 
 pub offset_bounds-versions-held : goal.offset_bounds-versions-held
 offset_bounds-versions-held c =
-    let h : c.args.held < length c.args.versions.now = done-place c.args.versions.now c.args.held c.args.version (sym c.append_number-number.ensures ∙ c.if-number-eq0.true) in
+    let h : c.args.held < length c.args.versions.now = done-place c.args.versions.now c.args.held c.args.version
+    (sym c.append_number-number.ensures ∙ c.if-number-eq0.true) in
     search rules
 
 pub bounds-versions-held : goal.bounds-versions-held
-bounds-versions-held c = done-place c.args.versions.now c.args.held c.args.version (sym c.append_number-number.ensures ∙ c.if-number-eq0.true)
+bounds-versions-held c =
+    done-place c.args.versions.now c.args.held c.args.version (sym c.append_number-number.ensures ∙ c.if-number-eq0.true)
 
 pub returns-then-number-eq0 : goal.returns-then-number-eq0
 returns-then-number-eq0 c = (

@@ -22,11 +22,13 @@ bounds-versions-place c =
 
 pub returns-then-bears_key : goal.returns-then-bears_key
 returns-then-bears_key c =
-    sought-found (bears_at c.args.versions.now c.args.key) c.readable_of-readable.result c.loop-place.invariant (sym c.bears_key.ensures ∙ c.if-bears_key.true)
+    sought-found (bears_at c.args.versions.now c.args.key) c.readable_of-readable.result c.loop-place.invariant
+    (sym c.bears_key.ensures ∙ c.if-bears_key.true)
     ∙ ap (λ n. first_below (bears_at c.args.versions.now c.args.key) n) c.readable_of-readable.ensures
 
 pub returns : goal.returns
 returns c =
-    let e = sought-end (bears_at c.args.versions.now c.args.key) c.readable_of-readable.result c.loop-place.invariant c.loop-place-test.false in
+    let e = sought-end (bears_at c.args.versions.now c.args.key) c.readable_of-readable.result c.loop-place.invariant
+    c.loop-place-test.false in
     let n : c.readable_of-readable.result ≡ c.loop-place.place = omega (arith, c.loop-place.invariant.within) in
     n ∙ e ∙ ap (λ n. first_below (bears_at c.args.versions.now c.args.key) n) c.readable_of-readable.ensures
