@@ -38,7 +38,7 @@ print_end-end-requires c =
     let room = room_there c.count_lines-lines.ensures c.has_room.ensures (ap not c.if-not-has_room.false) in
     record {
       playable = l.ensures.playable;
-      register_most_in_bounds = omega (arith, l.ensures.short, room, l.kept.1.1.1.1.1.1.1.1.1.0);
+      register_most_in_bounds = omega (arith, l.ensures.short, room, l.auto.out);
     }
 
 pub returns : goal.returns
