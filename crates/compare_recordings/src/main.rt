@@ -63,7 +63,7 @@ fn read_full(opened: &mut impl Read, space: &mut [u8]) -> io::Result<usize>
     Ok(held)
 }
 
-// The file that was opened; one byte more is asked for, to see that it ends.
+// The file that was opened; one byte more is asked for, to see that it ends. Where the reading fails, nothing is said of the buffer.
 fn read_open(
     rt: &impl Eprint,
     opened: &mut impl Read,
@@ -89,7 +89,7 @@ fn read_open(
     })
 }
 
-// The file of a name.
+// The file of a name. Where the reading fails, nothing is said of the buffer.
 fn read_file(rt: &(impl Files + Eprint), name: &str, file: &mut [u8]) -> io::Result<Held>
     ensures { IfOk result (λ r. Holds r.read r.bytes file.new) }
 {
@@ -108,7 +108,7 @@ fn name_at<'a>(rt: &impl Env, place: usize, space: &'a mut [u8; NAME]) -> io::Re
     }
 }
 
-// The file that an argument names.
+// The file that an argument names. Where it is not read, that is said, and nothing of the buffer.
 fn read_named(rt: &(impl Env + Files + Eprint), place: usize, file: &mut [u8]) -> io::Result<Held>
     ensures { IfOk result (λ r. Holds r.read r.bytes file.new) }
 {

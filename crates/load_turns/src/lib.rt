@@ -1,7 +1,7 @@
 // The turns of the program that prints a load, on lent tables: the store is opened, then each turn picks a step, plays it, prints its line.
 #![tactic(auto)]
 
-ghost use Rattle.std.specs.Prelude.{◌≡◌, cond, ◌≤◌, ◌<◌, leb, length, IfOk, OnErr};
+ghost use Rattle.std.specs.Prelude.{◌≡◌, ◌-◌, cond, ◌≤◌, ◌<◌, leb, length, IfOk, OnErr};
 ghost use Rattle.tables.specs.Tables.{tables_of};
 ghost use Rattle.soundness.specs.Facts.{Sound};
 ghost use Rattle.printing.specs.Sizes.{answer_most};
@@ -71,8 +71,8 @@ pub fn begin_load(
     }
 }
 
-// One turn: a pick, and the line of the step that it gives behind what is printed so far. Where the writing fails, the tables and the print are
-// as they were.
+// One turn: a pick, and the line of the step that it gives behind what is printed so far. An error comes only where the print is written out,
+// and the tables and the print are as they were then.
 pub fn give_step(
     output: &Stdout,
     run: Giving,
@@ -95,6 +95,7 @@ pub fn give_step(
         values.new log.new writes.new reads.new)) }
     ensures failed_tables { OnErr result (tables_of counts.new clients.new links.new keys.new values.new log.new writes.new reads.new ≡ tables_of counts.old clients.old links.old keys.old values.old log.old writes.old reads.old) }
     ensures failed_print { OnErr result (out.new ≡ out.old) }
+    ensures failed_full { OnErr result (length out.old - answer_most < run.used) }
 {
     let at = window::room_from(output, run.used, &*out)?;
     let servers = counts::count_at(&*counts, counts::SERVERS);

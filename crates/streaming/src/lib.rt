@@ -1,7 +1,7 @@
 // Plays a text of any length from standard input through a window, line by line, and prints the answers, gathered, to standard output.
 #![tactic(auto)]
 
-ghost use Rattle.std.specs.Prelude.{◌≡◌, ◌+◌, ◌-◌, ◌≤◌, ◌<◌, cond, length, take, drop, IfOk, OnErr};
+ghost use Rattle.std.specs.Prelude.{◌≡◌, ◌+◌, ◌-◌, ◌≤◌, ◌<◌, ◌⊎◌, true, cond, length, take, drop, IfOk, OnErr};
 ghost use Rattle.tables.specs.Tables.{tables_of};
 ghost use Rattle.schedule.specs.Steps.{setpoints_most};
 ghost use Rattle.printing.specs.Printed.{Printed};
@@ -69,9 +69,9 @@ fn answer_line(
     window::pass(run, size, number, used)
 }
 
-// One turn: a line whose end is held, or that is too long, is answered; else more is read. Where the reading or the writing fails, the tables
-// and the print are as they were, and what was held and not yet played stands in the window: at its front where more was wanted, else where it
-// stood.
+// One turn: a line whose end is held, or that is too long, is answered; else more is read. An error comes only where more is read or the print
+// is written out. Then the tables and the print are as they were, and what was held and not yet played stands in the window: at its front where
+// more was wanted, else where it stood.
 fn turn(
     input: &mut Stdin,
     output: &Stdout,
@@ -94,6 +94,7 @@ fn turn(
     ensures turned { IfOk result (λ r. Turned run window.old out.old (tables_of counts.old clients.old links.old keys.old values.old log.old writes.old reads.old) r window.new out.new (tables_of counts.new clients.new links.new keys.new values.new log.new writes.new reads.new)) }
     ensures failed_tables { OnErr result (tables_of counts.new clients.new links.new keys.new values.new log.new writes.new reads.new ≡ tables_of counts.old clients.old links.old keys.old values.old log.old writes.old reads.old) }
     ensures failed_print { OnErr result (out.new ≡ out.old) }
+    ensures failed_only { OnErr result ((wants_more run window.old ≡ true) ⊎ (length out.old - answer_most < run.used)) }
     ensures failed_window { OnErr result (take (run.held - run.from) (drop (cond (wants_more run window.old) 0 run.from) window.new) ≡ held_by run window.old) }
 {
     let from = run.from;

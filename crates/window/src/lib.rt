@@ -126,11 +126,13 @@ pub fn read_on(input: &mut Stdin, run: Run, window: &mut [u8]) -> io::Result<Run
     })
 }
 
-// Writes the print out where it is nearly full. It answers where the print goes on. Where the writing fails, nothing that is lent is changed.
+// Writes the print out where it is nearly full. It answers where the print goes on. An error comes only where the print is written out, and
+// nothing that is lent is changed then.
 #[tactic(auto, unfolding(crate::specs::Window::room_from))]
 pub fn room_from(output: &Stdout, used: usize, out: &[u8]) -> io::Result<usize>
     requires { (used ≤ length out.now) × (answer_most ≤ length out.now) }
-    ensures { IfOk result (λ next. next ≡ room_from used (length out.now)) }
+    ensures went_on { IfOk result (λ next. next ≡ room_from used (length out.now)) }
+    ensures failed { OnErr result (length out.now - answer_most < used) }
 {
     if out.len() - printing::ANSWER < used {
         output.write_all(&out[..used])?;
@@ -139,10 +141,11 @@ pub fn room_from(output: &Stdout, used: usize, out: &[u8]) -> io::Result<usize>
     Ok(used)
 }
 
-// The run with room for an answer in its print. Where the writing fails, nothing that is lent is changed.
+// The run with room for an answer in its print. An error comes only where the print is written out, and nothing that is lent is changed then.
 pub fn make_room(output: &Stdout, run: Run, out: &[u8]) -> io::Result<Run>
     requires { (run.used ≤ length out.now) × (answer_most ≤ length out.now) }
-    ensures { IfOk result (λ r. r ≡ roomy run (room_from run.used (length out.now))) }
+    ensures went_on { IfOk result (λ r. r ≡ roomy run (room_from run.used (length out.now))) }
+    ensures failed { OnErr result (length out.now - answer_most < run.used) }
 {
     Ok(Run {
         left: run.left,

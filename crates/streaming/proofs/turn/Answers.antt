@@ -44,12 +44,12 @@ returns-in_err-ready-clause-failed_window c =
 pub answer_line-requires-clause-line_bound : goal.answer_line-requires-clause-line_bound
 answer_line-requires-clause-line_bound c =
     let g = c.requires.going in
-    ready-fits c.args.run c.args.window.now c.args.out.now g.0 g.1 _ c.line_at-line.ensures c.in_ok-ready.ready c.in_ok-ready.ensures
+    ready-fits c.args.run c.args.window.now c.args.out.now g.0 g.1 _ c.line_at-line.ensures c.in_ok-ready.ready c.in_ok-ready.ensures.went_on
 
 pub answer_line-requires-clause-answer_most_in_bounds : goal.answer_line-requires-clause-answer_most_in_bounds
 answer_line-requires-clause-answer_most_in_bounds c =
     let g = c.requires.going in
-    ready_room c.args.run c.args.window.now c.args.out.now g.0 g.1 _ c.line_at-line.ensures c.in_ok-ready.ready c.in_ok-ready.ensures
+    ready_room c.args.run c.args.window.now c.args.out.now g.0 g.1 _ c.line_at-line.ensures c.in_ok-ready.ready c.in_ok-ready.ensures.went_on
 
 pub returns-clause-turned : goal.returns-clause-turned
 returns-clause-turned c =
@@ -59,5 +59,5 @@ returns-clause-turned c =
     let ends = sym c.lacks_end.ensures ∙ c.if-lacks_end.false in
     let n = c.answer_line.new in
     turned-made a.run a.window.now a.out.now t p.going.0 p.playable p.going.1 _ c.line_at-line.ensures c.in_ok-ready.ready
-    c.in_ok-ready.ensures ends c.answer_line.result n.out (tables_of n.counts n.clients n.links n.keys n.values n.log n.writes n.reads)
+    c.in_ok-ready.ensures.went_on ends c.answer_line.result n.out (tables_of n.counts n.clients n.links n.keys n.values n.log n.writes n.reads)
     c.answer_line.ensures c.answer_line.auto.out
