@@ -48,21 +48,6 @@ fn unread() -> Held
     }
 }
 
-// Reads until the space is full or the file ends, and answers how many bytes came.
-fn read_full(opened: &mut impl Read, space: &mut [u8]) -> io::Result<usize>
-    ensures { IfOk result (λ held. held ≤ length space.new) }
-{
-    let mut held = 0;
-    while held < space.len() {
-        let came = opened.read(&mut space[held..])?;
-        if came == 0 {
-            break;
-        }
-        held += came;
-    }
-    Ok(held)
-}
-
 // The file that was opened; one byte more is asked for, to see that it ends. Where the reading fails, nothing is said of the buffer.
 fn read_open(
     rt: &impl Eprint,
@@ -72,7 +57,7 @@ fn read_open(
 ) -> io::Result<Held>
     ensures { IfOk result (λ r. Holds r.read r.bytes file.new) }
 {
-    let held = read_full(opened, file)?;
+    let held = window::read_full(opened, file)?;
     let mut more = [0u8; 1];
     let got = opened.read(&mut more)?;
     if 0 < got {

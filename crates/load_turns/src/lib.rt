@@ -11,7 +11,7 @@ ghost use Rattle.load_text.specs.Given.{begins, picks, Gave};
 use load_text::{Asked, Giving};
 use rules::Answer;
 use std::io;
-use std::io::{Print, Read, Stdin, Stdout};
+use std::io::{Print, Stdin, Stdout};
 use tables::counts;
 use workload::Next;
 
@@ -105,27 +105,12 @@ pub fn give_step(
     Ok(load_text::print_next(run, next, servers, out, at))
 }
 
-// Reads until the space is full or the text ends, and answers how many bytes came.
-fn read_full(input: &mut Stdin, space: &mut [u8]) -> io::Result<usize>
-    ensures { IfOk result (λ held. held ≤ length space.new) }
-{
-    let mut held = 0;
-    while held < space.len() {
-        let came = input.read(&mut space[held..])?;
-        if came == 0 {
-            break;
-        }
-        held += came;
-    }
-    Ok(held)
-}
-
 // Reads the line that asks for a load from standard input and prints the load, opening first, as a schedule; or `no` and the number.
 // It is lent no table and answers nothing but an error of reading or writing, so that no contract is left to state: what the system reads and
 // writes is in none. What it does is in those of `read_asked`, `begin_load` and `give_step`, and that it ends is part of its proof.
 pub fn print_load(input: &mut Stdin, output: &Stdout) -> io::Result<()> {
     let mut text = [0u8; TEXT];
-    let held = read_full(input, &mut text)?;
+    let held = window::read_full(input, &mut text)?;
     let asked = load_text::read_asked(line_reading::line_at(&text[..held], 0));
     let mut counts = [0u32; counts::WORDS];
     let mut clients = [0u32; streaming::CLIENTS];

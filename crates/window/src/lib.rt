@@ -61,6 +61,21 @@ pub fn pass(run: Run, size: usize, lines: u64, used: usize) -> Run
     }
 }
 
+// Reads until the space is full or the input ends, and answers how many bytes came.
+pub fn read_full(input: &mut impl Read, space: &mut [u8]) -> io::Result<usize>
+    ensures { IfOk result (λ held. held ≤ length space.new) }
+{
+    let mut held = 0;
+    while held < space.len() {
+        let came = input.read(&mut space[held..])?;
+        if came == 0 {
+            break;
+        }
+        held += came;
+    }
+    Ok(held)
+}
+
 // Moves the bytes from..held of the window to its front, and answers how many they are.
 fn slide(window: &mut [u8], from: usize, held: usize) -> usize
     requires { (from ≤ held) × (held ≤ length window.old) }

@@ -1,6 +1,6 @@
 -- What came is within the space.
 use Rattle.std.proofs.Common.{length, ◌-◌, ◌≤◌}
-use Rattle.compare_recordings.proofs.read_full.Given as goal
+use Rattle.window.proofs.read_full.Given as goal
 
 abbrev pub invariant-loop-held : goal.invariant-loop-held
 invariant-loop-held g l = l.held ≤ length l.space
