@@ -3,84 +3,53 @@
 #![tactic(auto)]
 
 ghost use Rattle.std.specs.Prelude.{◌≡◌};
-ghost use Rattle.tables.specs.Tables.{tables_of, servers_of, clients_of};
+ghost use Rattle.tables.specs.Lent.{tables_lent};
+ghost use Rattle.tables.specs.Tables.{servers_of, clients_of};
 ghost use Rattle.soundness.specs.Sound.{long_enough, sound};
 ghost use Rattle.soundness.specs.Parts.{rest_sound};
 ghost use Rattle.soundness.specs.Asked.{TablesThere};
 
 use sound_lengths::lengths;
 use tables::counts;
+use tables::lent::Lent;
 
 mod progress;
 
 // Long enough for the servers and clients that the counts name.
-fn tables_long(
-    counts: &[u32],
-    clients: &[u32],
-    links: &[u32],
-    keys: &[u32],
-    values: &[u32],
-    log: &[u32],
-    writes: &[u32],
-    reads: &[u32],
-) -> bool
-    ensures { let t = tables_of counts.now clients.now links.now keys.now values.now log.now writes.now reads.now in
-        result ≡ long_enough (servers_of t) (clients_of t) t }
+fn tables_long(t: &Lent) -> bool
+    ensures { result ≡ long_enough (servers_of (tables_lent t.now)) (clients_of (tables_lent t.now)) (tables_lent t.now) }
 {
-    if counts.len() < counts::WORDS {
+    if t.counts.len() < counts::WORDS {
         return false;
     }
-    let servers = counts::count_at(counts, counts::SERVERS);
-    let rows = counts::count_at(counts, counts::CLIENTS);
-    lengths::long_enough(
-        servers, rows, counts, clients, links, keys, values, log, writes, reads,
-    )
+    let servers = counts::count_at(t.counts, counts::SERVERS);
+    let rows = counts::count_at(t.counts, counts::CLIENTS);
+    lengths::long_enough(servers, rows, t)
 }
 
 // The conditions behind the lengths and the scalars.
-fn rest_sound(
-    counts: &[u32],
-    clients: &[u32],
-    links: &[u32],
-    keys: &[u32],
-    values: &[u32],
-    log: &[u32],
-    writes: &[u32],
-    reads: &[u32],
-) -> bool
-    requires { TablesThere counts.now clients.now links.now keys.now values.now log.now writes.now reads.now }
-    ensures { result ≡ rest_sound
-        (tables_of counts.now clients.now links.now keys.now
-        values.now log.now writes.now reads.now) }
+fn rest_sound(t: &Lent) -> bool
+    requires { let u = tables_lent t.now in TablesThere u.counts u.clients u.links u.keys u.values u.log u.writes u.reads }
+    ensures { result ≡ rest_sound (tables_lent t.now) }
 {
-    if !sound_stores::stores_sound(counts, keys, values, log) {
+    if !sound_stores::stores_sound(t.counts, t.keys, t.values, t.log) {
         return false;
     }
-    if !sound_clients::clients_sound(counts, clients, links) {
+    if !sound_clients::clients_sound(t.counts, t.clients, t.links) {
         return false;
     }
-    sound_records::history_sound(counts, clients, writes, reads)
+    sound_records::history_sound(t.counts, t.clients, t.writes, t.reads)
 }
 
 // Whether the tables are sound, whatever they hold and however short they are.
-pub fn sound(
-    counts: &[u32],
-    clients: &[u32],
-    links: &[u32],
-    keys: &[u32],
-    values: &[u32],
-    log: &[u32],
-    writes: &[u32],
-    reads: &[u32],
-) -> bool
-    ensures { result ≡ sound
-        (tables_of counts.now clients.now links.now keys.now values.now log.now writes.now reads.now) }
+pub fn sound(t: &Lent) -> bool
+    ensures { result ≡ sound (tables_lent t.now) }
 {
-    if !tables_long(counts, clients, links, keys, values, log, writes, reads) {
+    if !tables_long(t) {
         return false;
     }
-    if !progress::scalars_sound(counts) {
+    if !progress::scalars_sound(t.counts) {
         return false;
     }
-    rest_sound(counts, clients, links, keys, values, log, writes, reads)
+    rest_sound(t)
 }

@@ -6,3 +6,4 @@ pub mod LinkLaws
 pub mod Entries
 pub mod Tables
 pub mod Values
+pub mod Lent

@@ -3,6 +3,7 @@
 
 pub mod clients;
 pub mod counts;
+pub mod lent;
 pub mod links;
 pub mod log;
 pub mod records;

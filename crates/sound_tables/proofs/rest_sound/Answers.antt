@@ -2,23 +2,17 @@
 use mathlib.Core.Bool.{not}
 use mathlib.Core.Path.{ap}
 use Rattle.ranges.specs.Tests.{fails, holds}
-use Rattle.tables.specs.Tables.{tables_of}
+use Rattle.tables.specs.Lent.{tables_lent}
 use Rattle.sound_tables.proofs.rest_sound.Goals as goal
 
 pub returns-then-not-stores_sound : goal.returns-then-not-stores_sound
 returns-then-not-stores_sound c =
-    let a = c.args in
-    let u =
-    tables_of a.counts.now a.clients.now a.links.now a.keys.now a.values.now a.log.now a.writes.now
-    a.reads.now in
+    let u = tables_lent c.args.t.now in
     rw (fails (c.stores_sound.ensures u) (ap not c.if-not-stores_sound.true))
 
 pub returns-then-not-clients_sound : goal.returns-then-not-clients_sound
 returns-then-not-clients_sound c =
-    let a = c.args in
-    let u =
-    tables_of a.counts.now a.clients.now a.links.now a.keys.now a.values.now a.log.now a.writes.now
-    a.reads.now in
+    let u = tables_lent c.args.t.now in
     rw (
       holds (c.stores_sound.ensures u) (ap not c.if-not-stores_sound.false),
       fails (c.clients_sound.ensures u) (ap not c.if-not-clients_sound.true),
@@ -26,10 +20,7 @@ returns-then-not-clients_sound c =
 
 pub returns : goal.returns
 returns c =
-    let a = c.args in
-    let u =
-    tables_of a.counts.now a.clients.now a.links.now a.keys.now a.values.now a.log.now a.writes.now
-    a.reads.now in
+    let u = tables_lent c.args.t.now in
     rw (
       holds (c.stores_sound.ensures u) (ap not c.if-not-stores_sound.false),
       holds (c.clients_sound.ensures u) (ap not c.if-not-clients_sound.false),

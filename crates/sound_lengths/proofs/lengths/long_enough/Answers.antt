@@ -5,73 +5,73 @@ use Rattle.tables.specs.Layout.{count_words, entry_width, log_places, record_wid
 use Rattle.soundness.specs.Sound.{long_enough}
 use Rattle.sound_lengths.proofs.lengths.long_enough.Goals as goal
 
-pub returns-then-counts-lt-WORDS : goal.returns-then-counts-lt-WORDS
+pub returns-then-t-lt-WORDS : goal.returns-then-t-lt-WORDS
 unfolding long_enough
-returns-then-counts-lt-WORDS c = rw (lt-leb count_words _ c.if-counts-lt-WORDS.true)
+returns-then-t-lt-WORDS c = rw (lt-leb count_words _ c.if-t-lt-WORDS.true)
 
-pub returns-then-clients-rows : goal.returns-then-clients-rows
+pub returns-then-t-rows : goal.returns-then-t-rows
 unfolding long_enough
-returns-then-clients-rows c = rw (le-leb count_words _ c.if-counts-lt-WORDS.false, lt-leb _ _ c.if-clients-rows.true)
+returns-then-t-rows c = rw (le-leb count_words _ c.if-t-lt-WORDS.false, lt-leb _ _ c.if-t-rows.true)
 
-pub returns-then-links-rows : goal.returns-then-links-rows
+pub returns-then-t-rows-2 : goal.returns-then-t-rows-2
 unfolding long_enough
-returns-then-links-rows c = rw (le-leb count_words _ c.if-counts-lt-WORDS.false, le-leb _ _ c.if-clients-rows.false, lt-leb _ _ c.if-links-rows.true)
+returns-then-t-rows-2 c = rw (le-leb count_words _ c.if-t-lt-WORDS.false, le-leb _ _ c.if-t-rows.false, lt-leb _ _ c.if-t-rows-2.true)
 
-pub returns-then-keys-servers : goal.returns-then-keys-servers
+pub returns-then-t-servers : goal.returns-then-t-servers
 unfolding long_enough
-returns-then-keys-servers c =
+returns-then-t-servers c =
     rw (
-      le-leb count_words _ c.if-counts-lt-WORDS.false,
-      le-leb _ _ c.if-clients-rows.false,
-      le-leb _ _ c.if-links-rows.false,
-      lt-leb _ _ c.if-keys-servers.true,
+      le-leb count_words _ c.if-t-lt-WORDS.false,
+      le-leb _ _ c.if-t-rows.false,
+      le-leb _ _ c.if-t-rows-2.false,
+      lt-leb _ _ c.if-t-servers.true,
     )
 
-pub returns-then-values-servers : goal.returns-then-values-servers
+pub returns-then-t-servers-2 : goal.returns-then-t-servers-2
 unfolding long_enough
-returns-then-values-servers c =
+returns-then-t-servers-2 c =
     rw (
-      le-leb count_words _ c.if-counts-lt-WORDS.false,
-      le-leb _ _ c.if-clients-rows.false,
-      le-leb _ _ c.if-links-rows.false,
-      le-leb _ _ c.if-keys-servers.false,
-      lt-leb _ _ c.if-values-servers.true,
+      le-leb count_words _ c.if-t-lt-WORDS.false,
+      le-leb _ _ c.if-t-rows.false,
+      le-leb _ _ c.if-t-rows-2.false,
+      le-leb _ _ c.if-t-servers.false,
+      lt-leb _ _ c.if-t-servers-2.true,
     )
 
-pub returns-then-log : goal.returns-then-log
+pub returns-then-t : goal.returns-then-t
 unfolding long_enough
-returns-then-log c =
+returns-then-t c =
     rw (
-      le-leb count_words _ c.if-counts-lt-WORDS.false,
-      le-leb _ _ c.if-clients-rows.false,
-      le-leb _ _ c.if-links-rows.false,
-      le-leb _ _ c.if-keys-servers.false,
-      le-leb _ _ c.if-values-servers.false,
-      lt-leb (entry_width * log_places) _ c.if-log.true,
+      le-leb count_words _ c.if-t-lt-WORDS.false,
+      le-leb _ _ c.if-t-rows.false,
+      le-leb _ _ c.if-t-rows-2.false,
+      le-leb _ _ c.if-t-servers.false,
+      le-leb _ _ c.if-t-servers-2.false,
+      lt-leb (entry_width * log_places) _ c.if-t.true,
     )
 
-pub returns-then-writes : goal.returns-then-writes
+pub returns-then-t-2 : goal.returns-then-t-2
 unfolding long_enough
-returns-then-writes c =
+returns-then-t-2 c =
     rw (
-      le-leb count_words _ c.if-counts-lt-WORDS.false,
-      le-leb _ _ c.if-clients-rows.false,
-      le-leb _ _ c.if-links-rows.false,
-      le-leb _ _ c.if-keys-servers.false,
-      le-leb _ _ c.if-values-servers.false,
-      le-leb (entry_width * log_places) _ c.if-log.false,
-      lt-leb (record_width * record_places) _ c.if-writes.true,
+      le-leb count_words _ c.if-t-lt-WORDS.false,
+      le-leb _ _ c.if-t-rows.false,
+      le-leb _ _ c.if-t-rows-2.false,
+      le-leb _ _ c.if-t-servers.false,
+      le-leb _ _ c.if-t-servers-2.false,
+      le-leb (entry_width * log_places) _ c.if-t.false,
+      lt-leb (record_width * record_places) _ c.if-t-2.true,
     )
 
 pub returns : goal.returns
 unfolding long_enough
 returns c =
     rw (
-      le-leb count_words _ c.if-counts-lt-WORDS.false,
-      le-leb _ _ c.if-clients-rows.false,
-      le-leb _ _ c.if-links-rows.false,
-      le-leb _ _ c.if-keys-servers.false,
-      le-leb _ _ c.if-values-servers.false,
-      le-leb (entry_width * log_places) _ c.if-log.false,
-      le-leb (record_width * record_places) _ c.if-writes.false,
+      le-leb count_words _ c.if-t-lt-WORDS.false,
+      le-leb _ _ c.if-t-rows.false,
+      le-leb _ _ c.if-t-rows-2.false,
+      le-leb _ _ c.if-t-servers.false,
+      le-leb _ _ c.if-t-servers-2.false,
+      le-leb (entry_width * log_places) _ c.if-t.false,
+      le-leb (record_width * record_places) _ c.if-t-2.false,
     )

@@ -1,0 +1,2 @@
+-- The causes of a refusal, and their numbers.
+pub mod Numbers
