@@ -3,8 +3,8 @@ use Rattle.std.specs.Prelude.{ℕ, ◌≡◌, List}
 use Rattle.tables.specs.Links.{put_link}
 use Rattle.tables.specs.Tables.{Tables, tables_of}
 use Rattle.tables.specs.declared.links.Content.{Content}
-use Rattle.rules.specs.declared.Answer.{Answer}
-use Rattle.rules.specs.declared.Answer.TheVariants.{Ok}
+use Rattle.rules.specs.Answer.{Answer}
+use Rattle.rules.specs.Answer.{Ok}
 use Rattle.rules.specs.Answers.{Left, left}
 use Rattle.rules.specs.Common.{counted}
 

@@ -2,7 +2,7 @@
 use Rattle.std.specs.Prelude.{ℕ, ◌≡◌, List}
 use Rattle.std.proofs.Common.{eq-eqb, ne_eqb}
 use Rattle.tables.specs.Tables.{Tables, entries_of, held_of}
-use Rattle.rules.specs.declared.Answer.{Answer}
+use Rattle.rules.specs.Answer.{Answer}
 use Rattle.rules.specs.Common.{coordinator, reply}
 use Rattle.rules.specs.Request.{on_which_keys, on_get_all}
 use Rattle.answers.specs.Answered.{Answered, replaced}

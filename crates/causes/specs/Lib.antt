@@ -1,2 +1,3 @@
 -- The causes of a refusal, and their numbers.
 pub mod Numbers
+pub mod NumberLaws

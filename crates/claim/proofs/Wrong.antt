@@ -10,7 +10,7 @@ use Rattle.ranges.specs.Inserted.{inserted}
 use Rattle.tables.specs.Links.{link_at, put_link}
 use Rattle.server.specs.Held.{appended}
 use Rattle.coordinator.specs.Log as log
-use Rattle.rules.specs.declared.Answer.TheVariants.{Ok}
+use Rattle.rules.specs.Answer.{Ok}
 use Rattle.rules.specs.Begin.{begun_write, begun_read}
 use Rattle.rules.specs.Request.{on_set, on_new_set, on_enter, on_new_enter, on_which_keys, on_get, on_get_all, on_request_in, request_delivered}
 use Rattle.rules.specs.Reply.{on_set_done, on_entered, on_keys, on_got, on_all, on_reply_in, reply_delivered}

@@ -1,6 +1,6 @@
 -- What it means that a wrong store breaks fields of the claim and no other; and that a computed list of tests shows it.
 use Rattle.std.specs.Prelude.{ℕ, ◌≡◌, refl, Bool, List, [], ◌∷◌, map}
-use Rattle.rules.specs.declared.Answer.TheVariants.{Ok}
+use Rattle.rules.specs.Answer.{Ok}
 use Rattle.claim.specs.Steps.{Step, opening, opened, Played, Machine, run}
 use Rattle.claim.specs.History.{History, opened_with, history}
 use Rattle.claim.specs.Claim.{Claim, Demand3}

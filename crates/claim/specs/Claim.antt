@@ -6,8 +6,8 @@ use Rattle.keys.specs.Masks.{servers_in}
 use Rattle.tables.specs.declared.links.Content.{Content}
 use Rattle.tables.specs.declared.links.Content.TheVariants.{Nothing, Request, Reply, Lost}
 use Rattle.tables.specs.Tables.{Tables, content_at}
-use Rattle.rules.specs.declared.Answer.{Answer}
-use Rattle.rules.specs.declared.Answer.TheVariants.{Ok, Refused}
+use Rattle.rules.specs.Answer.{Answer}
+use Rattle.rules.specs.Answer.{Ok, Refused}
 use Rattle.claim.specs.Steps.{Event, opened, begun-write, begun-read, requested, replied, lost, resent, Played, Machine}
 use Rattle.claim.specs.History.{Transaction, Doing, nothing, writing, tagged, reading, History, history, BehindOpenings}
 use Rattle.claim.specs.Row.{row, Walk, RealTime}

@@ -1,10 +1,10 @@
 -- What follows beside demand 3 for the same lists of steps.
 use Rattle.std.specs.Prelude.{ℕ, suc, ◌≡◌, true, List, [], ◌∷◌}
 use Rattle.ranges.specs.Each.{Each}
-use Rattle.rules.specs.declared.Answer.{Answer}
-use Rattle.rules.specs.declared.Answer.TheVariants as answer
-use Rattle.rules.specs.declared.Arrival.{Arrival}
-use Rattle.rules.specs.declared.Arrival.TheVariants as arrival
+use Rattle.rules.specs.Answer.{Answer}
+use Rattle.rules.specs.Answer as answer
+use Rattle.rules.specs.Arrival.{Arrival}
+use Rattle.rules.specs.Arrival as arrival
 use Rattle.tables.specs.Tables.{Tables, step_of}
 use Rattle.soundness.specs.Sound.{sound}
 use Rattle.claim.specs.Steps.{Event, opened, begun-write, begun-read, requested, replied, lost, resent, Played, Machine, left_by}

@@ -1,8 +1,8 @@
 -- "Demand 3 is a single claim about a whole list of steps": the steps with their arguments, and what playing a list of them tells.
 use Rattle.std.specs.Prelude.{ℕ, List, [], ◌∷◌}
 use Rattle.tables.specs.Tables.{Tables}
-use Rattle.rules.specs.declared.Answer.{Answer}
-use Rattle.rules.specs.declared.Delivered.{Delivered}
+use Rattle.rules.specs.Answer.{Answer}
+use Rattle.rules.specs.Delivered.{Delivered}
 use Rattle.rules.specs.Answers.{Left, Arrived}
 use Rattle.refusals.specs.Steps.{open', begin_write, begin_read, deliver_request, deliver_reply, lose, resend}
 

@@ -2,8 +2,8 @@
 use Rattle.std.specs.Prelude.{ℕ, ◌≡◌, List, [], ◌∷◌}
 use Rattle.std.proofs.Common.{ap, subst}
 use Rattle.tables.specs.Tables.{Tables}
-use Rattle.rules.specs.declared.Answer.{Answer}
-use Rattle.rules.specs.declared.Answer.TheVariants.{Ok}
+use Rattle.rules.specs.Answer.{Answer}
+use Rattle.rules.specs.Answer.{Ok}
 use Rattle.soundness.specs.Facts.{Sound}
 use Rattle.claim.specs.Steps.{request, Event, requested, Machine, play, run, left_by}
 use Rattle.serial.proofs.Openings.{Starts}

@@ -1,7 +1,7 @@
 -- Of specs/Theorem: what cites a theorem there that a changed definition can make fail.
 use Rattle.std.specs.Prelude.{ℕ, ◌≡◌}
 use Rattle.tables.specs.Tables.{Tables}
-use Rattle.rules.specs.declared.Answer.TheVariants.{Ok}
+use Rattle.rules.specs.Answer.{Ok}
 use Rattle.keeping.proofs.Opening.{opened-sound}
 use Rattle.soundness.specs.Facts.{Sound}
 use Rattle.claim.specs.Steps.{Step, opening, beginning-write, beginning-read, request, reply, losing, resending, requested, play}

@@ -8,7 +8,7 @@ use Rattle.tables.specs.Tables.{Tables, servers_of, clients_of, step_of, state_o
 use Rattle.tables.specs.Links.{targets}
 use Rattle.tables.specs.declared.links.Contents.{Contents}
 use Rattle.tables.specs.declared.links.Content.TheVariants.{Request}
-use Rattle.rules.specs.declared.Answer.TheVariants.{Ok}
+use Rattle.rules.specs.Answer.{Ok}
 use Rattle.rules.specs.Answers.{Left}
 use Rattle.rules.specs.Request.{request_delivered}
 use Rattle.soundness.specs.Sound.{uses}

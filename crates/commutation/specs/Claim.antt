@@ -2,7 +2,7 @@
 -- and both orders must be accepted. This is shown for all methods, with losses elsewhere in the run."
 use Rattle.std.specs.Prelude.{ℕ, ◌≡◌, List}
 use Rattle.tables.specs.Tables.{Tables}
-use Rattle.rules.specs.declared.Answer.TheVariants.{Ok}
+use Rattle.rules.specs.Answer.{Ok}
 use Rattle.claim.specs.Steps.{Event, requested, Machine, run, left_by}
 use Rattle.claim.specs.History.{BehindOpenings}
 

@@ -4,7 +4,7 @@ use Rattle.std.specs.Prelude.{ℕ, ◌+◌, ◌≤◌, ◌<◌, ◌≡◌, refl,
 use Rattle.std.proofs.Common.{ap, sym, ◌∙◌, arith}
 use Rattle.tables.specs.Layout.{count_at, count_words, step_field}
 use Rattle.tables.specs.Tables.{Tables, step_of}
-use Rattle.rules.specs.declared.Answer.TheVariants.{Ok}
+use Rattle.rules.specs.Answer.{Ok}
 use Rattle.rules.specs.Answers.{Left}
 use Rattle.rules.specs.Common.{counted}
 use Rattle.rules.specs.Request.{request_delivered}

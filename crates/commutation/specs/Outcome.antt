@@ -12,8 +12,8 @@ use Rattle.tables.specs.declared.links.Content.{Content}
 use Rattle.tables.specs.declared.links.Content.TheVariants.{Nothing, Request, Reply, Lost}
 use Rattle.server.specs.Held.{appended, first_bearing, holds}
 use Rattle.coordinator.specs.Log.{entered, first_entry, has_key}
-use Rattle.rules.specs.declared.Answer.{Answer}
-use Rattle.rules.specs.declared.Answer.TheVariants.{Ok, Refused}
+use Rattle.rules.specs.Answer.{Answer}
+use Rattle.rules.specs.Answer.{Ok, Refused}
 use Rattle.rules.specs.Answers.{Left, left}
 use Rattle.rules.specs.Common.{writing, entering, asking_keys, asking_setpoints, reply, tagged_record}
 use Rattle.rules.specs.Request.{got_from, holding, on_set, on_new_set, on_enter, on_new_enter, on_which_keys, on_get, on_get_all, on_request_in}

@@ -9,8 +9,8 @@ use Rattle.coordinator.specs.LogLaws.{enter-kept, enter-count}
 use Rattle.tables.specs.Layout.{count_at, step_field}
 use Rattle.tables.specs.Tables.{Tables, tables_of, entries_of, record_of}
 use Rattle.tables.specs.declared.links.Contents.{Contents}
-use Rattle.rules.specs.declared.Answer.{Answer}
-use Rattle.rules.specs.declared.Answer.TheVariants.{Refused}
+use Rattle.rules.specs.Answer.{Answer}
+use Rattle.rules.specs.Answer.{Refused}
 use Rattle.rules.specs.Answers.{Left, left}
 use Rattle.rules.specs.Common.{reply, tagged_record}
 use Rattle.rules.specs.Request.{on_new_enter, on_enter}

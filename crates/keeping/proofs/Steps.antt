@@ -3,7 +3,7 @@ use Rattle.std.specs.Prelude.{ℕ, ◌≡◌, refl, Bool, not, List, leb}
 use Rattle.std.proofs.Common.{mod-lt, arith}
 use Rattle.tables.specs.Layout.{last_step}
 use Rattle.tables.specs.Tables.{Tables, step_of}
-use Rattle.rules.specs.declared.Answer.TheVariants.{Ok}
+use Rattle.rules.specs.Answer.{Ok}
 use Rattle.rules.specs.Answers.{left}
 use Rattle.rules.specs.Open.{opened}
 use Rattle.rules.specs.Begin.{begun_write, begun_read}

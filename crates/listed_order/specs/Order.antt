@@ -3,7 +3,7 @@ use Rattle.std.specs.Prelude.{ℕ, ◌≡◌, Bool, true, false, cond, List, [],
 use Rattle.std.proofs.Math.Option.{Option, none, some}
 use Rattle.tables.specs.Layout.{record_word, client_of_record, number_of_record, tag_of_record, begin_of_record, end_of_record}
 use Rattle.tables.specs.Tables.{Tables}
-use Rattle.rules.specs.declared.Answer.TheVariants.{Ok, Refused}
+use Rattle.rules.specs.Answer.{Ok, Refused}
 use Rattle.listing.specs.Register.{Line, write, read}
 use Rattle.claim.specs.Steps.{Event, opened, begun-write, begun-read, requested, replied, lost, resent, Played, Machine, left_by}
 use Rattle.claim.specs.History.{Transaction, history, BehindOpenings}

@@ -1,7 +1,7 @@
 -- What is shown of all that the program prints.
 use Rattle.std.specs.Prelude.{ℕ, ◌<◌, ◌≡◌, true, List, [], ◌∷◌, ◌++◌}
 use Rattle.tables.specs.Tables.{Tables}
-use Rattle.rules.specs.declared.Answer.TheVariants.{Ok}
+use Rattle.rules.specs.Answer.{Ok}
 use Rattle.schedule.specs.Lines.{lines_of}
 use Rattle.playing.specs.Played.{played_line}
 use Rattle.workload.specs.Load.{is_accepted}

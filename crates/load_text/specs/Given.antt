@@ -1,8 +1,8 @@
 -- The load in print, turn by turn: first its opening, then a step a turn.
 use Rattle.std.specs.Prelude.{ℕ, zero, suc, ◌-◌, ◌≤◌, ◌≡◌, List, [], ◌++◌, length, replicate}
 use Rattle.tables.specs.Tables.{Tables, servers_of}
-use Rattle.rules.specs.declared.Answer.{Answer}
-use Rattle.rules.specs.declared.Answer.TheVariants.{Ok, Refused}
+use Rattle.rules.specs.Answer.{Answer}
+use Rattle.rules.specs.Answer.{Ok, Refused}
 use Rattle.rules.specs.Answers.{Left}
 use Rattle.refusals.specs.Steps.{open'}
 use Rattle.schedule.specs.declared.Step.TheVariants.{Open}

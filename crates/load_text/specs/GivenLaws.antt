@@ -5,8 +5,8 @@ use Rattle.std.proofs.Math.Bool.{false}
 use Rattle.std.proofs.lemmas.List.{length-replicate, replicate-append-replicate}
 use Rattle.ranges.specs.Tests.{by-test, both_right}
 use Rattle.tables.specs.Tables.{Tables}
-use Rattle.rules.specs.declared.Answer.{Answer}
-use Rattle.rules.specs.declared.Answer.TheVariants.{Ok, Refused}
+use Rattle.rules.specs.Answer.{Answer}
+use Rattle.rules.specs.Answer.{Ok, Refused}
 use Rattle.rules.specs.Answers.{Left, left}
 use Rattle.rules.specs.Open.{opened}
 use Rattle.soundness.specs.Sound.{press_fits}

@@ -4,8 +4,8 @@ use Rattle.std.proofs.Common.{sym, ap, ◌∙◌, arith}
 use Rattle.std.proofs.Math.Path.{subst}
 use mathlib.Core.List.{List, [], ◌++◌}
 use Rattle.tables.specs.Tables.{Tables, servers_of}
-use Rattle.rules.specs.declared.Answer.{Answer}
-use Rattle.rules.specs.declared.Answer.TheVariants.{Ok, Refused}
+use Rattle.rules.specs.Answer.{Answer}
+use Rattle.rules.specs.Answer.{Ok, Refused}
 use Rattle.soundness.specs.Facts.{Sound}
 use Rattle.keeping.proofs.Steps.{open-sound}
 use Rattle.workload.specs.declared.Next.{Next}

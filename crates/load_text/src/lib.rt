@@ -4,7 +4,7 @@
 
 ghost use Rattle.std.specs.Prelude.{◌≡◌, [], ◌∷◌, ◌+◌, ◌-◌, ◌≤◌, ◌<◌, length, replicate};
 ghost use Rattle.tables.specs.Tables.{Tables};
-ghost use Rattle.rules.specs.declared.Answer.TheVariants.{Ok};
+ghost use Rattle.rules.specs.Answer.{Ok};
 ghost use Rattle.schedule.specs.Numbers.{numbers_of};
 ghost use Rattle.schedule.specs.NumberLaws.{before};
 ghost use Rattle.schedule.specs.Steps.{line_most};

@@ -4,7 +4,7 @@ use Rattle.std.specs.Prelude.{ℕ, ◌<◌, ◌≡◌, Bool, true, false, ◌&&�
 use Rattle.ranges.specs.All.{any_below}
 use Rattle.ranges.specs.Sum.{count_below}
 use Rattle.tables.specs.Tables.{Tables, clients_of, writes_of, reads_of, state_of, record_of}
-use Rattle.rules.specs.declared.Answer.TheVariants.{Ok, Refused}
+use Rattle.rules.specs.Answer.{Ok, Refused}
 use Rattle.soundness.specs.Sound.{is_writing, is_reading}
 use Rattle.listing.specs.Register.{is_finished, read, line_words}
 use Rattle.claim.specs.Steps.{Event, opened, begun-write, begun-read, requested, replied, lost, resent, Played, Machine, left_by}

@@ -4,7 +4,7 @@ use Rattle.std.proofs.Common.{subst, sym, arith}
 use Rattle.ranges.specs.Tests.{by_equal}
 use Rattle.ranges.specs.Each.{Each, each_map}
 use Rattle.tables.specs.Tables.{Tables, step_of, writes_of, reads_of}
-use Rattle.rules.specs.declared.Answer.TheVariants.{Ok, Refused}
+use Rattle.rules.specs.Answer.{Ok, Refused}
 use Rattle.soundness.specs.Facts.{Sound}
 use Rattle.claim.specs.Steps.{Event, opened, begun-write, begun-read, requested, replied, lost, resent, Machine, run, left_by}
 use Rattle.claim.specs.History.{History, opened_with}

@@ -4,7 +4,7 @@
 use Rattle.std.specs.Prelude.{ℕ, zero, suc, ◌-◌, cond, not, ◌&&◌, List, length, eqb}
 use Rattle.tables.specs.Layout.{tag_field, put_client_word}
 use Rattle.tables.specs.Tables.{Tables, method_of, servers_of, entries_of, reads_of}
-use Rattle.rules.specs.declared.Answer.TheVariants.{Ok}
+use Rattle.rules.specs.Answer.{Ok}
 use Rattle.rules.specs.Answers.{Left, left}
 use Rattle.rules.specs.Common.{asking_setpoints, started_client}
 use Rattle.rules.specs.Open.{opened}

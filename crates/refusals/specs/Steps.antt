@@ -1,8 +1,8 @@
 -- The seven public steps, for every input: refused by number with all as before, or accepted and changed as `rules` says.
 use Rattle.std.specs.Prelude.{ℕ, zero, suc, ◌%◌, List}
 use Rattle.tables.specs.Tables.{Tables}
-use Rattle.rules.specs.declared.Answer.TheVariants.{Ok}
-use Rattle.rules.specs.declared.Arrival.TheVariants as arrival
+use Rattle.rules.specs.Answer.{Ok}
+use Rattle.rules.specs.Arrival as arrival
 use Rattle.rules.specs.Answers.{Left, left, Arrived}
 use Rattle.rules.specs.Open.{opened}
 use Rattle.rules.specs.Begin.{begun_write, begun_read}

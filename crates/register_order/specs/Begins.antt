@@ -17,7 +17,7 @@ use Rattle.rules.specs.Begin.{next_count, begun_write, kept_tags, kept_asking, A
 use Rattle.refusals.specs.Former.{last_tag, asking_by_a, formerly_asking, formerly_begun_read}
 use Rattle.soundness.specs.Sound.{is_reading}
 use Rattle.soundness.specs.Room.{few_servers, client-row}
-use Rattle.rules.specs.declared.Answer.TheVariants.{Ok}
+use Rattle.rules.specs.Answer.{Ok}
 use Rattle.keeping.specs.Accepted.{Writable, Readable}
 use Rattle.keeping.specs.Begins.{begun_other, begun_more, begun_step}
 use Rattle.keeping.proofs.BeginWrite.{begun_write-kept}

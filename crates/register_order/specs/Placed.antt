@@ -6,7 +6,7 @@ use Rattle.ranges.specs.Tests.{by-test}
 use Rattle.tables.specs.Layout.{count_at, count_words, step_field, entries_field, writes_field, reads_field, held_field}
 use Rattle.tables.specs.Tables.{Tables, clients_of, step_of, entries_of, writes_of, reads_of}
 use Rattle.tables.specs.declared.links.Content.{Content}
-use Rattle.rules.specs.declared.Answer.TheVariants.{Ok}
+use Rattle.rules.specs.Answer.{Ok}
 use Rattle.rules.specs.Request.{answered_by}
 use Rattle.keeping.specs.Frame.{Kept}
 use Rattle.keeping.specs.Moves.{counted_other, counted_step, counted-length}

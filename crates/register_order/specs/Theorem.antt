@@ -10,8 +10,8 @@ use Rattle.rules.specs.Begin.{begun_write, begun_read}
 use Rattle.rules.specs.Request.{request_delivered}
 use Rattle.rules.specs.Reply.{reply_delivered}
 use Rattle.rules.specs.Loss.{link_lost, link_resent}
-use Rattle.rules.specs.declared.Answer.{Answer}
-use Rattle.rules.specs.declared.Answer.TheVariants.{Ok}
+use Rattle.rules.specs.Answer.{Answer}
+use Rattle.rules.specs.Answer.{Ok}
 use Rattle.refusals.specs.Refusals.{open_refusal, write_refusal, read_refusal, delivery_refusal}
 use Rattle.refusals.specs.Steps.{badge_of, open', begin_write, begin_read, deliver_request, deliver_reply, lose, resend}
 use Rattle.refusals.specs.Either.{by_refusal, by_refusal-arrived}

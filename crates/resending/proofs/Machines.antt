@@ -6,8 +6,8 @@ use Rattle.tables.specs.Links.{targets, is_empty}
 use Rattle.tables.specs.Tables.{Tables, clients_of, content_at}
 use Rattle.tables.specs.declared.links.Content.{Content}
 use Rattle.tables.specs.declared.links.Content.TheVariants.{Nothing}
-use Rattle.rules.specs.declared.Answer.{Answer}
-use Rattle.rules.specs.declared.Answer.TheVariants.{Ok, Refused}
+use Rattle.rules.specs.Answer.{Answer}
+use Rattle.rules.specs.Answer.{Ok, Refused}
 use Rattle.rules.specs.Loss.{sent_by}
 use Rattle.soundness.specs.Facts.{Sound}
 use Rattle.claim.specs.Steps.{Event, opened, begun-write, begun-read, requested, replied, lost, resent, Played, Machine, run}

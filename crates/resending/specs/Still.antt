@@ -18,8 +18,8 @@ use Rattle.rules.specs.Common.{writing, entering, asking_keys, asking_setpoints,
 use Rattle.rules.specs.Request.{got_from, holding, on_new_set, on_set, on_new_enter, on_enter, on_which_keys, on_get, on_get_all, on_request_in, on_request}
 use Rattle.rules.specs.Request.{request_delivered}
 use Rattle.rules.specs.Loss.{on_loss, link_lost, on_resend, link_resent, own_key_of, sent_in, sent_by}
-use Rattle.rules.specs.declared.Answer.{Answer}
-use Rattle.rules.specs.declared.Answer.TheVariants.{Ok, Refused}
+use Rattle.rules.specs.Answer.{Answer}
+use Rattle.rules.specs.Answer.{Ok, Refused}
 use Rattle.soundness.specs.Facts.{Sound}
 use Rattle.soundness.specs.Room.{client-fits, link_row_lem}
 use Rattle.keys.specs.Keys.{FitsByte}

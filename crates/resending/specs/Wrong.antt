@@ -14,7 +14,7 @@ use Rattle.tables.specs.declared.links.Content.{Content}
 use Rattle.tables.specs.declared.links.Content.TheVariants.{Nothing, Request, Reply, Lost}
 use Rattle.server.specs.Held.{appended}
 use Rattle.coordinator.specs.Log as log
-use Rattle.rules.specs.declared.Answer.TheVariants.{Ok}
+use Rattle.rules.specs.Answer.{Ok}
 use Rattle.rules.specs.Common as rules
 use Rattle.rules.specs.Begin.{begun_write, begun_read}
 use Rattle.rules.specs.Request.{answered_by, on_set, on_new_set, on_enter, on_new_enter, on_which_keys, on_request_in, request_delivered}

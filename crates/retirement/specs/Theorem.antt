@@ -3,8 +3,8 @@ use Rattle.std.specs.Prelude.{ℕ, ◌≡◌, refl, Bool, true, false, List, [],
 use Rattle.std.proofs.Common.{sym, ◌∙◌, true≢false, eq-eqb}
 use Rattle.ranges.specs.Each.{Each}
 use Rattle.tables.specs.Tables.{Tables, method_of}
-use Rattle.rules.specs.declared.Answer.{Answer}
-use Rattle.rules.specs.declared.Answer.TheVariants.{Ok}
+use Rattle.rules.specs.Answer.{Answer}
+use Rattle.rules.specs.Answer.{Ok}
 use Rattle.rules.specs.Answers.{Left, left}
 use Rattle.rules.specs.Open.{opened}
 use Rattle.rules.specs.Begin.{begun_write, begun_read}

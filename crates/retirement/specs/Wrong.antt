@@ -3,7 +3,7 @@ use Rattle.std.specs.Prelude.{ℕ, ◌≡◌, refl, List, [], ◌∷◌, set}
 use Rattle.std.proofs.Common.{arith}
 use Rattle.tables.specs.Layout.{method_field, writes_field, reads_field, count_field, put_client_word}
 use Rattle.tables.specs.Tables.{Tables, with_counts, with_clients, method_of}
-use Rattle.rules.specs.declared.Answer.TheVariants.{Ok}
+use Rattle.rules.specs.Answer.{Ok}
 use Rattle.claim.specs.Steps.{Event, begun-write, begun-read, requested, Machine}
 use Rattle.claim.specs.Sample.{zeros}
 use Rattle.retirement.specs.Claim.{Unopened, Retired}

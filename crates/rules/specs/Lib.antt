@@ -1,4 +1,7 @@
 -- The rules of the steps, in document 01's order. These definitions say what is right; the crates above are proved equal to them.
+pub mod Answer
+pub mod Arrival
+pub mod Delivered
 pub mod Answers
 pub mod AnswersLaws
 pub mod Words
@@ -10,4 +13,5 @@ pub mod Request
 pub mod Choice
 pub mod Reply
 pub mod Loss
+pub mod Results
 pub mod Examples

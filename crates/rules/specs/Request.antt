@@ -8,7 +8,7 @@ use Rattle.tables.specs.Tables.{Tables, with_counts, with_links, with_versions, 
 use Rattle.tables.specs.declared.links.Contents.{Contents}
 use Rattle.tables.specs.declared.links.Content.{Content}
 use Rattle.tables.specs.declared.links.Content.TheVariants.{Nothing, Request, Reply, Lost}
-use Rattle.rules.specs.declared.Answer.TheVariants.{Ok, Refused}
+use Rattle.rules.specs.Answer.{Ok, Refused}
 use Rattle.rules.specs.Answers.{Left, left}
 use Rattle.rules.specs.Common.{writing, entering, asking_keys, asking_setpoints, coordinator, reply, got_reply, counted, tagged_record}
 

@@ -31,7 +31,7 @@ use Rattle.rules.specs.Begin.{stored_setpoints, started_writer, next_count, begu
 use Rattle.rules.specs.Begin.{asking}
 use Rattle.rules.specs.Begin.{asking_by_b, asking_by_c, begun_read_with}
 use Rattle.refusals.specs.Former.{last_tag, asking_by_a, formerly_begun_read}
-use Rattle.rules.specs.declared.Answer.TheVariants.{Ok}
+use Rattle.rules.specs.Answer.{Ok}
 use Rattle.keeping.specs.Accepted.{Beginnable, Writable, Readable}
 use Rattle.keeping.specs.States.{masked_below}
 use Rattle.keeping.specs.Rows.{Put, put, put_all, put-read, put_elsewhere, put-length}

@@ -15,7 +15,7 @@ use Rattle.tables.specs.Links.{targets}
 use Rattle.tables.specs.declared.links.Content.{Content}
 use Rattle.rules.specs.Common.{set_request, idle, asking_keys, asking_setpoints, asking_all, coordinator, request}
 use Rattle.rules.specs.Common as rules
-use Rattle.rules.specs.declared.Answer.TheVariants.{Ok}
+use Rattle.rules.specs.Answer.{Ok}
 use Rattle.claim.specs.Steps.{begun-write, begun-read}
 use Rattle.refusals.specs.Steps.{badge_of}
 use Rattle.claim.specs.History.{changed, writing, History}

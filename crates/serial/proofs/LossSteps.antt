@@ -11,7 +11,7 @@ use Rattle.tables.specs.Links.{targets, ContentFits}
 use Rattle.tables.specs.Tables.{Tables, step_of, writes_of, reads_of, state_of, count_of, content_at}
 use Rattle.tables.specs.declared.links.Content.{Content}
 use Rattle.tables.specs.declared.links.Content.TheVariants.{Nothing, Request, Reply, Lost}
-use Rattle.rules.specs.declared.Answer.TheVariants.{Ok}
+use Rattle.rules.specs.Answer.{Ok}
 use Rattle.rules.specs.Answers.{Left}
 use Rattle.rules.specs.Common.{entering, asking_keys, asking_setpoints, asking_all, coordinator, request, set_request}
 use Rattle.rules.specs.Common as rules

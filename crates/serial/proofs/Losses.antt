@@ -12,7 +12,7 @@ use Rattle.tables.specs.declared.links.Content.{Content}
 use Rattle.tables.specs.declared.links.Content.TheVariants.{Nothing, Request, Reply, Lost}
 use Rattle.rules.specs.Common.{entering, asking_keys, asking_setpoints, asking_all, coordinator, request, set_request}
 use Rattle.rules.specs.Common as rules
-use Rattle.rules.specs.declared.Answer.TheVariants.{Ok}
+use Rattle.rules.specs.Answer.{Ok}
 use Rattle.claim.specs.Steps.{lost, resent}
 use Rattle.claim.specs.History.{changed, reading, History, passed, marked, lost_of, missed, repeated}
 use Rattle.serial.proofs.Places.{changed-same, changed_other, changed-all}

@@ -2,7 +2,7 @@
 use Prim.Native.Nat.{ℕ}
 use mathlib.Core.List.{List}
 use Rattle.tables.specs.Tables.{Tables}
-use Rattle.rules.specs.declared.Answer.TheVariants.{Ok, Refused}
+use Rattle.rules.specs.Answer.{Ok, Refused}
 use Rattle.rules.specs.Answers.{left}
 use Rattle.rules.specs.Open as rules
 use Rattle.refusals.specs.Refusals.{open_refusal}

@@ -29,7 +29,7 @@ use Rattle.rules.specs.Common as rules
 use Rattle.rules.specs.Request.{refused, answered, on_set, on_new_set, on_enter, on_new_enter, on_which_keys, on_get, on_get_all, on_request_in}
 use Rattle.rules.specs.Request.{on_request}
 use Rattle.rules.specs.Request.{request_delivered}
-use Rattle.rules.specs.declared.Answer.TheVariants.{Ok}
+use Rattle.rules.specs.Answer.{Ok}
 use Rattle.keeping.specs.Accepted.{Deliverable, target_below}
 use Rattle.soundness.specs.Room.{server-fits, keys-row, values-row, next-entry}
 use Rattle.claim.specs.Steps.{requested}

@@ -23,7 +23,7 @@ use Rattle.tables.specs.declared.links.Content.{Content}
 use Rattle.tables.specs.declared.links.Content.TheVariants.{Nothing, Request, Reply, Lost}
 use Rattle.rules.specs.Common.{entering, asking_keys, asking_setpoints, asking_all, coordinator, reply, got_reply}
 use Rattle.rules.specs.Common as rules
-use Rattle.rules.specs.declared.Answer.TheVariants.{Ok}
+use Rattle.rules.specs.Answer.{Ok}
 use Rattle.claim.specs.Steps.{requested}
 use Rattle.claim.specs.History.{Value, value_written, at_coordinator, changed, Transaction, write_of, writing, tagged, reading, History}
 use Rattle.claim.specs.Claim.{enough}

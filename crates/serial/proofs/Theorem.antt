@@ -12,7 +12,7 @@ use Rattle.rules.specs.Begin.{begun_write, begun_read}
 use Rattle.rules.specs.Request.{request_delivered}
 use Rattle.rules.specs.Reply.{reply_delivered}
 use Rattle.rules.specs.Loss.{link_lost, link_resent}
-use Rattle.rules.specs.declared.Answer.TheVariants.{Ok}
+use Rattle.rules.specs.Answer.{Ok}
 use Rattle.refusals.specs.Refusals.{open_refusal, write_refusal, read_refusal, delivery_refusal}
 use Rattle.soundness.specs.Facts.{Sound}
 use Rattle.keeping.specs.Accepted.{Openable, openable, writable, readable, as-formerly, deliverable}

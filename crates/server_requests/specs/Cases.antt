@@ -9,8 +9,8 @@ use Rattle.server.specs.HeldLaws.{append-kept, append-count}
 use Rattle.tables.specs.Layout.{count_at, step_field, version_badge, version_setpoint}
 use Rattle.tables.specs.Tables.{Tables, tables_of, held_of}
 use Rattle.tables.specs.declared.links.Contents.{Contents}
-use Rattle.rules.specs.declared.Answer.{Answer}
-use Rattle.rules.specs.declared.Answer.TheVariants.{Refused}
+use Rattle.rules.specs.Answer.{Answer}
+use Rattle.rules.specs.Answer.{Refused}
 use Rattle.rules.specs.Answers.{Left, left}
 use Rattle.rules.specs.Common.{reply, got_reply}
 use Rattle.rules.specs.Request.{refused, on_new_set, on_set, on_get}

@@ -1,9 +1,9 @@
 -- The steps on tables that are not sound, as the code meets them: number 2, with all as before.
 use Rattle.std.specs.Prelude.{ℕ, ◌≡◌, Bool, true, not, List}
 use Rattle.tables.specs.Tables.{Tables}
-use Rattle.rules.specs.declared.Answer.TheVariants.{Refused}
-use Rattle.rules.specs.declared.Arrival.TheVariants as arrival
-use Rattle.rules.specs.declared.Delivered.{Delivered}
+use Rattle.rules.specs.Answer.{Refused}
+use Rattle.rules.specs.Arrival as arrival
+use Rattle.rules.specs.Delivered.{Delivered}
 use Rattle.rules.specs.Answers.{left, arrived, nothing_shown}
 use Rattle.soundness.specs.Sound.{sound}
 use Rattle.refusals.specs.Refusals.{write_refusal, read_refusal, delivery_refusal}

@@ -14,7 +14,7 @@ use Rattle.tables.specs.Tables.{Tables, servers_of, clients_of, state_of, mask_o
 use Rattle.tables.specs.declared.links.Contents.{Contents}
 use Rattle.tables.specs.declared.links.Content.{Content}
 use Rattle.tables.specs.declared.links.Content.TheVariants.{Nothing, Request, Reply, Lost}
-use Rattle.rules.specs.declared.Answer.TheVariants.{Ok}
+use Rattle.rules.specs.Answer.{Ok}
 use Rattle.rules.specs.Answers.{Left, left, Arrived}
 use Rattle.rules.specs.Common.{writing, entering, asking_keys, asking_setpoints, pending}
 use Rattle.rules.specs.Begin.{begun_write, begun_read}
