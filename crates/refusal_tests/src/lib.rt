@@ -1,4 +1,4 @@
-// The number that refuses a step, on tables known to be sound: the tests in the order of their numbers. 0 refuses nothing.
+// What refuses a step, on tables known to be sound: the tests in the order of their causes' numbers.
 // An opening is judged by its numbers (`openings`) and asks for no sound tables.
 #![tactic(auto)]
 
@@ -6,9 +6,11 @@ ghost use Rattle.std.specs.Prelude.{◌≡◌, List, ◌&&◌, ℕ, ◌≤◌, �
 ghost use Rattle.keys.specs.Masks.{mask_within};
 ghost use Rattle.tables.specs.Layout.{count_words};
 ghost use Rattle.tables.specs.Tables.{tables_of};
+ghost use Rattle.causes.specs.Numbers.{fault_of};
 ghost use Rattle.refusals.specs.Refusals.{is_retired, is_target_of, write_fault, read_fault, delivery_fault};
 ghost use Rattle.refusals.specs.Cases.{Judged, is_spent};
 
+use causes::Refusal;
 use rules::states;
 use tables::{clients, counts, links, records};
 
@@ -25,20 +27,20 @@ pub fn is_target(servers: u32, target: u32) -> bool
 }
 
 // A delivery: no such client or target, or the last step.
-pub fn delivery_fault(counts: &[u32], client: u32, target: u32) -> u8
+pub fn delivery_fault(counts: &[u32], client: u32, target: u32) -> Result<(), Refusal>
     requires { count_words ≤ length counts.now }
-    ensures { (clients links keys values log writes reads : List ℕ) → result ≡ delivery_fault client target (tables_of counts.now clients links keys values log writes reads) }
+    ensures { (clients links keys values log writes reads : List ℕ) → fault_of result ≡ delivery_fault client target (tables_of counts.now clients links keys values log writes reads) }
 {
     if counts::count_at(counts, counts::CLIENTS) <= client {
-        return 3;
+        return Err(Refusal::Absent);
     }
     if !is_target(counts::count_at(counts, counts::SERVERS), target) {
-        return 3;
+        return Err(Refusal::Absent);
     }
     if counts::LAST_STEP <= counts::count_at(counts, counts::STEP) {
-        return 7;
+        return Err(Refusal::Spent);
     }
-    0
+    Ok(())
 }
 
 // Method 1 is retired: nothing new begins on its tables.
@@ -70,48 +72,54 @@ fn fits_write(mask: u32, given: usize, servers: u32) -> bool
     false
 }
 
-// A WRITE: the numbers 3 to 7 in their order.
-pub fn write_fault(counts: &[u32], clients: &[u32], client: u32, mask: u32, given: usize) -> u8
+// A WRITE: the causes of the numbers 3 to 7 in their order.
+pub fn write_fault(
+    counts: &[u32],
+    clients: &[u32],
+    client: u32,
+    mask: u32,
+    given: usize,
+) -> Result<(), Refusal>
     requires { Judged counts.now clients.now }
-    ensures { (links keys values log writes reads : List ℕ) → result ≡ write_fault client mask given (tables_of counts.now clients.now links keys values log writes reads) }
+    ensures { (links keys values log writes reads : List ℕ) → fault_of result ≡ write_fault client mask given (tables_of counts.now clients.now links keys values log writes reads) }
 {
     if counts::count_at(counts, counts::CLIENTS) <= client {
-        return 3;
+        return Err(Refusal::Absent);
     }
     if is_retired(counts::count_at(counts, counts::METHOD)) {
-        return 4;
+        return Err(Refusal::Retired);
     }
     if clients::client_word(clients, client as usize, clients::STATE) != states::IDLE {
-        return 5;
+        return Err(Refusal::Busy);
     }
     if !fits_write(mask, given, counts::count_at(counts, counts::SERVERS)) {
-        return 6;
+        return Err(Refusal::Unfit);
     }
     if is_spent(counts, counts::WRITES) {
-        return 7;
+        return Err(Refusal::Spent);
     }
-    0
+    Ok(())
 }
 
-// A READ: the numbers 3 to 7 in their order.
-pub fn read_fault(counts: &[u32], clients: &[u32], client: u32, mask: u32) -> u8
+// A READ: the causes of the numbers 3 to 7 in their order.
+pub fn read_fault(counts: &[u32], clients: &[u32], client: u32, mask: u32) -> Result<(), Refusal>
     requires { Judged counts.now clients.now }
-    ensures { (links keys values log writes reads : List ℕ) → result ≡ read_fault client mask (tables_of counts.now clients.now links keys values log writes reads) }
+    ensures { (links keys values log writes reads : List ℕ) → fault_of result ≡ read_fault client mask (tables_of counts.now clients.now links keys values log writes reads) }
 {
     if counts::count_at(counts, counts::CLIENTS) <= client {
-        return 3;
+        return Err(Refusal::Absent);
     }
     if is_retired(counts::count_at(counts, counts::METHOD)) {
-        return 4;
+        return Err(Refusal::Retired);
     }
     if clients::client_word(clients, client as usize, clients::STATE) != states::IDLE {
-        return 5;
+        return Err(Refusal::Busy);
     }
     if !keys::mask_within(mask, counts::count_at(counts, counts::SERVERS)) {
-        return 6;
+        return Err(Refusal::Unfit);
     }
     if is_spent(counts, counts::READS) {
-        return 7;
+        return Err(Refusal::Spent);
     }
-    0
+    Ok(())
 }

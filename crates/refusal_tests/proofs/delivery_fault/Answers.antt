@@ -6,7 +6,6 @@ use borrow.Author.Tests.{not-true}
 use Rattle.ranges.specs.Tests.{holds, most, above, least, under}
 use Rattle.refusals.specs.Refusals.{is_target_of}
 use Rattle.refusals.specs.Cases.{no_step-left, delivers}
-use Rattle.refusal_tests.proofs.delivery_fault.Reads as reads
 use Rattle.refusal_tests.proofs.delivery_fault.Goals as goal
 
 pub returns-then-count_at-client : goal.returns-then-count_at-client

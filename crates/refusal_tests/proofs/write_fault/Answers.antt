@@ -9,7 +9,6 @@ use Rattle.ranges.specs.Tests.{holds, most, above, is, is-not}
 use Rattle.keys.specs.Masks.{mask_within}
 use Rattle.refusals.specs.Refusals.{is_retired}
 use Rattle.refusals.specs.Cases.{refused_7, begins}
-use Rattle.refusal_tests.proofs.write_fault.Reads as reads
 use Rattle.refusal_tests.proofs.write_fault.Goals as goal
 
 pub returns-then-count_at-client : goal.returns-then-count_at-client
