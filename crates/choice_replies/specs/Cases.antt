@@ -4,7 +4,7 @@ use Rattle.std.proofs.Common.{arith}
 use Rattle.tables.specs.Layout.{state_field, setpoints_field, badges_field}
 use Rattle.tables.specs.Tables.{Tables, tables_of, servers_of, mask_of, record_of}
 use Rattle.tables.specs.declared.links.Contents.{Contents}
-use Rattle.rules.specs.Arrival.{Wait, Read}
+use Rattle.rules.specs.declared.Arrival.TheVariants.{Wait, Read}
 use Rattle.rules.specs.WordsLaws.{shown_other}
 use Rattle.rules.specs.Common.{idle, pending}
 use Rattle.rules.specs.Reply.{got_number, tag_chosen, concluded, on_all}

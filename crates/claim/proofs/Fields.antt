@@ -12,9 +12,9 @@ use Rattle.tables.specs.declared.links.Content.TheVariants.{Nothing, Request, Re
 use Rattle.tables.specs.Tables.{Tables, content_at}
 use Rattle.rules.specs.Answer.{Answer}
 use Rattle.rules.specs.Answer as answer
-use Rattle.rules.specs.Arrival.{Arrival}
-use Rattle.rules.specs.Arrival as arrival
-use Rattle.rules.specs.Delivered.{Delivered}
+use Rattle.rules.specs.declared.Arrival.{Arrival}
+use Rattle.rules.specs.declared.Arrival.TheVariants as arrival
+use Rattle.rules.specs.declared.Delivered.{Delivered}
 use Rattle.claim.specs.Steps.{Event, opened, begun-write, begun-read, requested, replied, lost, resent, Played}
 use Rattle.claim.specs.History.{Value, value_of, Transaction, Doing, nothing, writing, tagged, reading, History, changed}
 use Rattle.claim.specs.History.{begun, delivered, entered, wrote, showed, arrived, missed, repeated, opened_with, at_coordinator}

@@ -12,8 +12,8 @@ use Rattle.tables.specs.Links.{targets, link_width, link_at, put_link}
 use Rattle.tables.specs.Tables.{Tables, tables_of}
 use Rattle.server.specs.Held.{appended}
 use Rattle.coordinator.specs.Log as log
-use Rattle.rules.specs.Delivered.{Delivered}
-use Rattle.rules.specs.Arrival.{Read}
+use Rattle.rules.specs.declared.Delivered.{Delivered}
+use Rattle.rules.specs.declared.Arrival.TheVariants.{Read}
 use Rattle.rules.specs.Begin.{begun_write, begun_read}
 use Rattle.rules.specs.Request.{on_set, on_new_set, on_enter, on_new_enter, on_which_keys, on_get, on_get_all, on_request_in, request_delivered}
 use Rattle.rules.specs.Reply.{on_set_done, on_entered, on_keys, on_got, on_all, on_reply_in, reply_delivered}

@@ -2,7 +2,7 @@
 use Rattle.std.specs.Prelude.{ℕ, List, [], ◌∷◌}
 use Rattle.tables.specs.Tables.{Tables}
 use Rattle.rules.specs.Answer.{Answer}
-use Rattle.rules.specs.Delivered.{Delivered}
+use Rattle.rules.specs.declared.Delivered.{Delivered}
 use Rattle.rules.specs.Answers.{Left, Arrived}
 use Rattle.refusals.specs.Steps.{open', begin_write, begin_read, deliver_request, deliver_reply, lose, resend}
 

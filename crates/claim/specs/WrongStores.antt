@@ -9,9 +9,9 @@ use Rattle.tables.specs.Tables.{Tables, with_clients, with_links, entries_of, re
 use Rattle.tables.specs.declared.links.Content.{Content}
 use Rattle.tables.specs.declared.links.Content.TheVariants.{Nothing}
 use Rattle.rules.specs.Answer.{Ok}
-use Rattle.rules.specs.Arrival.{Arrival}
-use Rattle.rules.specs.Arrival.{Wait, Next, Write, Read, Refused}
-use Rattle.rules.specs.Delivered.{Delivered}
+use Rattle.rules.specs.declared.Arrival.{Arrival}
+use Rattle.rules.specs.declared.Arrival.TheVariants.{Wait, Next, Write, Read, Refused}
+use Rattle.rules.specs.declared.Delivered.{Delivered}
 use Rattle.rules.specs.Common as rules
 use Rattle.rules.specs.Answers.{Left, nothing_shown}
 use Rattle.rules.specs.Request.{got_from, on_new_enter}

@@ -12,7 +12,7 @@ use Rattle.tables.specs.Tables.{Tables, step_of, entries_of, held_of, content_at
 use Rattle.server.specs.Held.{appended}
 use Rattle.coordinator.specs.Log as log
 use Rattle.rules.specs.Answer.{Ok, Refused}
-use Rattle.rules.specs.Arrival.{Next, Write}
+use Rattle.rules.specs.declared.Arrival.TheVariants.{Next, Write}
 use Rattle.rules.specs.Answers.{nothing_shown}
 use Rattle.rules.specs.Common as rules
 use Rattle.rules.specs.Begin.{begun_write, begun_read}

@@ -5,8 +5,8 @@ use Rattle.std.proofs.Common.{ap, sym, ◌∙◌, arith}
 use Rattle.tables.specs.Layout.{entry_word}
 use Rattle.tables.specs.Tables.{Tables}
 use Rattle.rules.specs.Answer.{Ok, Refused}
-use Rattle.rules.specs.Arrival as arrival
-use Rattle.rules.specs.Delivered.{Delivered}
+use Rattle.rules.specs.declared.Arrival.TheVariants as arrival
+use Rattle.rules.specs.declared.Delivered.{Delivered}
 use Rattle.rules.specs.Answers.{nothing_shown}
 use Rattle.claim.specs.Steps.{Step, request, reply, Event, requested, replied, play, run}
 use Rattle.claim.specs.Sample.{zeros}

@@ -5,7 +5,7 @@ use Rattle.std.proofs.Common.{arith}
 use Rattle.tables.specs.Layout.{count_words}
 use Rattle.tables.specs.Tables.{Tables, method_of}
 use Rattle.rules.specs.Answer.{Ok, Refused}
-use Rattle.rules.specs.Arrival as arrival
+use Rattle.rules.specs.declared.Arrival.TheVariants as arrival
 use Rattle.rules.specs.Answers.{Left, left, Arrived}
 use Rattle.rules.specs.Open.{opened}
 use Rattle.rules.specs.Reply.{said}

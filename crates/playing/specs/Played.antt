@@ -4,8 +4,8 @@ use Rattle.tables.specs.Layout.{client_word, client_width, mask_field}
 use Rattle.tables.specs.Tables.{Tables}
 use Rattle.rules.specs.Answer.{Answer}
 use Rattle.rules.specs.Answer as answer
-use Rattle.rules.specs.Arrival.{Arrival}
-use Rattle.rules.specs.Arrival as arrival
+use Rattle.rules.specs.declared.Arrival.{Arrival}
+use Rattle.rules.specs.declared.Arrival.TheVariants as arrival
 use Rattle.rules.specs.Answers.{Left, Arrived}
 use Rattle.refusals.specs.Steps.{open', begin_write, begin_read, deliver_request, deliver_reply, lose, resend}
 use Rattle.schedule.specs.declared.Step.{Step}

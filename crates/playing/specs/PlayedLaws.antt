@@ -6,7 +6,7 @@ use Rattle.std.proofs.lemmas.Bool.{lt-leb}
 use Rattle.tables.specs.Layout.{client_word, client_width, mask_field}
 use Rattle.tables.specs.Tables.{Tables}
 use Rattle.rules.specs.Answers.{Left, Arrived, arrived}
-use Rattle.rules.specs.Delivered.{Delivered}
+use Rattle.rules.specs.declared.Delivered.{Delivered}
 use Rattle.schedule.specs.declared.Reading.{Reading}
 use Rattle.schedule.specs.declared.Step.{Step}
 use Rattle.schedule.specs.Steps.{Named, Names, step_of}

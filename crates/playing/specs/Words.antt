@@ -2,8 +2,8 @@
 use Rattle.std.specs.Prelude.{◌≡◌, refl, [], ◌∷◌}
 use Rattle.rules.specs.Answer.{Answer}
 use Rattle.rules.specs.Answer as answer
-use Rattle.rules.specs.Arrival.{Arrival}
-use Rattle.rules.specs.Arrival as arrival
+use Rattle.rules.specs.declared.Arrival.{Arrival}
+use Rattle.rules.specs.declared.Arrival.TheVariants as arrival
 use Rattle.rules.specs.Answers.{Said, answer_said, arrival_said}
 use Rattle.rules.specs.Answers.Word.{ok, wait, next, write, read, no'}
 use Rattle.printing.specs.declared.Word.{Word}

@@ -4,7 +4,7 @@ use Rattle.std.proofs.Common.{arith}
 use Rattle.tables.specs.Layout.{put_client_word, state_field, tag_field, setpoints_field, tags_field, badges_field}
 use Rattle.tables.specs.Tables.{Tables, tables_of, servers_of, mask_of, tag_of, record_of}
 use Rattle.tables.specs.declared.links.Contents.{Contents}
-use Rattle.rules.specs.Arrival.{Wait, Next}
+use Rattle.rules.specs.declared.Arrival.TheVariants.{Wait, Next}
 use Rattle.rules.specs.WordsLaws.{shown_other}
 use Rattle.rules.specs.Answers.{arrived}
 use Rattle.rules.specs.Common.{idle, asking_setpoints, pending, ended_record, tagged_record}

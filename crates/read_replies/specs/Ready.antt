@@ -2,7 +2,7 @@
 use Rattle.std.specs.Prelude.{ℕ, ◌*◌, ◌<◌, ◌≤◌, List, length}
 use Rattle.tables.specs.Rows.{HasRow}
 use Rattle.tables.specs.Layout.{count_at, servers_field, client_width, entry_width, log_places}
-use Rattle.rules.specs.Delivered.{Delivered}
+use Rattle.rules.specs.declared.Delivered.{Delivered}
 use Rattle.rules.specs.Reply.{shown_tags, read_shown}
 
 -- the keys' number is that of log entries

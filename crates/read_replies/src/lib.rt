@@ -6,7 +6,7 @@ ghost use Rattle.std.specs.Prelude.{◌≡◌, cond, List, ℕ, ◌<◌};
 ghost use Rattle.tables.specs.Tables.{tables_of};
 ghost use Rattle.tables.specs.Layout.{mask_field, tag_field, client_word};
 ghost use Rattle.tables.specs.Links.{HasLinks};
-ghost use Rattle.rules.specs.Arrival.{Wait};
+ghost use Rattle.rules.specs.declared.Arrival.TheVariants.{Wait};
 ghost use Rattle.rules.specs.Answers.{arrived, nothing_shown};
 ghost use Rattle.rules.specs.Reply.{on_keys, on_got};
 ghost use Rattle.step_parts.specs.Filled.{Fillable};

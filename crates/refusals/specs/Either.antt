@@ -3,7 +3,7 @@ use Rattle.std.specs.Prelude.{ℕ, zero, suc, ◌≡◌, refl}
 use Rattle.std.proofs.Common.{arith}
 use Rattle.tables.specs.Tables.{Tables}
 use Rattle.rules.specs.Answer.{Ok}
-use Rattle.rules.specs.Arrival as arrival
+use Rattle.rules.specs.declared.Arrival.TheVariants as arrival
 use Rattle.rules.specs.Answers.{Left, left, Arrived}
 use Rattle.rules.specs.Request.{refused}
 use Rattle.rules.specs.Reply.{said}

@@ -9,7 +9,7 @@ use Rattle.tables.specs.Layout.{end_of_record, put_begun, state_field, record_fi
 use Rattle.tables.specs.Tables.{Tables, clients_of, step_of, entries_of, writes_of, reads_of, state_of, record_of}
 use Rattle.rules.specs.Common.{idle, ended_record, tagged_record}
 use Rattle.rules.specs.Common as rules
-use Rattle.rules.specs.Delivered.{Delivered}
+use Rattle.rules.specs.declared.Delivered.{Delivered}
 use Rattle.soundness.specs.Sound.{is_writing, is_reading, is_open}
 use Rattle.soundness.specs.Facts as underway
 use Rattle.soundness.specs.Room.{write_open, read_open, write-row, read-row, next-write, next-read}

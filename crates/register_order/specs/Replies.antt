@@ -13,8 +13,8 @@ use Rattle.tables.specs.Tables.{Tables, servers_of, clients_of, step_of, entries
 use Rattle.tables.specs.declared.links.Contents.{Contents}
 use Rattle.tables.specs.declared.links.Content.{Content}
 use Rattle.tables.specs.declared.links.Content.TheVariants.{Nothing, Request, Reply, Lost}
-use Rattle.rules.specs.Arrival.{Wait, Next, Refused}
-use Rattle.rules.specs.Delivered.{Delivered}
+use Rattle.rules.specs.declared.Arrival.TheVariants.{Wait, Next, Refused}
+use Rattle.rules.specs.declared.Delivered.{Delivered}
 use Rattle.rules.specs.Answers.{Arrived}
 use Rattle.rules.specs.Common.{idle, entering, asking_keys, asking_setpoints, asking_all, coordinator, request, pending}
 use Rattle.rules.specs.Common as rules

@@ -2,8 +2,8 @@
 use Rattle.std.specs.Prelude.{ℕ, zero, suc, ◌-◌, not, List, [], ◌∷◌, ◌++◌, map}
 use Rattle.tables.specs.Layout.{record_word, end_of_record, put_record_word}
 use Rattle.tables.specs.Tables.{Tables, with_writes, with_reads, entries_of, writes_of, reads_of}
-use Rattle.rules.specs.Arrival.{Arrival}
-use Rattle.rules.specs.Arrival.{Wait, Next, Write, Read, Refused}
+use Rattle.rules.specs.declared.Arrival.{Arrival}
+use Rattle.rules.specs.declared.Arrival.TheVariants.{Wait, Next, Write, Read, Refused}
 use Rattle.refusals.specs.Steps.{deliver_reply}
 use Rattle.listing.specs.Register.{places_below, passing, inserted_all, is_finished, finished_below, has_tag, Line, write, read}
 use Rattle.listing.specs.Register.{writes_of_tag, reads_of_tag, register}

@@ -3,8 +3,8 @@
 use Rattle.std.specs.Prelude.{ℕ, ◌≡◌, true, false, cond, List, replicate}
 use Rattle.std.proofs.Common.{◌∙◌, ap}
 use Rattle.tables.specs.Tables.{Tables}
-use Rattle.rules.specs.Arrival.{Arrival}
-use Rattle.rules.specs.Delivered.{Delivered}
+use Rattle.rules.specs.declared.Arrival.{Arrival}
+use Rattle.rules.specs.declared.Delivered.{Delivered}
 use Rattle.rules.specs.Answers.{Arrived, arrived, nothing_shown}
 use Rattle.rules.specs.Reply.{said, shown_setpoints, shown_badges}
 use Rattle.reply_parts.specs.declared.Outcome.{Outcome}

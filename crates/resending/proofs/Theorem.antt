@@ -13,8 +13,8 @@ use Rattle.rules.specs.Reply.{said, reply_delivered}
 use Rattle.rules.specs.Loss.{link_lost, link_resent}
 use Rattle.rules.specs.Answer.{Answer}
 use Rattle.rules.specs.Answer.{Ok, Refused}
-use Rattle.rules.specs.Arrival as arrival
-use Rattle.rules.specs.Delivered.{Delivered}
+use Rattle.rules.specs.declared.Arrival.TheVariants as arrival
+use Rattle.rules.specs.declared.Delivered.{Delivered}
 use Rattle.refusals.specs.Refusals.{open_refusal, write_refusal, read_refusal, delivery_refusal}
 use Rattle.refusals.specs.Steps.{badge_of, open', begin_write, begin_read, deliver_request, deliver_reply, lose, resend}
 use Rattle.refusals.specs.Former.{formerly_begun_read}

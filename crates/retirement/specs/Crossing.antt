@@ -11,7 +11,7 @@ use Rattle.tables.specs.Tables.{Tables}
 use Rattle.server.specs.Held.{appended}
 use Rattle.coordinator.specs.Log as log
 use Rattle.rules.specs.Answer.{Ok, Refused}
-use Rattle.rules.specs.Arrival as arrival
+use Rattle.rules.specs.declared.Arrival.TheVariants as arrival
 use Rattle.rules.specs.Answers.{nothing_shown}
 use Rattle.rules.specs.Begin.{begun_write, begun_read}
 use Rattle.rules.specs.Request.{on_set, on_new_set, on_enter, on_new_enter, on_which_keys, on_get, on_get_all, on_request_in, request_delivered}

@@ -3,9 +3,9 @@ use Rattle.std.specs.Prelude.{ℕ, List, [], ◌∷◌, replicate}
 use Rattle.tables.specs.Tables.{Tables}
 use Rattle.rules.specs.Answer.{Answer}
 use Rattle.rules.specs.Answer as answer
-use Rattle.rules.specs.Arrival.{Arrival}
-use Rattle.rules.specs.Arrival as arrival
-use Rattle.rules.specs.Delivered.{Delivered}
+use Rattle.rules.specs.declared.Arrival.{Arrival}
+use Rattle.rules.specs.declared.Arrival.TheVariants as arrival
+use Rattle.rules.specs.declared.Delivered.{Delivered}
 
 -- the words of document 01, in the order of the answers
 pub data Word : Type 0 where

@@ -3,8 +3,8 @@ use Rattle.std.specs.Prelude.{ℕ, ◌≡◌, refl, get_or}
 use Rattle.std.proofs.Common.{sym, ap, ◌∙◌}
 use Rattle.rules.specs.Answer.{Answer}
 use Rattle.rules.specs.Answer as answer
-use Rattle.rules.specs.Arrival.{Arrival}
-use Rattle.rules.specs.Arrival as arrival
+use Rattle.rules.specs.declared.Arrival.{Arrival}
+use Rattle.rules.specs.declared.Arrival.TheVariants as arrival
 use Rattle.rules.specs.Answers.{Word, ok, wait, next, write, read, no', Said, answer_said, arrival_said}
 
 -- what can be had back from what it says is said by nothing else

@@ -1,7 +1,5 @@
 -- The rules of the steps, in document 01's order. These definitions say what is right; the crates above are proved equal to them.
 pub mod Answer
-pub mod Arrival
-pub mod Delivered
 pub mod Answers
 pub mod AnswersLaws
 pub mod Words

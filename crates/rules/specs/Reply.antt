@@ -9,9 +9,9 @@ use Rattle.tables.specs.Tables.{Tables, with_counts, with_clients, with_links, w
 use Rattle.tables.specs.declared.links.Contents.{Contents}
 use Rattle.tables.specs.declared.links.Content.{Content}
 use Rattle.tables.specs.declared.links.Content.TheVariants.{Nothing, Request, Reply, Lost}
-use Rattle.rules.specs.Arrival.{Arrival}
-use Rattle.rules.specs.Arrival.{Wait, Next, Write, Read, Refused}
-use Rattle.rules.specs.Delivered.{Delivered}
+use Rattle.rules.specs.declared.Arrival.{Arrival}
+use Rattle.rules.specs.declared.Arrival.TheVariants.{Wait, Next, Write, Read, Refused}
+use Rattle.rules.specs.declared.Delivered.{Delivered}
 use Rattle.rules.specs.Answers.{Arrived, arrived, nothing_shown}
 use Rattle.rules.specs.Words.{every, kept_words, laid_words, shown_words}
 use Rattle.rules.specs.Common.{idle, writing, entering, asking_keys, asking_setpoints, coordinator, request, next_step, counted, pending, ended_record, tagged_record}

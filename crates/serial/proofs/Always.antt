@@ -13,9 +13,9 @@ use Rattle.ranges.specs.Tests.{either, by_equal, by-test, not-both}
 use Rattle.ranges.specs.Each.{Each, each_append, each_map, each_at}
 use Rattle.ranges.specs.InsertedLaws.{each-inserted}
 use Rattle.rules.specs.Answer as answer
-use Rattle.rules.specs.Arrival.{Arrival}
-use Rattle.rules.specs.Arrival as arrival
-use Rattle.rules.specs.Delivered.{Delivered}
+use Rattle.rules.specs.declared.Arrival.{Arrival}
+use Rattle.rules.specs.declared.Arrival.TheVariants as arrival
+use Rattle.rules.specs.declared.Delivered.{Delivered}
 use Rattle.claim.specs.Steps.{Event, opened, begun-write, begun-read, requested, replied, lost, resent, Played}
 use Rattle.refusals.specs.Steps.{badge_of}
 use Rattle.claim.specs.History.{value_written, changed, Transaction, no_write, Doing, nothing, writing, tagged, reading}

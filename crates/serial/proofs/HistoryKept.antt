@@ -9,9 +9,9 @@ use Rattle.ranges.specs.Tests.{by_equal}
 use Rattle.ranges.specs.Each.{each_map}
 use Rattle.ranges.specs.InsertedLaws.{each-inserted}
 use Rattle.rules.specs.Answer.{Ok, Refused}
-use Rattle.rules.specs.Arrival.{Arrival}
-use Rattle.rules.specs.Arrival as arrival
-use Rattle.rules.specs.Delivered.{Delivered}
+use Rattle.rules.specs.declared.Arrival.{Arrival}
+use Rattle.rules.specs.declared.Arrival.TheVariants as arrival
+use Rattle.rules.specs.declared.Delivered.{Delivered}
 use Rattle.claim.specs.Steps.{Event, opened, begun-write, begun-read, requested, replied, lost, resent}
 use Rattle.refusals.specs.Steps.{badge_of}
 use Rattle.claim.specs.History.{Value, value_opened, value_written, changed, Transaction, Doing, nothing, writing}

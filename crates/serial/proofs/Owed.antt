@@ -4,9 +4,9 @@ use mathlib.Core.Path.{◌≡◌}
 use mathlib.Core.Bool.{true, cond}
 use Rattle.keys.specs.Masks.{has_server}
 use Rattle.rules.specs.Answer.{Ok, Refused}
-use Rattle.rules.specs.Arrival.{Arrival}
-use Rattle.rules.specs.Arrival as arrival
-use Rattle.rules.specs.Delivered.{Delivered}
+use Rattle.rules.specs.declared.Arrival.{Arrival}
+use Rattle.rules.specs.declared.Arrival.TheVariants as arrival
+use Rattle.rules.specs.declared.Delivered.{Delivered}
 use Rattle.claim.specs.Steps.{Event, opened, begun-write, begun-read, requested, replied, lost, resent}
 use Rattle.claim.specs.History.{Value, value_shown, changed, Transaction, Doing, nothing, writing, tagged, reading, History}
 use Rattle.claim.specs.Claim.{enough}

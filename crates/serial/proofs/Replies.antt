@@ -23,7 +23,7 @@ use Rattle.rules.specs.Answers.{nothing_shown}
 use Rattle.rules.specs.Common.{idle, entering, asking_setpoints, asking_all, coordinator, request}
 use Rattle.rules.specs.Common as rules
 use Rattle.rules.specs.Choice.{has_version, serves, qualifies, chosen_tag, chosen_place, chosen_setpoint, chosen_badge}
-use Rattle.rules.specs.Arrival as arrival
+use Rattle.rules.specs.declared.Arrival.TheVariants as arrival
 use Rattle.claim.specs.Steps.{replied}
 use Rattle.claim.specs.History.{Value, changed, nothing, writing, History, ended}
 use Rattle.serial.proofs.Places.{changed-same, changed_other, changed-all, changed-both}

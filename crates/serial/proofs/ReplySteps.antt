@@ -32,8 +32,8 @@ use Rattle.rules.specs.Reply.{kept_badges, badge_at}
 use Rattle.rules.specs.Reply.{got_number}
 use Rattle.rules.specs.Reply.{received_in, setpoint_at, kept_setpoints, forgotten, tag_chosen, concluded, chosen_tags, on_all}
 use Rattle.rules.specs.Reply.{on_reply_in, on_reply, reply_delivered}
-use Rattle.rules.specs.Delivered.{Delivered}
-use Rattle.rules.specs.Arrival as arrival
+use Rattle.rules.specs.declared.Delivered.{Delivered}
+use Rattle.rules.specs.declared.Arrival.TheVariants as arrival
 use Rattle.keeping.specs.Accepted.{Deliverable, target_below}
 use Rattle.claim.specs.Steps.{replied}
 use Rattle.claim.specs.History.{changed, History}

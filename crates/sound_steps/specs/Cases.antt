@@ -4,8 +4,8 @@ use Rattle.std.proofs.Math.Nat.{mod-eq_of_lt}
 use Rattle.std.proofs.Common.{sym, ◌∙◌}
 use Rattle.tables.specs.Tables.{Tables}
 use Rattle.rules.specs.Answer.{Ok, Refused}
-use Rattle.rules.specs.Arrival as arrival
-use Rattle.rules.specs.Delivered.{Delivered}
+use Rattle.rules.specs.declared.Arrival.TheVariants as arrival
+use Rattle.rules.specs.declared.Delivered.{Delivered}
 use Rattle.rules.specs.Answers.{Left, left, Arrived, arrived, nothing_shown}
 use Rattle.rules.specs.Open.{opened}
 use Rattle.rules.specs.Begin.{begun_write, begun_read}

@@ -9,7 +9,7 @@ use Rattle.tables.specs.Tables.{Tables, state_of}
 use Rattle.tables.specs.declared.links.Contents.{Contents}
 use Rattle.tables.specs.declared.links.Content.TheVariants.{Reply}
 use Rattle.tables.specs.declared.links.Link.{Link}
-use Rattle.rules.specs.Arrival.{Arrival}
+use Rattle.rules.specs.declared.Arrival.{Arrival}
 use Rattle.rules.specs.Answers.{Arrived, arrived}
 use Rattle.rules.specs.Reply.{said, on_reply_in, reply_delivered}
 use Rattle.soundness.specs.Facts.{Sound}

@@ -3,7 +3,7 @@ use Rattle.std.specs.Prelude.{ℕ, ◌≡◌}
 use Rattle.std.proofs.Common.{◌∙◌, ap}
 use Rattle.tables.specs.Tables.{Tables}
 use Rattle.rules.specs.Answer.{Answer}
-use Rattle.rules.specs.Delivered.{Delivered}
+use Rattle.rules.specs.declared.Delivered.{Delivered}
 use Rattle.rules.specs.Answers.{Left, left, Arrived, arrived}
 use Rattle.step_numbers.specs.Numbers.{answer_number, crossing_of, numbered, in_numbers, crossed, in_crossing}
 use Rattle.step_numbers.specs.declared.Crossing.{Crossing}

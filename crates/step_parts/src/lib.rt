@@ -5,7 +5,6 @@ ghost use Rattle.std.specs.Prelude.{◌≡◌};
 ghost use Rattle.tables.specs.Links.{HasLinks};
 ghost use Rattle.rules.specs.Answers.{nothing_shown};
 ghost use Rattle.rules.specs.Common.{pending};
-ghost use Rattle.rules.specs.Results.{arrival_at, delivered_at};
 ghost use Rattle.step_parts.specs.Filled.{Fillable, Filled};
 ghost use Rattle.step_parts.specs.Waiting.{KindsFit};
 
@@ -16,10 +15,10 @@ use tables::{counts, links};
 
 // An answer that shows no setpoint.
 pub fn showing_nothing(arrival: Arrival) -> Delivered
-    ensures { delivered_at result ≡ nothing_shown (arrival_at arrival) }
+    ensures { result ≡ nothing_shown arrival }
 {
     Delivered {
-        arrival,
+        arrival: arrival,
         setpoints: [0; 16],
         tags: [0; 16],
         badges: [0; 16],

@@ -2,8 +2,8 @@
 use Rattle.std.specs.Prelude.{ℕ, ◌≡◌, Bool, true, not, List}
 use Rattle.tables.specs.Tables.{Tables}
 use Rattle.rules.specs.Answer.{Refused}
-use Rattle.rules.specs.Arrival as arrival
-use Rattle.rules.specs.Delivered.{Delivered}
+use Rattle.rules.specs.declared.Arrival.TheVariants as arrival
+use Rattle.rules.specs.declared.Delivered.{Delivered}
 use Rattle.rules.specs.Answers.{left, arrived, nothing_shown}
 use Rattle.soundness.specs.Sound.{sound}
 use Rattle.refusals.specs.Refusals.{write_refusal, read_refusal, delivery_refusal}

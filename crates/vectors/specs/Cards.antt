@@ -4,8 +4,8 @@ use Rattle.keys.specs.Keys.{key_of}
 use Rattle.tables.specs.Tables.{step_of}
 use Rattle.coordinator.specs.Latest.{latest_key}
 use Rattle.rules.specs.Answer as answer
-use Rattle.rules.specs.Arrival as arrival
-use Rattle.rules.specs.Delivered.{Delivered}
+use Rattle.rules.specs.declared.Arrival.TheVariants as arrival
+use Rattle.rules.specs.declared.Delivered.{Delivered}
 use Rattle.rules.specs.Choice.{chosen_tag}
 use Rattle.refusals.specs.Steps.{open', begin_write, begin_read, deliver_reply}
 use Rattle.frames.specs.declared.Message.TheVariants.{Set}

@@ -5,8 +5,8 @@ use Rattle.tables.specs.Layout.{put_client_word, state_field, tag_field}
 use Rattle.tables.specs.Links.{put_link}
 use Rattle.tables.specs.Tables.{Tables, tables_of, count_of, mask_of, record_of}
 use Rattle.tables.specs.declared.links.Contents.{Contents}
-use Rattle.rules.specs.Arrival.{Arrival}
-use Rattle.rules.specs.Arrival.{Wait, Next, Write}
+use Rattle.rules.specs.declared.Arrival.{Arrival}
+use Rattle.rules.specs.declared.Arrival.TheVariants.{Wait, Next, Write}
 use Rattle.rules.specs.Common.{idle, entering, coordinator, request, pending, ended_record}
 use Rattle.rules.specs.Reply.{said, on_set_done, on_entered}
 use Rattle.reply_parts.specs.Settled.{Settled, is-pending}
