@@ -2,7 +2,7 @@
 // reply answers, as an outcome and as what is shown of it. `write_replies`, `read_replies` and `choice_replies` have a function for each state.
 #![tactic(auto)]
 
-ghost use Rattle.std.specs.Prelude.{◌≡◌, true};
+ghost use Rattle.std.specs.Prelude.{◌≡◌, IfSome};
 ghost use Rattle.tables.specs.Rows.{HasRow};
 ghost use Rattle.tables.specs.Layout.{client_width, record_width, state_field, put_client_word};
 ghost use Rattle.rules.specs.Common.{idle, ended_record, tagged_record};
@@ -14,13 +14,13 @@ use rules::{Arrival, Delivered, states};
 use step_parts::words;
 use tables::{clients, links};
 
-// What a delivered reply answers. Where a READ has ended, the answer shows the words of these servers that the client's row has; the tags
-// beside them are in a row that is lent. So nothing is built for a reply that shows nothing, and what is shown is written where it goes.
+// What a delivered reply answers. Where a READ has ended, the answer shows the words of the mask's servers that the client's row has; the
+// tags beside them are in a row that is lent. So nothing is built for a reply that shows nothing, and what is shown is written where it goes.
 #[derive(Clone, Copy)]
 pub struct Outcome {
     pub arrival: Arrival,
-    pub ended: bool,
-    pub mask: u32,
+    // The mask of a READ that has ended.
+    pub shown: Option<u32>,
 }
 
 // An answer that shows nothing.
@@ -28,9 +28,8 @@ pub fn plain(arrival: Arrival) -> Outcome
     ensures { result ≡ plainly arrival }
 {
     Outcome {
-        arrival: arrival,
-        ended: false,
-        mask: 0,
+        arrival,
+        shown: None,
     }
 }
 
@@ -44,28 +43,22 @@ pub fn settle(counts: &mut [u32], links: &mut [u32], client: usize, target: usiz
 
 // The answer to a delivered reply, with what it shows of the client's row and the tags beside it.
 pub fn shown(clients: &[u32], client: usize, outcome: Outcome, tags: [u32; 16]) -> Delivered
-    requires { outcome.ended ≡ true → HasRow client_width clients.now client }
+    requires { IfSome outcome.shown (λ mask. HasRow client_width clients.now client) }
     ensures { result ≡ shown_by outcome tags clients.now client }
 {
     let arrival = outcome.arrival;
-    if !outcome.ended {
+    let Some(mask) = outcome.shown else {
         return step_parts::showing_nothing(arrival);
-    }
+    };
     let mut setpoints = [0u32; 16];
     let mut badges = [0u32; 16];
-    words::show_words(
-        clients,
-        client,
-        clients::SETPOINTS,
-        outcome.mask,
-        &mut setpoints,
-    );
-    words::show_words(clients, client, clients::BADGES, outcome.mask, &mut badges);
+    words::show_words(clients, client, clients::SETPOINTS, mask, &mut setpoints);
+    words::show_words(clients, client, clients::BADGES, mask, &mut badges);
     Delivered {
-        arrival: arrival,
-        setpoints: setpoints,
-        tags: tags,
-        badges: badges,
+        arrival,
+        setpoints,
+        tags,
+        badges,
     }
 }
 
