@@ -28,11 +28,7 @@ fn send_badged(links: &mut [u32], client: usize, target: usize, key: Key, badge:
     requires { HasRow link_width links.old (link_row client target) }
     ensures { links.new ≡ put_link links.old client target (set_request key badge number) }
 {
-    let contents = Contents {
-        key: key,
-        number: number,
-        badge: badge,
-    };
+    let contents = Contents { key, number, badge };
     links::put_link(
         links,
         client,
@@ -83,10 +79,8 @@ pub fn send_sets(
     ensures { links.new
         ≡ sent_sets client mask key badge setpoints.now (length setpoints.now) links.old }
 {
-    let mut server = 0;
-    while server < setpoints.len() {
-        send_masked(links, client, mask, key, badge, setpoints[server], server);
-        server += 1;
+    for (server, setpoint) in setpoints.iter().enumerate() {
+        send_masked(links, client, mask, key, badge, *setpoint, server);
     }
 }
 
@@ -95,9 +89,7 @@ pub fn send_asks(links: &mut [u32], client: usize, mask: u32, servers: usize)
     requires { (HasLinks links.old client) × (servers ≤ 16) }
     ensures { links.new ≡ sent_asks client mask servers links.old }
 {
-    let mut server = 0;
-    while server < servers {
+    for server in 0..servers {
         send_masked(links, client, mask, Key::OPENING, 0, 0, server);
-        server += 1;
     }
 }
