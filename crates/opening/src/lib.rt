@@ -5,22 +5,11 @@ ghost use Rattle.std.specs.Prelude.{◌≡◌, List, ℕ, ◌*◌, ◌≤◌, le
 ghost use Rattle.ranges.specs.Turns.{turns};
 ghost use Rattle.tables.specs.Tables.{tables_of};
 ghost use Rattle.tables.specs.Layout.{count_words, server_places, value_width};
-ghost use Rattle.rules.specs.Open.{cleared, hold_one, opened_counts, open_key, open_value, opened};
+ghost use Rattle.rules.specs.Open.{hold_one, opened_counts, open_key, open_value, opened};
 ghost use Rattle.opening.specs.Ready.{OpenReady, open_scalars};
 
 use keys::Key;
 use tables::{counts, log, versions};
-
-// Every word is 0.
-fn clear(words: &mut [u32])
-    ensures { words.new ≡ cleared words.old }
-{
-    let mut at = 0;
-    while at < words.len() {
-        words[at] = 0;
-        at += 1;
-    }
-}
 
 // Method, servers and clients, step 1 and one log entry.
 fn open_scalars(counts: &mut [u32], method: u32, servers: u32, clients: u32)
@@ -39,10 +28,8 @@ fn hold_one(counts: &mut [u32], servers: usize)
     requires { (count_words ≤ length counts.old) × (servers ≤ 16) }
     ensures { counts.new ≡ turns hold_one servers counts.old }
 {
-    let mut server = 0;
-    while server < servers {
+    for server in 0..servers {
         counts::put_count(counts, counts::HELD + server, 1);
-        server += 1;
     }
 }
 
@@ -53,10 +40,8 @@ fn open_versions(keys: &mut [u32], values: &mut [u32], setpoints: &[u32])
     ensures keys { keys.new ≡ turns open_key (length setpoints.now) keys.old }
     ensures values { values.new ≡ turns (open_value setpoints.now) (length setpoints.now) values.old }
 {
-    let mut server = 0;
-    while server < setpoints.len() {
-        versions::put_version(keys, values, server, 0, Key::OPENING, 0, setpoints[server]);
-        server += 1;
+    for (server, setpoint) in setpoints.iter().enumerate() {
+        versions::put_version(keys, values, server, 0, Key::OPENING, 0, *setpoint);
     }
 }
 
@@ -65,7 +50,7 @@ fn open_counts(counts: &mut [u32], method: u32, servers: u32, clients: u32)
     requires { (count_words ≤ length counts.old) × (servers ≤ 16) }
     ensures { counts.new ≡ opened_counts method servers clients counts.old }
 {
-    clear(counts);
+    counts.fill(0);
     open_scalars(counts, method, servers, clients);
     hold_one(counts, servers as usize);
 }
@@ -90,8 +75,8 @@ pub fn open(
         ≡ opened method servers panels setpoints.now (tables_of counts.old clients.old links.old keys.old values.old log.old writes reads) }
 {
     open_counts(counts, method, servers, panels);
-    clear(clients);
-    clear(links);
+    clients.fill(0);
+    links.fill(0);
     open_versions(keys, values, setpoints);
     log::put_entry(log, 0, Key::OPENING, keys::all_servers(servers));
 }
