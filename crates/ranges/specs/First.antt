@@ -1,5 +1,5 @@
 -- The first number below n that passes a test.
-use Rattle.std.specs.Prelude.{ℕ, zero, suc, ◌+◌, Bool, cond}
+use Rattle.std.specs.Prelude.{ℕ, zero, suc, Bool, cond}
 
 -- the first of the n numbers from a on that passes, and a + n where none does
 unfoldable pub first_from : (ℕ → Bool) → ℕ → ℕ → ℕ

@@ -19,3 +19,4 @@ pub mod Laid
 pub mod LaidLaws
 pub mod Inserted
 pub mod InsertedLaws
+pub mod Chains

@@ -14,12 +14,10 @@ pub fn has_equal(words: &[u32], place: usize, many: usize, word: u32) -> bool
     ensures { result ≡ any_below (equal_from words.now place word) many }
 {
     let mut found = false;
-    let mut at = 0;
-    while at < many {
+    for at in 0..many {
         if words[place + at] == word {
             found = true;
         }
-        at += 1;
     }
     found
 }
@@ -45,14 +43,12 @@ fn first_behind(words: &[u32], start: usize, from: usize, n: usize, word: u32) -
     requires { (start + n ≤ length words.now) × Sought (equal_from words.now start word) n from }
     ensures { result ≡ first_below (equal_from words.now start word) n }
 {
-    let mut at = from;
-    while at < n {
+    for at in from..n {
         if words[start + at] == word {
             return at;
         }
-        at += 1;
     }
-    at
+    n
 }
 
 // The first of the n words from start on that equals a word: its distance from start, and n where none does. What is passed over by 16 and

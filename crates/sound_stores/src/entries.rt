@@ -45,14 +45,7 @@ fn entries_sound(counts: &[u32], log: &[u32]) -> bool
     ensures { (t : Tables) → let u = with_log log.now (with_counts counts.now t) in result ≡ all_below (entry_sound u) (entries_of u) }
 {
     let entries = counts::count_at(counts, counts::ENTRIES) as usize;
-    let mut tag = 0;
-    while tag < entries {
-        if !entry_sound(counts, log, tag) {
-            return false;
-        }
-        tag += 1;
-    }
-    true
+    (0..entries).all(|tag| entry_sound(counts, log, tag))
 }
 
 pub fn log_sound(counts: &[u32], log: &[u32]) -> bool

@@ -1,5 +1,6 @@
 -- `ranges::first_behind` meets its contract: no word before `at` is equal, so the first one that the loop meets, or the end, is the first.
-use Prim.Native.Nat.{◌-◌}
+use mathlib.Core.Path.{◌≡◌, ◌∙◌}
+use native.Mathlib.Omega.{arith}
 use borrow.Author.Tests.{eq-eqb, ne_eqb}
 use Rattle.ranges.specs.FirstLaws.{sought-more, sought-found, sought-end}
 use Rattle.ranges.proofs.first_behind.Goals as goal
@@ -14,4 +15,6 @@ pub loop-at-preserved : goal.loop-at-preserved
 loop-at-preserved c = sought-more _ _ c.loop-at.invariant c.loop-at-test.true (ne_eqb _ _ c.if-words-start.false)
 
 pub returns : goal.returns
-returns c = sought-end _ _ c.loop-at.invariant c.loop-at-test.false
+returns c =
+    let end : c.args.n ≡ c.loop-at.at = omega (arith, c.loop-at.invariant.within, c.loop-at-test.false) in
+    end ∙ sought-end _ _ c.loop-at.invariant c.loop-at-test.false

@@ -1,5 +1,4 @@
 -- `ranges::has_equal` meets its contract: what the loop has found so far is whether one of the words before `at` is equal.
-use Prim.Native.Nat.{◌-◌}
 use mathlib.Core.Path.{◌≡◌, sym, ◌∙◌}
 use native.Mathlib.Omega.{arith}
 use borrow.Author.Tests.{eq-eqb, ne_eqb}
