@@ -9,7 +9,7 @@ use Rattle.rules.specs.WordsLaws.{shown_other}
 use Rattle.rules.specs.Common.{idle, pending}
 use Rattle.rules.specs.Reply.{got_number, tag_chosen, concluded, on_all}
 use Rattle.reply_parts.specs.declared.Outcome.{Outcome}
-use Rattle.reply_parts.specs.Shown.{plainly, Shows, plain-shows, ended-shows}
+use Rattle.reply_parts.specs.Shown.{plainly, ended, Shows, plain-shows, ended-shows}
 use Rattle.reply_parts.specs.Settled.{Settled, is-pending}
 use Rattle.choice_replies.specs.Ready.{FinishedByC}
 
@@ -27,7 +27,7 @@ module _ (q i : ℕ) (t : Tables) {step : ℕ} {counts links : List ℕ} (s : Se
       pub all-ends : {tags clients' reads : List ℕ} {mask place k tag : ℕ} → b ≡ false → mask ≡ mask_of t q → place ≡ record_of t q →
           k ≡ servers_of t →
           FinishedByC clients t.keys t.values t.log t.reads q mask k place step tag tags clients' reads →
-          Shows (on_all w q i t) (record { arrival = Read tag; ended = true; mask = mask }) tags q
+          Shows (on_all w q i t) (ended (Read tag) mask) tags q
           (tables_of counts clients' links t.keys t.values t.log t.writes reads)
       unfolding on_all
       all-ends {tags} {mask = mask} {tag = tag} e m p' h f =

@@ -100,7 +100,6 @@ pub fn all_told(
     );
     Outcome {
         arrival: Arrival::Read(tag),
-        ended: true,
-        mask: mask,
+        shown: Some(mask),
     }
 }
