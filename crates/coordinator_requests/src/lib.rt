@@ -4,12 +4,12 @@
 ghost use Rattle.std.specs.Prelude.{◌≡◌, List, ℕ};
 ghost use Rattle.tables.specs.Tables.{tables_of};
 ghost use Rattle.rules.specs.Answers.{left};
+ghost use Rattle.rules.specs.Results.{answer_by};
 ghost use Rattle.step_parts.specs.Filled.{Fillable};
 ghost use Rattle.rules.specs.Request.{on_new_enter, on_enter};
 ghost use Rattle.coordinator_requests.specs.Ready.{Enterable};
 
-use keys::Key;
-use rules::Answer;
+use causes::Refusal;
 use tables::links::Contents;
 use tables::{clients, counts, records};
 
@@ -23,22 +23,22 @@ fn enter_new(
     client: usize,
     target: usize,
     contents: Contents,
-) -> Answer
+) -> Result<(), Refusal>
     requires fillable { Fillable counts.old links.old client target }
     requires enterable { Enterable counts.old clients.now log.old writes.old client }
     ensures { (keys values reads : List ℕ) →
-        left result (tables_of counts.new clients.now links.new keys values log.new writes.new reads)
+        left (answer_by result) (tables_of counts.new clients.now links.new keys values log.new writes.new reads)
         ≡ on_new_enter contents client target (tables_of counts.old clients.now links.old keys values
         log.old writes.old reads) }
 {
     let tag = counts::count_at(counts, counts::ENTRIES);
-    let key: Key = contents.key;
-    if coordinator::enter(counts, log, key, contents.number) {
+    if coordinator::enter(counts, log, contents.key, contents.number) {
         let place = clients::client_word(clients, client, clients::RECORD);
         records::put_record_word(writes, place as usize, records::TAG, tag);
-        return answers::answer(counts, links, client, target, tag);
+        answers::answer(counts, links, client, target, tag);
+        return Ok(());
     }
-    Answer::Refused(8)
+    Err(Refusal::Unanswerable)
 }
 
 // State 2: an enter request whose key the log has already is answered with its first tag, also where the log is full; any other appends.
@@ -51,20 +51,20 @@ pub fn enter(
     client: usize,
     target: usize,
     contents: Contents,
-) -> Answer
+) -> Result<(), Refusal>
     requires fillable { Fillable counts.old links.old client target }
     requires enterable { Enterable counts.old clients.now log.old writes.old client }
     ensures { (keys values reads : List ℕ) →
-        left result (tables_of counts.new clients.now links.new keys values log.new
+        left (answer_by result) (tables_of counts.new clients.now links.new keys values log.new
         writes.new reads)
         ≡ on_enter contents client target (tables_of counts.old clients.now links.old keys values
         log.old writes.old reads) }
 {
     let entries = counts::count_at(counts, counts::ENTRIES) as usize;
-    let key: Key = contents.key;
-    let tag = log_search::find(&*log, entries, key);
+    let tag = log_search::find(&*log, entries, contents.key);
     if tag < entries {
-        return answers::answer(counts, links, client, target, tag as u32);
+        answers::answer(counts, links, client, target, tag as u32);
+        return Ok(());
     }
     enter_new(
         counts, clients, links, log, writes, client, target, contents,

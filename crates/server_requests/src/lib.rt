@@ -4,12 +4,12 @@
 ghost use Rattle.std.specs.Prelude.{◌≡◌, List, ℕ};
 ghost use Rattle.tables.specs.Tables.{tables_of};
 ghost use Rattle.rules.specs.Answers.{left};
+ghost use Rattle.rules.specs.Results.{answer_by};
 ghost use Rattle.step_parts.specs.Filled.{Fillable};
 ghost use Rattle.rules.specs.Request.{on_new_set, on_set, on_get};
 ghost use Rattle.server_requests.specs.Ready.{AtServer};
 
-use keys::Key;
-use rules::Answer;
+use causes::Refusal;
 use tables::links::Contents;
 use tables::{counts, versions};
 
@@ -22,27 +22,27 @@ fn set_new(
     client: usize,
     target: usize,
     contents: Contents,
-) -> Answer
+) -> Result<(), Refusal>
     requires fillable { Fillable counts.old links.old client target }
     requires at_server { AtServer counts.old keys.old values.old target }
     ensures { (clients log writes reads : List ℕ) →
-        left result (tables_of counts.new clients links.new keys.new values.new log writes reads)
+        left (answer_by result) (tables_of counts.new clients links.new keys.new values.new log writes reads)
         ≡ on_new_set contents client target (tables_of counts.old clients links.old keys.old
         values.old log writes reads) }
 {
-    let key: Key = contents.key;
     if server::append(
         counts,
         keys,
         values,
         target,
-        key,
+        contents.key,
         contents.badge,
         contents.number,
     ) {
-        return answers::answer(counts, links, client, target, 0);
+        answers::answer(counts, links, client, target, 0);
+        return Ok(());
     }
-    Answer::Refused(8)
+    Err(Refusal::Unanswerable)
 }
 
 // State 1: a set request whose key the server holds already is acknowledged, also where the server is full; any other appends its version.
@@ -54,18 +54,18 @@ pub fn set(
     client: usize,
     target: usize,
     contents: Contents,
-) -> Answer
+) -> Result<(), Refusal>
     requires fillable { Fillable counts.old links.old client target }
     requires at_server { AtServer counts.old keys.old values.old target }
     ensures { (clients log writes reads : List ℕ) →
-        left result (tables_of counts.new clients links.new keys.new values.new log writes reads)
+        left (answer_by result) (tables_of counts.new clients links.new keys.new values.new log writes reads)
         ≡ on_set contents client target (tables_of counts.old clients links.old keys.old
         values.old log writes reads) }
 {
     let held = counts::count_at(counts, counts::HELD + target) as usize;
-    let key: Key = contents.key;
-    if server::find(&*keys, target, held, key) < held {
-        return answers::answer(counts, links, client, target, 0);
+    if server::find(&*keys, target, held, contents.key) < held {
+        answers::answer(counts, links, client, target, 0);
+        return Ok(());
     }
     set_new(counts, links, keys, values, client, target, contents)
 }
@@ -79,20 +79,20 @@ pub fn get(
     client: usize,
     target: usize,
     contents: Contents,
-) -> Answer
+) -> Result<(), Refusal>
     requires fillable { Fillable counts.old links.old client target }
     requires at_server { AtServer counts.old keys.now values.now target }
     ensures { (clients log writes reads : List ℕ) →
-        left result (tables_of counts.new clients links.new keys.now values.now log writes reads)
+        left (answer_by result) (tables_of counts.new clients links.new keys.now values.now log writes reads)
         ≡ on_get contents client target (tables_of counts.old clients links.old keys.now values.now log writes reads) }
 {
     let held = counts::count_at(counts, counts::HELD + target) as usize;
-    let key: Key = contents.key;
-    let place = server::find(keys, target, held, key);
+    let place = server::find(keys, target, held, contents.key);
     if place < held {
         let badge = versions::version_badge(values, target, place);
         let setpoint = versions::version_setpoint(values, target, place);
-        return answers::answer_badged(counts, links, client, target, badge, setpoint);
+        answers::answer_badged(counts, links, client, target, badge, setpoint);
+        return Ok(());
     }
-    Answer::Refused(8)
+    Err(Refusal::Unanswerable)
 }

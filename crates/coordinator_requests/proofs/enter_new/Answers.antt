@@ -2,7 +2,6 @@
 use Rattle.tables.specs.Tables.{tables_of}
 use Rattle.coordinator_requests.specs.Cases.{enter_step, enter-entered, enter-full}
 use borrow.Author.Rules.{rules}
-use Rattle.coordinator_requests.proofs.enter_new.Reads as reads
 use Rattle.coordinator_requests.proofs.enter_new.Goals as goal
 
 pub answer-requires : goal.answer-requires
@@ -15,14 +14,11 @@ answer-requires c =
 
 pub returns-then-enter : goal.returns-then-enter
 returns-then-enter c =
-    let a = c.args in
     λ keys values reads.
-    enter-entered a.contents a.client a.target (tables_of a.counts.now a.clients.now a.links.now keys values
-    a.log.now a.writes.now reads) c.enter.ensures c.count_at-tag.ensures
+    enter-entered _ _ _ _ c.enter.ensures c.count_at-tag.ensures
     c.client_word-place.ensures c.if-enter.true c.put_record_word.ensures c.answer.ensures
 
 pub returns : goal.returns
 returns c =
-    let a = c.args in λ keys values reads.
-    enter-full a.contents a.client a.target (tables_of a.counts.now a.clients.now a.links.now keys values
-    a.log.now a.writes.now reads) c.enter.ensures c.if-enter.false
+    λ keys values reads.
+    enter-full _ _ _ _ c.enter.ensures c.if-enter.false

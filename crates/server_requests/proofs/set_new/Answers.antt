@@ -2,7 +2,6 @@
 use Rattle.tables.specs.Tables.{tables_of}
 use Rattle.server_requests.specs.Cases.{set_step, set-stored, set_full}
 use borrow.Author.Rules.{rules}
-use Rattle.server_requests.proofs.set_new.Reads as reads
 use Rattle.server_requests.proofs.set_new.Goals as goal
 
 pub answer-requires : goal.answer-requires
@@ -15,13 +14,10 @@ answer-requires c =
 
 pub returns-then-append : goal.returns-then-append
 returns-then-append c =
-    let a = c.args in
     λ clients log writes reads.
-    set-stored a.contents a.client a.target (tables_of a.counts.now clients a.links.now a.keys.now
-    a.values.now log writes reads) c.append.ensures c.if-append.true c.answer.ensures
+    set-stored _ _ _ _ c.append.ensures c.if-append.true c.answer.ensures
 
 pub returns : goal.returns
 returns c =
-    let a = c.args in λ clients log writes reads.
-    set_full a.contents a.client a.target (tables_of a.counts.now clients a.links.now a.keys.now
-    a.values.now log writes reads) c.append.ensures c.if-append.false
+    λ clients log writes reads.
+    set_full _ _ _ _ c.append.ensures c.if-append.false
