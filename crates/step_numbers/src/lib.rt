@@ -4,17 +4,19 @@
 #![tactic(auto)]
 
 ghost use Rattle.std.specs.Prelude.{◌≡◌};
+ghost use Rattle.rules.specs.Results.{answer_by};
 ghost use Rattle.step_numbers.specs.Numbers.{answer_number, arrival_number, crossing_of};
 
-use rules::{Answer, Arrival, Delivered};
+use causes::Refusal;
+use rules::{Arrival, Delivered};
 
 // An answer as a number.
-pub fn answer_number(answer: Answer) -> u32
-    ensures { result ≡ answer_number answer }
+pub fn answer_number(answer: Result<(), Refusal>) -> u32
+    ensures { result ≡ answer_number (answer_by answer) }
 {
     match answer {
-        Answer::Ok => 0,
-        Answer::Refused(number) => number as u32,
+        Ok(()) => 0,
+        Err(refusal) => refusal.number() as u32,
     }
 }
 
@@ -46,14 +48,16 @@ pub struct Crossing {
 pub fn to_cross(delivered: Delivered) -> Crossing
     ensures { result ≡ crossing_of delivered }
 {
-    let arrival = delivered.arrival;
-    let setpoints = delivered.setpoints;
-    let tags = delivered.tags;
-    let badges = delivered.badges;
+    let Delivered {
+        arrival,
+        setpoints,
+        tags,
+        badges,
+    } = delivered;
     Crossing {
         number: arrival_number(arrival),
-        setpoints: setpoints,
-        tags: tags,
-        badges: badges,
+        setpoints,
+        tags,
+        badges,
     }
 }
