@@ -2,14 +2,13 @@
 // READ has ended and the client's row shows its setpoints and badges. `sound_exports` calls these; an edit of them proves no step.
 #![tactic(auto)]
 
-ghost use Rattle.std.specs.Prelude.{◌≡◌, true};
+ghost use Rattle.std.specs.Prelude.{◌≡◌};
 ghost use Rattle.tables.specs.Rows.{HasRow};
 ghost use Rattle.tables.specs.Layout.{client_width};
 ghost use Rattle.rules.specs.Answers.{nothing_shown};
-ghost use Rattle.reply_parts.specs.Shown.{shown_by};
+ghost use Rattle.reply_parts.specs.Shown.{ended, shown_by};
 ghost use Rattle.step_numbers.specs.Numbers.{crossing_of};
 
-use reply_parts::Outcome;
 use rules::Arrival;
 use step_numbers::Crossing;
 use step_parts::words;
@@ -28,20 +27,24 @@ pub fn plain(arrival: Arrival) -> Crossing
 }
 
 // The answer where a READ has ended, with what it shows of the client's row and the tags beside it.
-pub fn shown(clients: &[u32], client: usize, outcome: Outcome, tags: [u32; 16]) -> Crossing
-    requires { HasRow client_width clients.now client × (outcome.ended ≡ true) }
-    ensures { result ≡ crossing_of (shown_by outcome tags clients.now client) }
+pub fn shown(
+    clients: &[u32],
+    client: usize,
+    arrival: Arrival,
+    mask: u32,
+    tags: [u32; 16],
+) -> Crossing
+    requires { HasRow client_width clients.now client }
+    ensures { result ≡ crossing_of (shown_by (ended arrival mask) tags clients.now client) }
 {
-    let arrival = outcome.arrival;
-    let mask = outcome.mask;
     let mut setpoints = [0u32; 16];
     let mut badges = [0u32; 16];
     words::show_words(clients, client, clients::SETPOINTS, mask, &mut setpoints);
     words::show_words(clients, client, clients::BADGES, mask, &mut badges);
     Crossing {
         number: step_numbers::arrival_number(arrival),
-        setpoints: setpoints,
-        tags: tags,
-        badges: badges,
+        setpoints,
+        tags,
+        badges,
     }
 }
