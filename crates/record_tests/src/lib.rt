@@ -46,15 +46,9 @@ pub fn overlap(writes: &[u32], begun: usize, begin: u32, end: u32) -> u32
     requires { (begun ≤ record_places) × RecordsThere writes.now }
     ensures { result ≡ overlap writes.now begun begin end }
 {
-    let mut found: u32 = 0;
-    let mut place = 0;
-    while place < begun {
-        if overlaps(writes, begin, end, place) {
-            found += 1;
-        }
-        place += 1;
-    }
-    found
+    (0..begun)
+        .filter(|place| overlaps(writes, begin, end, *place))
+        .count() as u32
 }
 
 // How many WRITEs have a tag.
@@ -62,15 +56,9 @@ pub fn count_tagged(writes: &[u32], begun: usize) -> usize
     requires { (begun ≤ record_places) × RecordsThere writes.now }
     ensures { result ≡ count_below (λ place. not (has_tag writes.now 0 place)) begun }
 {
-    let mut found: usize = 0;
-    let mut place = 0;
-    while place < begun {
-        if !has_tag(writes, 0, place) {
-            found += 1;
-        }
-        place += 1;
-    }
-    found
+    (0..begun)
+        .filter(|place| !has_tag(writes, 0, *place))
+        .count()
 }
 
 // How many READs are finished.
@@ -78,13 +66,7 @@ pub fn count_finished(reads: &[u32], begun: usize) -> usize
     requires { (begun ≤ record_places) × RecordsThere reads.now }
     ensures { result ≡ count_below (is_finished reads.now) begun }
 {
-    let mut found: usize = 0;
-    let mut place = 0;
-    while place < begun {
-        if is_finished(reads, place) {
-            found += 1;
-        }
-        place += 1;
-    }
-    found
+    (0..begun)
+        .filter(|place| is_finished(reads, *place))
+        .count()
 }
