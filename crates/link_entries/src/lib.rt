@@ -14,11 +14,9 @@ pub fn log_entries(log: &[u32], entries: usize, words: &mut [u32], masks: &mut [
     requires { (entry_width * entries ≤ length log.now) × (entries ≤ length words.old) × (entries ≤ length masks.old) }
     ensures { (words.new ≡ laid (λ tag. word_at entry_width log.now tag 0) entries words.old) × (masks.new ≡ laid (entry_mask log.now) entries masks.old) }
 {
-    let mut tag: usize = 0;
-    while tag < entries {
+    for tag in 0..entries {
         words[tag] = log::key_word(log, tag);
         masks[tag] = log::entry_mask(log, tag);
-        tag += 1;
     }
 }
 
@@ -35,10 +33,8 @@ pub fn version_entries(
     ensures { (badges.new ≡ laid (version_badge values.now server) entries badges.old)
         × (setpoints.new ≡ laid (version_setpoint values.now server) entries setpoints.old) }
 {
-    let mut place: usize = 0;
-    while place < entries {
+    for place in 0..entries {
         badges[place] = versions::version_badge(values, server, place);
         setpoints[place] = versions::version_setpoint(values, server, place);
-        place += 1;
     }
 }

@@ -1,5 +1,4 @@
 -- `link_entries::log_entries` meets its contract: the first places hold the words of the keys passed, and the masks.
-use Prim.Native.Nat.{◌-◌}
 use Rattle.ranges.specs.LaidLaws.{laying-none, laying-more, laying-all}
 use Rattle.link_entries.proofs.log_entries.Goals as goal
 

@@ -1,5 +1,4 @@
 -- `link_entries::version_entries` meets its contract: the first places hold the badges and the setpoints of the versions passed.
-use Prim.Native.Nat.{◌-◌}
 use Rattle.ranges.specs.LaidLaws.{laying-none, laying-more, laying-all}
 use Rattle.link_entries.proofs.version_entries.Goals as goal
 

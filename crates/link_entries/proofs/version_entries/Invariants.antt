@@ -1,5 +1,4 @@
 -- `link_entries::version_entries` meets its contract: the first places hold the badges and the setpoints of the versions passed.
-use Prim.Native.Nat.{◌-◌}
 use Rattle.tables.specs.Layout.{version_badge, version_setpoint}
 use Rattle.ranges.specs.LaidLaws.{Laying}
 use Rattle.link_entries.proofs.version_entries.Given as goal
@@ -7,6 +6,3 @@ use Rattle.link_entries.proofs.version_entries.Given as goal
 abbrev pub invariant-loop-place : goal.invariant-loop-place
 invariant-loop-place l = Laying (version_badge l.values l.server) l.entries l.initial.badges l.place l.badges
     × Laying (version_setpoint l.values l.server) l.entries l.initial.setpoints l.place l.setpoints
-
-abbrev pub decreases-loop-place : goal.decreases-loop-place
-decreases-loop-place l = l.entries - l.place
