@@ -10,7 +10,7 @@ use Rattle.std.proofs.Math.Dec.{eqb}
 use Rattle.std.specs.Int.Bits.{bit_or}
 use Rattle.std.proofs.lemmas.List.{length-replicate, get_or-replicate}
 use Rattle.std.proofs.Math.Seq.{get_or-set_same, get_or-set_other}
-use borrow.Author.Tests.{ltb-true, lt-ltb, le-ltb, eq-eqb, ne_eqb}
+use borrow.Author.Tests.{ltb-true, eq-eqb, ne_eqb}
 use Rattle.ranges.specs.Tests.{either, by_equal, by-test, both_left, both_right}
 use Rattle.ranges.specs.All.{any_below}
 use Rattle.ranges.specs.First.{first_below}
@@ -42,21 +42,6 @@ mark_versions keys i n holders = turns (λ place. marked (2 ^ i) (version_word k
 -- the servers of a mask hold the keys of the versions received from them
 abbrev pub mark_servers : List ℕ → ℕ → (ℕ → ℕ) → ℕ → List ℕ → List ℕ
 mark_servers keys mask received k holders = turns (picked (has_server mask) (λ i. mark_versions keys i (received i))) k holders
-
--- the cases of one word, as the code meets them
-pub tabled_key : (w : ℕ) {b : Bool} → w < 65536 → b ≡ ltb (w % 256) 16 → b ≡ tabled w
-tabled_key w h e = e ∙ rw (lt-ltb w 65536 h)
-
-pub tabled-none : (w : ℕ) → 65536 ≤ w → false ≡ tabled w
-tabled-none w h = rw (le-ltb w 65536 h)
-
-pub mark-none : (mask w : ℕ) (holders : List ℕ) → tabled w ≡ false → holders ≡ marked mask w holders
-unfolding marked
-mark-none mask w holders e = rw e
-
-pub mark-one : (mask w : ℕ) (holders : List ℕ) → tabled w ≡ true → set holders (slot_of w) (bit_or (get_or holders (slot_of w) 0) mask) ≡ marked mask w holders
-unfolding marked
-mark-one mask w holders e = rw e
 
 -- a slot is in the table, and no two keys have one slot
 pub slot-below : (w : ℕ) → tabled w ≡ true → slot_of w < slots

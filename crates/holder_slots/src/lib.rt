@@ -15,10 +15,7 @@ pub const SLOTS: usize = 4096;
 pub fn is_tabled(word: u32) -> bool
     ensures { result ≡ tabled word }
 {
-    if word < 65536 {
-        return word % 256 < 16;
-    }
-    false
+    word < 65536 && word % 256 < 16
 }
 
 pub fn slot_of(word: u32) -> usize
@@ -28,13 +25,14 @@ pub fn slot_of(word: u32) -> usize
 }
 
 // The servers of a mask go into the slot of a word, if it has one.
+#[tactic(auto, unfolding(crate::specs::Holders::marked))]
 fn mark(holders: &mut [u16], mask: u16, word: u32)
     requires { slots ≤ length holders.old }
     ensures { holders.new ≡ marked mask word holders.old }
 {
     if is_tabled(word) {
         let slot = slot_of(word);
-        holders[slot] = holders[slot] | mask;
+        holders[slot] |= mask;
     }
 }
 
@@ -45,9 +43,7 @@ pub fn mark_versions(holders: &mut [u16], keys: &[u32], server: usize, received:
     ensures { holders.new ≡ mark_versions keys.now server received holders.old }
 {
     let mask = keys::one_server(server) as u16;
-    let mut place = 0;
-    while place < received {
+    for place in 0..received {
         mark(holders, mask, versions::key_word(keys, server, place));
-        place += 1;
     }
 }
