@@ -1,17 +1,11 @@
 -- Of specs/PairLaws: what cites a theorem there that a changed definition can make fail.
-use Rattle.std.specs.Prelude.{ℕ, suc, ◌+◌, ◌-◌, ◌≤◌, ◌<◌, ◌≡◌, refl, true, false, cond, List, [], ◌∷◌, take, drop, get_or, eqb}
-use Rattle.std.proofs.Common.{sym, ◌∙◌, true≢false, length-drop, eq-eqb, ne_eqb}
-use native.Mathlib.Omega.{arith}
-use Rattle.std.proofs.Math.ListN.{length, drop_of_length-le}
-use Rattle.ranges.specs.Tests.{either, by-test}
-use Rattle.schedule.specs.declared.Number.{Number}
-use Rattle.schedule.specs.declared.Number.TheVariants.{Value, Not}
-use Rattle.schedule.specs.Numbers.{spaced_of, Read, read_then, numbers_behind, numbers_of}
-use Rattle.schedule.specs.NumberLaws.{skipped}
+use Rattle.std.specs.Prelude.{ℕ, ◌-◌, ◌≤◌, ◌≡◌, false, List, take, drop, get_or}
+use Rattle.std.proofs.Math.ListN.{length}
+use Rattle.schedule.specs.Numbers.{numbers_of}
 use Rattle.schedule.specs.declared.Reading.{Reading}
-use Rattle.schedule.specs.Steps.{line_most, Named, unreadable, named, named_pair, pair_named, named_by, step_of, reading_of, Names}
-use Rattle.schedule.specs.StepLaws.{pair-alone, line_names}
-use Rattle.schedule.specs.Pairs.{may_have_setpoints, pair_behind}
+use Rattle.schedule.specs.Steps.{line_most, named_by, step_of, reading_of, Names}
+use Rattle.schedule.specs.StepLaws.{line_names}
+use Rattle.schedule.specs.Pairs.{may_have_setpoints}
 use Rattle.schedule.specs.PairLaws.{names-bare}
 
 -- a whole line of such a byte leaves the place for setpoints as it was

@@ -1,21 +1,12 @@
 -- Of specs/ReadBack: what cites a theorem there that a changed definition can make fail.
-use Rattle.std.specs.Prelude.{ℕ, zero, suc, ◌+◌, ◌*◌, ◌/◌, ◌%◌, ◌^◌, ◌≤◌, ◌<◌, ◌≡◌, refl, true, ◌⊎◌, List, [], ◌∷◌, ◌++◌, length, drop, eqb, leb, ltb}
-use Rattle.std.proofs.Common.{ap, sym, ◌∙◌, true≢false, inl, inr, append_assoc, mul-suc, arith, length-append, drop_at, le-leb, lt-ltb, ltb-true, ltb-false, leb-true, eqb-true, ne_eqb}
-use Rattle.std.proofs.Math.Nat.{pow-succ'}
-use Rattle.std.proofs.Math.Seq.{drop-append_seam, drop-nil, append_snoc}
-use Rattle.ranges.specs.Tests.{either, by-test, both_left, both_right}
-use Rattle.schedule.specs.declared.Number.{Number}
-use Rattle.schedule.specs.declared.Number.TheVariants.{Value, Not}
-use Rattle.schedule.specs.Lines.{lines_of}
-use Rattle.schedule.specs.Decimal.{glyph, digits, decimal, spaced_all}
-use Rattle.schedule.specs.DecimalLaws.{decimal-one, decimal-more}
-use Rattle.schedule.specs.declared.Step.{Step}
-use Rattle.schedule.specs.declared.Step.TheVariants.{Unreadable, Open, BeginWrite, BeginRead, Request, Reply, Lose, Resend}
-use Rattle.schedule.specs.Steps.{line_most, badge_most}
-use Rattle.schedule.specs.Steps.{Named, unreadable, named_open, named_write, named_pair, named, step_of, line_byte, line_numbers, step_text}
+use Rattle.std.specs.Prelude.{ℕ, ◌≡◌, refl, List, [], ◌∷◌, length, eqb, leb}
+use Rattle.std.proofs.Common.{◌∙◌, inl, eqb-true}
+use Rattle.ranges.specs.Tests.{by-test}
+use Rattle.schedule.specs.Decimal.{spaced_all}
+use Rattle.schedule.specs.Steps.{line_most}
+use Rattle.schedule.specs.Steps.{Named, named, step_of, line_byte, line_numbers, step_text}
 use Rattle.schedule.specs.StepLaws.{step-read}
-use Rattle.schedule.specs.Numbers.{digit_of, digit_head, may_follow, read_on, number_of, spaced_of, Read, read_then, numbers_behind, numbers_of}
-use Rattle.schedule.specs.NumberLaws.{skipped, ends_of}
+use Rattle.schedule.specs.Numbers.{numbers_of}
 use Rattle.schedule.specs.ReadBack.{FitsLine, Told, named_back, numbers_back, numbers_only, told-pair, told-write, told_open}
 
 -- A step printed as a line is read back as that step.

@@ -1,17 +1,12 @@
 -- Of specs/StepLaws: what cites a theorem there that a changed definition can make fail.
-use Rattle.std.specs.Prelude.{ℕ, suc, ◌-◌, ◌≤◌, ◌<◌, ◌≡◌, refl, true, false, List, [], ◌∷◌, length, take, drop, get_or, eqb, leb}
-use Rattle.std.proofs.Common.{ap, sym, ◌∙◌, arith, length-append, length-take, length-drop, length-take-le, take_all, take_at, drop-cons, eq-eqb, ne_eqb, le-leb, leb-true}
-use Rattle.std.proofs.Math.Seq.{take-length}
+use Rattle.std.specs.Prelude.{ℕ, ◌≤◌, ◌≡◌, List, [], ◌∷◌, length, eqb, leb}
+use Rattle.std.proofs.Common.{◌∙◌, arith, leb-true}
 use Rattle.ranges.specs.Tests.{either, by-test}
-use Rattle.schedule.specs.declared.Numbers.{Numbers}
-use Rattle.schedule.specs.declared.Numbers.TheVariants.{Broken, All}
 use Rattle.schedule.specs.declared.Reading.{Reading}
-use Rattle.std.proofs.lemmas.Bool.{lt-leb}
 use Rattle.schedule.specs.NumberLaws.{numbers_few}
-use Rattle.schedule.specs.declared.Step.TheVariants.{Open, BeginWrite}
-use Rattle.schedule.specs.Numbers.{Read, numbers_of, count_of}
-use Rattle.schedule.specs.Steps.{line_most, numbers_most, setpoints_most, badge_most}
-use Rattle.schedule.specs.Steps.{Named, unreadable, named_open, named_write, pair_named, named_pair, named, named_by, step_of, reading_of, stored, Names}
+use Rattle.schedule.specs.Numbers.{numbers_of}
+use Rattle.schedule.specs.Steps.{line_most, numbers_most, setpoints_most}
+use Rattle.schedule.specs.Steps.{Named, unreadable, named, step_of, reading_of, Names}
 use Rattle.schedule.specs.StepLaws.{few-pair, few-write, few_open, names-none, pair, pair-not}
 
 module _ (byte : ℕ) (l held : List ℕ) {r : Reading} where

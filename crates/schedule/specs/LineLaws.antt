@@ -1,7 +1,10 @@
 -- Laws of lines: how a search for a line's end goes on, and how the lines of a text follow each other.
-use Rattle.std.specs.Prelude.{ℕ, suc, ◌+◌, ◌-◌, ◌≤◌, ◌<◌, ◌≡◌, refl, true, false, List, [], ◌∷◌, ◌++◌, length, take, drop, get_or, eqb}
-use Rattle.std.proofs.Common.{ap, arith, drop_of_length-le, length-drop, drop-cons, drop-drop}
+use Rattle.std.specs.Prelude.{ℕ, suc, ◌+◌, ◌-◌, ◌≤◌, ◌<◌, ◌≡◌, refl, true, false, cond, Option, Some, None, List, [], ◌∷◌, ◌++◌, length, take, drop, get_or, eqb, ltb}
+use Rattle.std.proofs.Common.{ap, sym, ltb-false, arith, drop_of_length-le, length-drop, drop-cons, drop-drop}
 use Rattle.std.proofs.Math.Numerals.{add-one}
+use Rattle.std.proofs.lemmas.List.Recursion.{is_position_or_len}
+use Rattle.std.specs.List.{position_or_len}
+use Rattle.std.specs.Option.{unwrap_or}
 use borrow.Author.Tests.{eq-eqb, ne_eqb}
 use Rattle.ranges.specs.Tests.{either, by-test}
 use Rattle.schedule.specs.Lines.{line_of, end_of, on_first, lines_of}
@@ -19,6 +22,13 @@ module _ (s : List ℕ) (i : ℕ) where
   unfolding line_of
   end_later h e = rw (drop-cons s i 0 h, ne_eqb _ _ e, add-one i) (omega arith)
 
+-- the line ends at the first byte 10
+pub first-ten : (s : List ℕ) → length (line_of s) ≡ position_or_len (λ b. eqb b 10) s
+unfolding line_of
+first-ten s =
+    is_position_or_len (λ t. length (line_of t)) (λ b. eqb b 10) refl
+    (λ b t. by-test (eqb b 10) (λ e. rw e) (λ e. rw e (omega arith))) s
+
 -- the line is the front of the text
 pub take-line : (s : List ℕ) → take (length (line_of s)) s ≡ line_of s
 unfolding line_of
@@ -29,6 +39,14 @@ pub line_short : (s : List ℕ) → length (line_of s) ≤ length s
 unfolding line_of
 line_short [] = omega arith
 line_short (b ∷ rest) = either (λ (l : List ℕ). length l ≤ suc (length rest)) (eqb b 10) (omega arith) (omega (arith, line_short rest))
+
+-- so where a search for the byte 10 finds none, at the end of the text
+pub ten-found : (s : List ℕ) {o : Option ℕ} →
+    o ≡ cond (ltb (position_or_len (λ b. eqb b 10) s) (length s)) (Some (position_or_len (λ b. eqb b 10) s)) None → unwrap_or o (length s) ≡ length (line_of s)
+ten-found s e =
+    by-test (ltb (position_or_len (λ b. eqb b 10) s) (length s))
+    (λ t. rw (e, t) (sym (first-ten s)))
+    (λ t. rw (e, t) (omega (arith, first-ten s, line_short s, ltb-false _ _ t)))
 
 -- a line that begins in the text ends there
 pub end-within : (s : List ℕ) (a : ℕ) → a ≤ length s → end_of s a ≤ length s

@@ -1,18 +1,33 @@
 -- Laws of numbers as the readers meet them: one for each way that a reader goes.
-use Rattle.std.specs.Prelude.{ℕ, zero, suc, ◌+◌, ◌*◌, ◌-◌, ◌≤◌, ◌<◌, ◌≡◌, Bool, true, false, cond, take, get_or, set, eqb, ltb}
+use Rattle.std.specs.Prelude.{ℕ, zero, suc, ◌+◌, ◌*◌, ◌-◌, ◌≤◌, ◌<◌, ◌≡◌, Bool, true, false, cond, Some, None, take, get_or, set, eqb, ltb}
 use Rattle.std.proofs.Math.Path.{refl}
 use Rattle.std.proofs.Common.{ap, sym, ◌∙◌, arith, drop_of_length-le, length-set, take-append-drop, drop-drop, take_all, take-suc-set, drop-set-lt, length-take-le}
 use mathlib.Core.List.{List, [], ◌∷◌, ◌++◌, append_assoc, append-nil}
 use Rattle.std.proofs.Math.Numerals.{add-one}
 use Rattle.std.proofs.Math.ListN.{length, drop, length-drop}
 use Rattle.std.proofs.Math.Seq.{drop-cons}
-use borrow.Author.Tests.{eq-eqb, ne_eqb, le-leb, lt-leb, lt-ltb, le-ltb, ltb-true, leb-true}
+use borrow.Author.Tests.{eq-eqb, ne_eqb, le-leb, lt-leb, lt-ltb, le-ltb, ltb-true, ltb-false, leb-true}
 use Rattle.ranges.specs.Tests.{by-test, both_right}
-use Rattle.schedule.specs.declared.Number.{Number}
-use Rattle.schedule.specs.declared.Number.TheVariants.{Value, Not}
-use Rattle.schedule.specs.declared.Numbers.TheVariants.{Broken, All}
-use Rattle.schedule.specs.Numbers.{digit_of, digit_head, may_follow, read_on, number_of, spaced_of, Read, read_then, numbers_behind, numbers_of, count_of}
+use Rattle.schedule.specs.Numbers.{Number}
+use Rattle.schedule.specs.Numbers.{Value, Not}
+use Rattle.schedule.specs.Numbers.{Broken, All}
+use Rattle.schedule.specs.Numbers.{digit_of, digit_read, digit_head, may_follow, read_on, number_of, spaced_of, Read, read_then, numbers_behind, numbers_of, count_of}
 use Rattle.schedule.specs.Steps.{line_most, numbers_most, stored}
+
+-- what a byte is read as
+module _ {d w : ℕ} where
+  pub read-digit : Some d ≡ digit_read w → (d ≡ w) × (d < 10)
+  read-digit e =
+      by-test (ltb w 10)
+      (λ t. let f : Some d ≡ Some w = e ∙ rw t in let g : d ≡ w = cc in let h = ltb-true w 10 t in (g, omega arith))
+      (λ t. let f : Some d ≡ None = e ∙ rw t in let z : ◌≡◌ {A = ℕ} 0 1 = cc in let y : ⊥ = omega arith in absurd y)
+
+module _ {w : ℕ} where
+  pub read_none-digit : None ≡ digit_read w → 10 ≤ w
+  read_none-digit e =
+      by-test (ltb w 10)
+      (λ t. let f : None ≡ Some w = e ∙ rw t in let z : ◌≡◌ {A = ℕ} 0 1 = cc in let y : ⊥ = omega arith in absurd y)
+      (λ t. ltb-false w 10 t)
 
 -- the digit at a place
 module _ (s : List ℕ) (i : ℕ) where

@@ -1,16 +1,16 @@
 -- Laws of a line of two numbers, one for each way that its reader goes.
-use Rattle.std.specs.Prelude.{ℕ, suc, ◌+◌, ◌-◌, ◌≤◌, ◌<◌, ◌≡◌, refl, true, false, cond, List, [], ◌∷◌, take, drop, get_or, eqb}
+use Rattle.std.specs.Prelude.{ℕ, suc, ◌+◌, ◌≤◌, ◌<◌, ◌≡◌, refl, true, false, cond, List, [], ◌∷◌, drop, eqb}
 use Rattle.std.proofs.Common.{sym, ◌∙◌, true≢false, length-drop, eq-eqb, ne_eqb}
 use native.Mathlib.Omega.{arith}
 use Rattle.std.proofs.Math.ListN.{length, drop_of_length-le}
 use Rattle.ranges.specs.Tests.{either, by-test}
-use Rattle.schedule.specs.declared.Number.{Number}
-use Rattle.schedule.specs.declared.Number.TheVariants.{Value, Not}
+use Rattle.schedule.specs.Numbers.{Number}
+use Rattle.schedule.specs.Numbers.{Value, Not}
 use Rattle.schedule.specs.Numbers.{spaced_of, Read, read_then, numbers_behind, numbers_of}
 use Rattle.schedule.specs.NumberLaws.{skipped}
 use Rattle.schedule.specs.declared.Reading.{Reading}
-use Rattle.schedule.specs.Steps.{line_most, Named, unreadable, named, named_pair, pair_named, named_by, step_of, reading_of, Names}
-use Rattle.schedule.specs.StepLaws.{pair-alone, line_names}
+use Rattle.schedule.specs.Steps.{Named, unreadable, named, named_pair, pair_named, named_by, reading_of, Names}
+use Rattle.schedule.specs.StepLaws.{pair-alone}
 use Rattle.schedule.specs.Pairs.{may_have_setpoints, pair_behind}
 
 -- which bytes may begin a line with setpoints

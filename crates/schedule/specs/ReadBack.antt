@@ -4,16 +4,15 @@ use Rattle.std.proofs.Common.{ap, sym, ◌∙◌, true≢false, inl, inr, append
 use Rattle.std.proofs.Math.Nat.{pow-succ'}
 use Rattle.std.proofs.Math.Seq.{drop-append_seam, drop-nil, append_snoc}
 use Rattle.ranges.specs.Tests.{either, by-test, both_left, both_right}
-use Rattle.schedule.specs.declared.Number.{Number}
-use Rattle.schedule.specs.declared.Number.TheVariants.{Value, Not}
+use Rattle.schedule.specs.Numbers.{Number}
+use Rattle.schedule.specs.Numbers.{Value, Not}
 use Rattle.schedule.specs.Lines.{lines_of}
 use Rattle.schedule.specs.Decimal.{glyph, digits, decimal, spaced_all}
 use Rattle.schedule.specs.DecimalLaws.{decimal-one, decimal-more}
 use Rattle.schedule.specs.declared.Step.{Step}
 use Rattle.schedule.specs.declared.Step.TheVariants.{Unreadable, Open, BeginWrite, BeginRead, Request, Reply, Lose, Resend}
 use Rattle.schedule.specs.Steps.{line_most, badge_most}
-use Rattle.schedule.specs.Steps.{Named, unreadable, named_open, named_write, named_pair, named, step_of, line_byte, line_numbers, step_text}
-use Rattle.schedule.specs.StepLaws.{step-read}
+use Rattle.schedule.specs.Steps.{Named, unreadable, named_open, named_write, named_pair, named, line_byte, line_numbers, step_text}
 use Rattle.schedule.specs.Numbers.{digit_of, digit_head, may_follow, read_on, number_of, spaced_of, Read, read_then, numbers_behind, numbers_of}
 use Rattle.schedule.specs.NumberLaws.{skipped, ends_of}
 

@@ -1,13 +1,12 @@
 -- Laws of the step that a line names, one for each way that the reader goes.
 use Rattle.std.specs.Prelude.{ℕ, suc, ◌-◌, ◌≤◌, ◌<◌, ◌≡◌, refl, true, false, List, [], ◌∷◌, length, take, drop, get_or, eqb, leb}
-use Rattle.std.proofs.Common.{ap, sym, ◌∙◌, arith, length-append, length-take, length-drop, length-take-le, take_all, take_at, drop-cons, eq-eqb, ne_eqb, le-leb, leb-true}
+use Rattle.std.proofs.Common.{ap, sym, ◌∙◌, arith, length-append, length-take, length-drop, length-take-le, take_all, take_at, drop-cons, eq-eqb, ne_eqb, le-leb}
 use Rattle.std.proofs.Math.Seq.{take-length}
 use Rattle.ranges.specs.Tests.{either, by-test}
-use Rattle.schedule.specs.declared.Numbers.{Numbers}
-use Rattle.schedule.specs.declared.Numbers.TheVariants.{Broken, All}
+use Rattle.schedule.specs.Numbers.{Numbers}
+use Rattle.schedule.specs.Numbers.{Broken, All}
 use Rattle.schedule.specs.declared.Reading.{Reading}
 use Rattle.std.proofs.lemmas.Bool.{lt-leb}
-use Rattle.schedule.specs.NumberLaws.{numbers_few}
 use Rattle.schedule.specs.declared.Step.TheVariants.{Open, BeginWrite}
 use Rattle.schedule.specs.Numbers.{Read, numbers_of, count_of}
 use Rattle.schedule.specs.Steps.{line_most, numbers_most, setpoints_most, badge_most}

@@ -9,19 +9,11 @@ pub const NUMBERS: usize = (LINE - 1) / 2;
 
 pub const SETPOINTS: usize = NUMBERS - 3;
 
-// A number at the front of a part of a line.
+// A number at the front of a part of a line, and how many bytes it takes.
 #[derive(Clone, Copy)]
-pub enum Number {
-    Not,
-    // its value, and how many bytes it takes
-    Value(u32, usize),
-}
-
-// How many numbers a part of a line holds, where it holds nothing else.
-#[derive(Clone, Copy)]
-pub enum Numbers {
-    Broken,
-    All(usize),
+pub struct Numeral {
+    pub value: u32,
+    pub size: usize,
 }
 
 // The step that a line names. Its numbers are full 32-bit numbers: none is cut to a field's width. A badge above 16 bits names no step.

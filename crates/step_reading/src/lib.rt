@@ -7,7 +7,7 @@ ghost use Rattle.schedule.specs.Steps.{line_most, setpoints_most};
 ghost use Rattle.schedule.specs.Steps.{named_by, step_of, reading_of, Names};
 ghost use Rattle.schedule.specs.Pairs.{may_have_setpoints, pair_behind};
 
-use schedule::{Number, Numbers, Reading};
+use schedule::Reading;
 
 // The step of a first byte and the part of its line behind it. The numbers go to a place for as many as a line can have.
 fn read_longer(byte: u8, part: &[u8], setpoints: &mut [u32]) -> Reading
@@ -15,11 +15,10 @@ fn read_longer(byte: u8, part: &[u8], setpoints: &mut [u32]) -> Reading
     ensures { Names (named_by byte (numbers_of part.now)) setpoints.old result setpoints.new }
 {
     let mut numbers = [0u32; schedule::NUMBERS];
-    let read = line_reading::numbers_in(part, &mut numbers);
-    match read {
-        Numbers::Broken => step_naming::unreadable(),
-        Numbers::All(count) => step_naming::name_step(byte, &numbers[..count], setpoints),
-    }
+    let Some(count) = line_reading::numbers_in(part, &mut numbers) else {
+        return step_naming::unreadable();
+    };
+    step_naming::name_step(byte, &numbers[..count], setpoints)
 }
 
 // The step of a first byte, a first number, and the part of its line from behind that number on.
@@ -27,15 +26,13 @@ fn read_second(byte: u8, first: u32, part: &[u8], at: usize) -> Reading
     requires { at ≤ length part.now }
     ensures { result ≡ reading_of (pair_behind byte first (numbers_of (drop at part.now))) }
 {
-    let read = line_reading::spaced_at(part, at);
-    match read {
-        Number::Not => step_naming::unreadable(),
-        Number::Value(second, size) => {
-            if at + 1 + size == part.len() {
-                return step_naming::name_pair(byte, first, second);
-            }
-            step_naming::unreadable()
-        }
+    let Some(second) = line_reading::spaced_at(part, at) else {
+        return step_naming::unreadable();
+    };
+    if at + 1 + second.size == part.len() {
+        step_naming::name_pair(byte, first, second.value)
+    } else {
+        step_naming::unreadable()
     }
 }
 
@@ -44,11 +41,10 @@ fn read_pair(byte: u8, part: &[u8]) -> Reading
     requires { may_have_setpoints byte ≡ false }
     ensures { result ≡ reading_of (named_by byte (numbers_of part.now)) }
 {
-    let read = line_reading::spaced_at(part, 0);
-    match read {
-        Number::Not => step_naming::unreadable(),
-        Number::Value(first, size) => read_second(byte, first, part, 1 + size),
-    }
+    let Some(first) = line_reading::spaced_at(part, 0) else {
+        return step_naming::unreadable();
+    };
+    read_second(byte, first.value, part, 1 + first.size)
 }
 
 // The step that a line names. Its setpoints stand in the lent place; behind them, and where the line has none, it holds what it held.

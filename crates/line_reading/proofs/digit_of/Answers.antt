@@ -1,16 +1,26 @@
--- Each way out of the tests is a case of the definition.
-use borrow.Author.Tests.{le-leb, lt-leb}
+-- A byte from 48 to 57 is a digit, and no other.
+use Rattle.std.proofs.Common.{◌-◌, ◌<◌, ◌≤◌, arith, le-leb, lt-ltb}
+use Rattle.std.proofs.lemmas.Bool.{lt-leb}
 use Rattle.schedule.specs.Numbers.{digit_of}
 use Rattle.line_reading.proofs.digit_of.Goals as goal
 
-pub returns-then-byte-le57 : goal.returns-then-byte-le57
+pub returns-in-48-to-57 : goal.returns-in-48-to-57
 unfolding digit_of
-returns-then-byte-le57 c = rw (le-leb _ _ c.if-byte-ge48.true, le-leb _ _ c.if-byte-le57.true)
+returns-in-48-to-57 c =
+    let b = c.args.byte in
+    let h : 48 ≤ b = omega arith in
+    let k : b ≤ 57 = omega arith in
+    let l : b - 48 < 10 = omega arith in
+    rw (le-leb 48 b h, le-leb b 57 k, lt-ltb (b - 48) 10 l)
 
-pub returns-else-byte-le57 : goal.returns-else-byte-le57
+pub returns-in_default : goal.returns-in_default
 unfolding digit_of
-returns-else-byte-le57 c = rw (le-leb _ _ c.if-byte-ge48.true, lt-leb _ _ c.if-byte-le57.false)
+returns-in_default c = let h : c.args.byte < 48 = omega arith in rw (lt-leb 48 c.args.byte h)
 
-pub returns-else-byte-ge48 : goal.returns-else-byte-ge48
+pub returns-in_default-2 : goal.returns-in_default-2
 unfolding digit_of
-returns-else-byte-ge48 c = rw (lt-leb _ _ c.if-byte-ge48.false)
+returns-in_default-2 c =
+    let b = c.args.byte in
+    let h : 48 ≤ b = omega arith in
+    let k : 57 < b = omega arith in
+    rw (le-leb 48 b h, lt-leb b 57 k)

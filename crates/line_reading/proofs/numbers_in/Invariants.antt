@@ -1,6 +1,5 @@
 -- The loop's invariant is ReadSoFar: the numbers read stand in front. Each took two bytes or more, so that `numbers_most` places are enough.
-use Prim.Native.Nat.{◌-◌}
-use lib.ListN.{length}
+use Rattle.std.proofs.Common.{◌-◌, length}
 use Rattle.schedule.specs.NumberLaws.{ReadSoFar}
 use Rattle.line_reading.proofs.numbers_in.Given as goal
 
