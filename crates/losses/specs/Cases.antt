@@ -1,6 +1,6 @@
 -- The cases of a loss and of a resend, as the code meets them.
-use Rattle.std.specs.Prelude.{ℕ, ◌≡◌, refl, List}
-use Rattle.std.proofs.Common.{sym, ◌∙◌}
+use Rattle.std.specs.Prelude.{ℕ, ◌≡◌, ◌⊎◌, refl, List}
+use Rattle.std.proofs.Common.{sym, ◌∙◌, inl, inr}
 use Rattle.std.proofs.Math.Path.{ap}
 use borrow.Author.Tests.{eq-eqb, ne_eqb}
 use Rattle.keys.specs.declared.Key.{Key}
@@ -33,31 +33,28 @@ module _ (q i : ℕ) (t : Tables) where
     unfolding link_lost
     lost_of e f = f ∙ ap (λ (c : Content). on_loss c q i t) (sym e ∙ ap (λ (k : Link). k.content) d)
 
-    pub nothing-lost : l.content ≡ Nothing → refused 14 t ≡ link_lost q i t
-    nothing-lost e = lost_of e refl
+    -- nothing to lose: the link holds nothing, or it is lost already
+    pub none-lost : (l.content ≡ Nothing) ⊎ (l.content ≡ Lost) → refused 14 t ≡ link_lost q i t
+    none-lost (inl e) = lost_of e refl
+    none-lost (inr e) = lost_of e refl
 
-    pub lost-twice : l.content ≡ Lost → refused 14 t ≡ link_lost q i t
-    lost-twice e = lost_of e refl
-
-    module _ {step : ℕ} {counts links : List ℕ} (f : Filled t.counts t.links q i Lost step counts links) where
-      pub request-lost : {w : Contents} → l.content ≡ Request w → replaced counts links ≡ link_lost q i t
-      request-lost e = lost_of e (filled f)
-
-      pub reply-lost : {w : Contents} → l.content ≡ Reply w → replaced counts links ≡ link_lost q i t
-      reply-lost e = lost_of e (filled f)
+    pub some-lost : {step : ℕ} {counts links : List ℕ} → Filled t.counts t.links q i Lost step counts links →
+        ((w : Contents) × (l.content ≡ Request w)) ⊎ ((w : Contents) × (l.content ≡ Reply w)) → replaced counts links ≡ link_lost q i t
+    some-lost f (inl (w, e)) = lost_of e (filled f)
+    some-lost f (inr (w, e)) = lost_of e (filled f)
 
     resent_of : {c : Content} {x : Left} → l.content ≡ c → x ≡ on_resend c q i t → x ≡ link_resent q i t
     unfolding link_resent
     resent_of e f = f ∙ ap (λ (c : Content). on_resend c q i t) (sym e ∙ ap (λ (k : Link). k.content) d)
 
-    pub nothing-resent : l.content ≡ Nothing → refused 15 t ≡ link_resent q i t
-    nothing-resent e = resent_of e refl
+    not-lost : (c : Content) → (c ≡ Lost → ⊥) → refused 15 t ≡ on_resend c q i t
+    not-lost Nothing n = refl
+    not-lost (Request w) n = refl
+    not-lost (Reply w) n = refl
+    not-lost Lost n = absurd (n refl)
 
-    pub request-kept : {w : Contents} → l.content ≡ Request w → refused 15 t ≡ link_resent q i t
-    request-kept e = resent_of e refl
-
-    pub reply-kept : {w : Contents} → l.content ≡ Reply w → refused 15 t ≡ link_resent q i t
-    reply-kept e = resent_of e refl
+    pub none-resent : (l.content ≡ Lost → ⊥) → refused 15 t ≡ link_resent q i t
+    none-resent n = resent_of refl (not-lost l.content n)
 
     pub lost-resent : {content : Content} {step : ℕ} {counts links : List ℕ} → l.content ≡ Lost → content ≡ sent_by q i t →
         Filled t.counts t.links q i content step counts links → replaced counts links ≡ link_resent q i t

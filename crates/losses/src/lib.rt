@@ -5,34 +5,35 @@ ghost use Rattle.std.specs.Prelude.{◌≡◌, List, ℕ};
 ghost use Rattle.tables.specs.Tables.{Tables, tables_of, with_clients};
 ghost use Rattle.rules.specs.Answers.{left};
 ghost use Rattle.rules.specs.Common.{request, set_request};
+ghost use Rattle.rules.specs.Results.{answer_by};
 ghost use Rattle.step_parts.specs.Filled.{Fillable};
 ghost use Rattle.rules.specs.Loss.{link_lost, sent_by, link_resent};
 ghost use Rattle.losses.specs.Ready.{Sends, ResendReady};
 
+use causes::Refusal;
 use keys::Key;
-use rules::{Answer, states};
+use rules::states;
 use tables::links::{Content, Contents};
 use tables::{clients, links};
 
 // Loses what a link holds: 14 where it holds nothing or is lost already.
-pub fn lose(counts: &mut [u32], links: &mut [u32], client: usize, target: usize) -> Answer
+pub fn lose(
+    counts: &mut [u32],
+    links: &mut [u32],
+    client: usize,
+    target: usize,
+) -> Result<(), Refusal>
     requires { Fillable counts.old links.old client target }
     ensures { (clients keys values log writes reads : List ℕ) →
-        left result (tables_of counts.new clients links.new keys values log writes reads)
+        left (answer_by result) (tables_of counts.new clients links.new keys values log writes reads)
         ≡ link_lost client target (tables_of counts.old clients links.old keys values log writes reads) }
 {
     let link = links::link_at(&*links, client, target);
-    let content = link.content;
-    match content {
-        Content::Nothing => Answer::Refused(14),
-        Content::Lost => Answer::Refused(14),
-        Content::Request(_) => {
+    match link.content {
+        Content::Nothing | Content::Lost => Err(Refusal::NothingToLose),
+        Content::Request(_) | Content::Reply(_) => {
             step_parts::fill(counts, links, client, target, Content::Lost);
-            Answer::Ok
-        }
-        Content::Reply(_) => {
-            step_parts::fill(counts, links, client, target, Content::Lost);
-            Answer::Ok
+            Ok(())
         }
     }
 }
@@ -41,11 +42,7 @@ pub fn lose(counts: &mut [u32], links: &mut [u32], client: usize, target: usize)
 fn requesting(key: Key, badge: u32, number: u32) -> Content
     ensures { result ≡ set_request key badge number }
 {
-    Content::Request(Contents {
-        key: key,
-        number: number,
-        badge: badge,
-    })
+    Content::Request(Contents { key, number, badge })
 }
 
 // What the client's row gives to be sent again, by its state.
@@ -79,23 +76,18 @@ pub fn resend(
     links: &mut [u32],
     client: usize,
     target: usize,
-) -> Answer
+) -> Result<(), Refusal>
     requires { ResendReady counts.old clients.now links.old client target }
     ensures { (keys values log writes reads : List ℕ) →
-        left result (tables_of counts.new clients.now links.new keys values log writes reads)
+        left (answer_by result) (tables_of counts.new clients.now links.new keys values log writes reads)
         ≡ link_resent client target
         (tables_of counts.old clients.now links.old keys values log writes reads) }
 {
     let link = links::link_at(&*links, client, target);
-    let content = link.content;
-    match content {
-        Content::Nothing => Answer::Refused(15),
-        Content::Request(_) => Answer::Refused(15),
-        Content::Reply(_) => Answer::Refused(15),
-        Content::Lost => {
-            let again = sent(clients, client, target);
-            step_parts::fill(counts, links, client, target, again);
-            Answer::Ok
-        }
-    }
+    let Content::Lost = link.content else {
+        return Err(Refusal::NothingLost);
+    };
+    let again = sent(clients, client, target);
+    step_parts::fill(counts, links, client, target, again);
+    Ok(())
 }

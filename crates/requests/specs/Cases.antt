@@ -43,14 +43,15 @@ module _ (q i : ℕ) (t : Tables) {l : Link} (d : l ≡ link_at t.links q i) whe
   unfolding request_delivered
   by_content e f = f ∙ ap (λ (c : Content). on_request c q i t) (sym e ∙ ap (λ (k : Link). k.content) d)
 
-  pub by-nothing : l.content ≡ Nothing → refused 9 t ≡ request_delivered q i t
-  by-nothing e = by_content e refl
+  no_request : (c : Content) → ((w : Contents) → c ≡ Request w → ⊥) → refused 9 t ≡ on_request c q i t
+  no_request Nothing n = refl
+  no_request (Request w) n = absurd (n w refl)
+  no_request (Reply w) n = refl
+  no_request Lost n = refl
 
-  pub by-reply : {w : Contents} → l.content ≡ Reply w → refused 9 t ≡ request_delivered q i t
-  by-reply e = by_content e refl
-
-  pub by-lost : l.content ≡ Lost → refused 9 t ≡ request_delivered q i t
-  by-lost e = by_content e refl
+  -- nothing, a reply, or what was lost
+  pub by-none : ((w : Contents) → l.content ≡ Request w → ⊥) → refused 9 t ≡ request_delivered q i t
+  by-none n = by_content refl (no_request l.content n)
 
   pub by-request : {w : Contents} {x : Left} → l.content ≡ Request w → x ≡ on_request_in (state_of t q) w q i t → x ≡ request_delivered q i t
   by-request e f = by_content e f

@@ -7,11 +7,13 @@ ghost use Rattle.tables.specs.Rows.{HasRow};
 ghost use Rattle.tables.specs.Layout.{client_width, client_word, state_field};
 ghost use Rattle.tables.specs.Links.{targets};
 ghost use Rattle.rules.specs.Answers.{left};
+ghost use Rattle.rules.specs.Results.{answer_by};
 ghost use Rattle.step_parts.specs.Filled.{Fillable};
 ghost use Rattle.rules.specs.Request.{on_request_in, request_delivered};
 ghost use Rattle.requests.specs.Ready.{Asks, RequestReady};
 
-use rules::{Answer, states};
+use causes::Refusal;
+use rules::states;
 use tables::links::Contents;
 use tables::{clients, links};
 
@@ -27,12 +29,12 @@ fn answer_in_state(
     client: usize,
     target: usize,
     contents: Contents,
-) -> Answer
+) -> Result<(), Refusal>
     requires fillable { Fillable counts.old links.old client target }
     requires has_row { (HasRow client_width clients.now client) × (target < targets) }
     requires asks { Asks counts.old clients.now keys.old values.old log.old writes.old client target }
     ensures { (reads : List ℕ) →
-        left result (tables_of counts.new clients.now links.new keys.new values.new log.new writes.new reads)
+        left (answer_by result) (tables_of counts.new clients.now links.new keys.new values.new log.new writes.new reads)
         ≡ on_request_in (client_word clients.now client state_field) contents client target
         (tables_of counts.old clients.now links.old keys.old values.old log.old writes.old reads) }
 {
@@ -46,12 +48,14 @@ fn answer_in_state(
         );
     }
     if state == states::ASKING_KEYS {
-        return answers::which_keys(counts, links, client, target);
+        answers::which_keys(counts, links, client, target);
+        return Ok(());
     }
     if state == states::ASKING_SETPOINTS {
         return server_requests::get(counts, links, &*keys, &*values, client, target, contents);
     }
-    answers::get_all(counts, links, client, target)
+    answers::get_all(counts, links, client, target);
+    Ok(())
 }
 
 // Delivers the request of a client to a target: 9 where the link has none, 8 where the target is full or lacks the key.
@@ -65,21 +69,18 @@ pub fn deliver_request(
     writes: &mut [u32],
     client: usize,
     target: usize,
-) -> Answer
+) -> Result<(), Refusal>
     requires { RequestReady counts.old clients.now links.old keys.old values.old log.old writes.old client target }
     ensures { (reads : List ℕ) →
-        left result (tables_of counts.new clients.now links.new keys.new values.new log.new writes.new reads)
+        left (answer_by result) (tables_of counts.new clients.now links.new keys.new values.new log.new writes.new reads)
         ≡ request_delivered client target
         (tables_of counts.old clients.now links.old keys.old values.old log.old writes.old reads) }
 {
     let link = links::link_at(&*links, client, target);
-    let content = link.content;
-    match content {
-        links::Content::Nothing => Answer::Refused(9),
-        links::Content::Reply(_) => Answer::Refused(9),
-        links::Content::Lost => Answer::Refused(9),
-        links::Content::Request(contents) => answer_in_state(
-            counts, clients, links, keys, values, log, writes, client, target, contents,
-        ),
-    }
+    let links::Content::Request(contents) = link.content else {
+        return Err(Refusal::NoMessage);
+    };
+    answer_in_state(
+        counts, clients, links, keys, values, log, writes, client, target, contents,
+    )
 }
