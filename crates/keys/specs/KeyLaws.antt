@@ -1,6 +1,6 @@
 -- Laws of keys as numbers, and of their equality test.
-use Rattle.std.specs.Prelude.{ℕ, ◌+◌, ◌*◌, ◌/◌, ◌%◌, ◌<◌, ◌≡◌, refl, true, false, eqb}
-use Rattle.std.proofs.Common.{arith, eq-eqb, ne_eqb, eqb-true}
+use Rattle.std.specs.Prelude.{ℕ, ◌+◌, ◌*◌, ◌/◌, ◌%◌, ◌<◌, ◌≡◌, refl, true, eqb}
+use Rattle.std.proofs.Common.{arith, eq-eqb, eqb-true}
 use Rattle.ranges.specs.Tests.{both_left, both_right}
 use Rattle.keys.specs.declared.Key.{Key}
 use Rattle.keys.specs.Keys.{same_key, key_word, key_at_word, FitsByte}
@@ -34,11 +34,3 @@ same_true k l e =
 
 pub same_refl : (k : Key) → same_key k k ≡ true
 same_refl k = rw (eq-eqb k.count k.count refl, eq-eqb k.client k.client refl)
-
--- the cases of the test, as the code meets them
-module _ (k l : Key) where
-  pub same_count : k.count ≡ l.count → eqb k.client l.client ≡ same_key k l
-  same_count e = rw (eq-eqb k.count l.count e)
-
-  pub other-count : (k.count ≡ l.count → ⊥) → false ≡ same_key k l
-  other-count d = rw (ne_eqb k.count l.count d)

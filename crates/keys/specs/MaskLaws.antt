@@ -1,6 +1,6 @@
 -- Laws of masks: the cases of the test, and which servers a mask has.
-use Rattle.std.specs.Prelude.{ℕ, zero, suc, ◌*◌, ◌/◌, ◌%◌, ◌^◌, ◌≤◌, ◌<◌, ◌≡◌, true, false, not, eqb, ltb}
-use Rattle.std.proofs.Common.{sym, ◌∙◌, div-lt_iff_lt-mul, lt_of_lt_of_le, lt_of_not-le, le_of_suc-le-suc, arith, pow_pos, pow_mono, eq-eqb, ne_eqb, eqb-true, lt-ltb, le-ltb, ltb-true}
+use Rattle.std.specs.Prelude.{ℕ, zero, suc, ◌*◌, ◌/◌, ◌%◌, ◌^◌, ◌≤◌, ◌<◌, ◌≡◌, true, false, not, eqb}
+use Rattle.std.proofs.Common.{sym, ◌∙◌, div-lt_iff_lt-mul, lt_of_lt_of_le, lt_of_not-le, le_of_suc-le-suc, arith, pow_pos, pow_mono, ne_eqb, eqb-true, lt-ltb, le-ltb, ltb-true}
 use Rattle.std.proofs.Math.Nat.{div-eq_of_lt, pow-succ'}
 use Rattle.std.proofs.lemmas.Bool.{eqb-false, not-true}
 use Rattle.ranges.specs.Tests.{by_equal, by-test, both_left, both_right}
@@ -13,11 +13,8 @@ below_shifted m k h = div-eq_of_lt h
 pub shifted-below : (m k : ℕ) → m / 2 ^ k ≡ 0 → m < 2 ^ k
 shifted-below m k e = let h : m < 1 * 2 ^ k = (div-lt_iff_lt-mul (pow_pos k)).0 (omega arith) in omega arith
 
--- the cases of the test, as the code meets them
+-- the test of a mask that is not zero, as the code meets it
 module _ (m k : ℕ) where
-  pub zero-mask : m ≡ 0 → false ≡ mask_within m k
-  zero-mask e = rw (eq-eqb m 0 e)
-
   pub shifted-mask : (m ≡ 0 → ⊥) → eqb (m / 2 ^ k) 0 ≡ mask_within m k
   shifted-mask d =
       rw (ne_eqb m 0 d)

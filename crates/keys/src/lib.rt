@@ -7,7 +7,7 @@ ghost use Rattle.keys.specs.Masks.{has_server, mask_within};
 ghost use Rattle.keys.specs.Bits.{without};
 
 // A key names a WRITE: the count of the client's WRITEs so far, this one included, and the client.
-#[derive(Clone, Copy)]
+#[derive(Clone, Copy, PartialEq, Eq)]
 pub struct Key {
     pub count: u8,
     pub client: u8,
@@ -23,10 +23,7 @@ impl Key {
     pub fn new(count: u8, client: u8) -> Key
         ensures { result ≡ key_of count client }
     {
-        Key {
-            count: count,
-            client: client,
-        }
+        Key { count, client }
     }
 
     // The constant as a value, and its promise: a constant has none of its own.
@@ -39,13 +36,11 @@ impl Key {
     pub fn same(self, other: Key) -> bool
         ensures { result ≡ same_key self other }
     {
-        if self.count == other.count {
-            return self.client == other.client;
-        }
-        false
+        self == other
     }
 
     // A key as one number, and back.
+    // Kept: (d) `key.word()` and `Key::at_word(word)` say which number it is, where `u32::from(key)` and `word.into()` do not.
     pub fn word(self) -> u32
         ensures { result ≡ key_word self }
     {
@@ -75,10 +70,7 @@ pub fn mask_within(mask: u32, servers: u32) -> bool
     requires { servers ≤ 16 }
     ensures { result ≡ mask_within mask servers }
 {
-    if mask == 0 {
-        return false;
-    }
-    mask >> servers == 0
+    mask != 0 && mask >> servers == 0
 }
 
 // The mask of one server.
