@@ -1,16 +1,11 @@
 -- Laws of links: what is put is read back, every other link stays; and the cases of putting and of reading, as the code meets them.
-use Rattle.std.specs.Prelude.{ℕ, ◌*◌, ◌<◌, ◌≡◌, refl, true, false, List, [], ◌∷◌, length, get_or, eqb}
-use Rattle.std.proofs.Common.{◌∙◌, arith}
-use Rattle.std.proofs.lemmas.List.Edits.{sets}
+use Rattle.std.specs.Prelude.{ℕ, ◌<◌, ◌≡◌, refl, true, false, List, length, get_or}
+use Rattle.std.proofs.Common.{arith}
 use borrow.Author.Tests.{eq-eqb, ne_eqb}
-use Rattle.keys.specs.declared.Key.{Key}
-use Rattle.keys.specs.Keys.{key_word, key_at_word}
 use Rattle.keys.specs.KeyLaws.{word_back}
 use Rattle.tables.specs.Rows.{HasRow, place-one, row_same, row_other, row-length, row_swap}
-use Rattle.tables.specs.declared.links.Contents.{Contents}
 use Rattle.tables.specs.declared.links.Content.{Content}
 use Rattle.tables.specs.declared.links.Content.TheVariants.{Nothing, Request, Reply, Lost}
-use Rattle.tables.specs.declared.links.Link.{Link}
 use Rattle.tables.specs.Links.{targets, link_width, link_row, link_word, content_words, content_of, contents_of, link_at, put_link, is_empty}
 use Rattle.tables.specs.Links.{ContentFits}
 
@@ -81,49 +76,8 @@ link_swap links q i r j c d h g apart =
     row_swap link_width links (link_row q i) (link_row r j) (content_words c) (content_words d)
     (rw (words_four c) (omega arith)) (rw (words_four d) (omega arith)) (λ e. apart (place-one targets q i r j h g e).1)
 
--- The cases of putting and of reading, as the code meets them.
+-- Whether a link holds anything, by its kind.
 module _ (links : List ℕ) (q i : ℕ) where
-  pub put-nothing : {c : Content} {links' : List ℕ} → c ≡ Nothing → links' ≡ sets links (link_width * link_row q i) (0 ∷ 0 ∷ 0 ∷ 0 ∷ []) →
-      links' ≡ put_link links q i c
-  unfolding put_link
-  put-nothing e f = f ∙ rw e
-
-  pub put-request : {c : Content} {w : Contents} {k : ℕ} {links' : List ℕ} → c ≡ Request w → k ≡ key_word w.key →
-      links' ≡ sets links (link_width * link_row q i) (1 ∷ k ∷ w.number ∷ w.badge ∷ []) → links' ≡ put_link links q i c
-  unfolding put_link
-  put-request e d f = f ∙ rw (e, d)
-
-  pub put-reply : {c : Content} {w : Contents} {k : ℕ} {links' : List ℕ} → c ≡ Reply w → k ≡ key_word w.key →
-      links' ≡ sets links (link_width * link_row q i) (2 ∷ k ∷ w.number ∷ w.badge ∷ []) → links' ≡ put_link links q i c
-  unfolding put_link
-  put-reply e d f = f ∙ rw (e, d)
-
-  pub put-lost : {c : Content} {links' : List ℕ} → c ≡ Lost → links' ≡ sets links (link_width * link_row q i) (3 ∷ 0 ∷ 0 ∷ 0 ∷ []) →
-      links' ≡ put_link links q i c
-  unfolding put_link
-  put-lost e f = f ∙ rw e
-
-  pub is-request : {k : Key} → link_word links q i 0 ≡ 1 → k ≡ key_at_word (link_word links q i 1) →
-      record { content = Request (record { key = k; number = link_word links q i 2; badge = link_word links q i 3 }) } ≡ link_at links q i
-  unfolding link_at
-  is-request e d = rw (d, e)
-
-  pub is-reply : {k : Key} → (link_word links q i 0 ≡ 1 → ⊥) → link_word links q i 0 ≡ 2 → k ≡ key_at_word (link_word links q i 1) →
-      record { content = Reply (record { key = k; number = link_word links q i 2; badge = link_word links q i 3 }) } ≡ link_at links q i
-  unfolding link_at
-  is-reply f e d = rw (d, ne_eqb _ _ f, eq-eqb _ _ e)
-
-  pub is_lost : (link_word links q i 0 ≡ 1 → ⊥) → (link_word links q i 0 ≡ 2 → ⊥) → link_word links q i 0 ≡ 3 →
-      record { content = Lost } ≡ link_at links q i
-  unfolding link_at
-  is_lost f g e = rw (ne_eqb _ _ f, ne_eqb _ _ g, eq-eqb _ _ e)
-
-  pub is-nothing : (link_word links q i 0 ≡ 1 → ⊥) → (link_word links q i 0 ≡ 2 → ⊥) → (link_word links q i 0 ≡ 3 → ⊥) →
-      record { content = Nothing } ≡ link_at links q i
-  unfolding link_at
-  is-nothing f g h = rw (ne_eqb _ _ f, ne_eqb _ _ g, ne_eqb _ _ h)
-
-  -- whether a link holds anything
   pub full-request : link_word links q i 0 ≡ 1 → false ≡ is_empty (link_at links q i).content
   unfolding link_at
   full-request e = rw e

@@ -1,6 +1,7 @@
 // The links: what the wire holds between a client and a target. A row of four words: kind, key, number, badge.
 ghost use Rattle.std.specs.Prelude.{◌≡◌, ◌+◌, ◌<◌, [], ◌∷◌, length};
 ghost use Rattle.std.proofs.lemmas.List.Edits.{sets};
+ghost use Rattle.keys.specs.Keys.{key_word};
 ghost use Rattle.tables.specs.Rows.{HasRow};
 ghost use Rattle.tables.specs.Links.{link_width, link_row, link_word, link_at, put_link, is_empty};
 
@@ -15,6 +16,13 @@ pub struct Contents {
     pub badge: u32,
 }
 
+// The contents of a link that holds none: its words are 0.
+const NOTHING: Contents = Contents {
+    key: Key::OPENING,
+    number: 0,
+    badge: 0,
+};
+
 #[derive(Clone, Copy)]
 pub enum Content {
     Nothing,
@@ -23,6 +31,7 @@ pub enum Content {
     Lost,
 }
 
+// Kept: (a) the language form of docs/SPECIFICATION.md: a link is a struct that holds an enum whose cases carry a struct.
 #[derive(Clone, Copy)]
 pub struct Link {
     pub content: Content,
@@ -42,35 +51,24 @@ pub const TARGETS: usize = 17;
 
 pub const COORDINATOR: usize = 16;
 
+#[tactic(auto, unfolding(crate::specs::Links::link_at))]
 pub fn link_at(links: &[u32], client: usize, target: usize) -> Link
     requires { HasRow link_width links.now (link_row client target) }
     ensures { result ≡ link_at links.now client target }
 {
     let at = WIDTH * (TARGETS * client + target);
-    let kind = links[at + KIND];
     let contents = Contents {
         key: Key::at_word(links[at + KEY]),
         number: links[at + NUMBER],
         badge: links[at + BADGE],
     };
-    if kind == 1 {
-        return Link {
-            content: Content::Request(contents),
-        };
-    }
-    if kind == 2 {
-        return Link {
-            content: Content::Reply(contents),
-        };
-    }
-    if kind == 3 {
-        return Link {
-            content: Content::Lost,
-        };
-    }
-    Link {
-        content: Content::Nothing,
-    }
+    let content = match links[at + KIND] {
+        1 => Content::Request(contents),
+        2 => Content::Reply(contents),
+        3 => Content::Lost,
+        _ => Content::Nothing,
+    };
+    Link { content }
 }
 
 // A word of a link's row as it stands, for those who ask whether it is in its range.
@@ -82,50 +80,28 @@ pub fn link_word(links: &[u32], client: usize, target: usize, field: usize) -> u
     links[WIDTH * (TARGETS * client + target) + field]
 }
 
-// Four words from a place on.
-fn put_words(links: &mut [u32], at: usize, kind: u32, key: u32, number: u32, badge: u32)
+// Four words from a place on: a kind and the contents.
+fn put_words(links: &mut [u32], at: usize, kind: u32, contents: Contents)
     requires { at + 3 < length links.old }
-    ensures { links.new ≡ sets links.old at (kind ∷ key ∷ number ∷ badge ∷ []) }
+    ensures { links.new ≡ sets links.old at (kind ∷ key_word contents.key ∷ contents.number ∷ contents.badge ∷ []) }
 {
     links[at + KIND] = kind;
-    links[at + KEY] = key;
-    links[at + NUMBER] = number;
-    links[at + BADGE] = badge;
+    links[at + KEY] = contents.key.word();
+    links[at + NUMBER] = contents.number;
+    links[at + BADGE] = contents.badge;
 }
 
+#[tactic(auto, unfolding(crate::specs::Links::put_link))]
 pub fn put_link(links: &mut [u32], client: usize, target: usize, link: Link)
     requires { HasRow link_width links.old (link_row client target) }
     ensures { links.new ≡ put_link links.old client target link.content }
 {
     let at = WIDTH * (TARGETS * client + target);
-    let content = link.content;
-    match content {
-        Content::Nothing => {
-            put_words(links, at, 0, 0, 0, 0);
-        }
-        Content::Request(contents) => {
-            put_words(
-                links,
-                at,
-                1,
-                contents.key.word(),
-                contents.number,
-                contents.badge,
-            );
-        }
-        Content::Reply(contents) => {
-            put_words(
-                links,
-                at,
-                2,
-                contents.key.word(),
-                contents.number,
-                contents.badge,
-            );
-        }
-        Content::Lost => {
-            put_words(links, at, 3, 0, 0, 0);
-        }
+    match link.content {
+        Content::Nothing => put_words(links, at, 0, NOTHING),
+        Content::Request(contents) => put_words(links, at, 1, contents),
+        Content::Reply(contents) => put_words(links, at, 2, contents),
+        Content::Lost => put_words(links, at, 3, NOTHING),
     }
 }
 
@@ -134,15 +110,5 @@ pub fn is_empty(links: &[u32], client: usize, target: usize) -> bool
     requires { HasRow link_width links.now (link_row client target) }
     ensures { result ≡ is_empty (link_at links.now client target).content }
 {
-    let kind = links[WIDTH * (TARGETS * client + target) + KIND];
-    if kind == 1 {
-        return false;
-    }
-    if kind == 2 {
-        return false;
-    }
-    if kind == 3 {
-        return false;
-    }
-    true
+    matches!(link_at(links, client, target).content, Content::Nothing)
 }
