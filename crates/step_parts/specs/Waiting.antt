@@ -1,12 +1,12 @@
 -- Whether a client waits, by the kinds of its links gathered by "or": 0 exactly where no link holds anything.
-use Rattle.std.specs.Prelude.{ℕ, ◌+◌, ◌≤◌, ◌<◌, ◌≡◌, refl, Bool, true, false, not, ◌||◌, List, eqb}
-use Rattle.std.proofs.Common.{sym, ap, ◌∙◌, arith, add-one, eq-eqb, ne_eqb}
-use Rattle.std.specs.Int.Bits.{bit_and, bit_or, or_add_and}
+use Rattle.std.specs.Prelude.{ℕ, ◌+◌, ◌≤◌, ◌<◌, ◌≡◌, refl, not, ◌||◌, List, eqb}
+use Rattle.std.proofs.Common.{ap, ◌∙◌, arith, add-one, eq-eqb, ne_eqb}
+use Rattle.std.specs.Int.Bits.{bit_or, or_add_and}
 use Rattle.std.proofs.lemmas.Nat.{and_le_l, and_le_r}
 use Rattle.ranges.specs.Tests.{by_equal}
 use Rattle.ranges.specs.All.{any_below}
 use Rattle.tables.specs.Rows.{HasRow}
-use Rattle.tables.specs.Links.{targets, link_width, link_row, link_word, link_at, put_link, is_empty}
+use Rattle.tables.specs.Links.{targets, link_width, link_row, link_word, put_link}
 use Rattle.tables.specs.LinkLaws.{put_same, put_beside, full-request, full-reply, full-lost, none_there}
 use Rattle.tables.specs.declared.links.Content.TheVariants.{Nothing}
 use Rattle.rules.specs.Common.{filled}
@@ -44,23 +44,16 @@ or_some a b =
     (λ e. rw (ne_eqb (bit_or a b) 0 (λ z. e (omega (arith, or_add_and a b, and_le_l a b))), eq-eqb a 0 d, ne_eqb b 0 e)))
     (λ d. rw (ne_eqb (bit_or a b) 0 (λ z. d (omega (arith, or_add_and a b, and_le_r a b))), ne_eqb a 0 d))
 
--- What a loop that gathers the kinds has so far: n links are passed.
-pub record Gathered (links : List ℕ) (q n kinds : ℕ) : Type 0 where
-  pub within : n ≤ targets
-  pub some : not (eqb kinds 0) ≡ any_below (filled links q) n
+-- A loop that gathers the kinds, as the code meets it: n links are passed, and what is gathered tells whether one of them holds anything.
+abbrev pub Gathered : List ℕ → ℕ → ℕ → ℕ → Type 0
+Gathered links q n kinds = not (eqb kinds 0) ≡ any_below (filled links q) n
 
-pub gathered_none : (links : List ℕ) (q : ℕ) → Gathered links q 0 0
-unfolding any_below
-gathered_none links q = record { within = omega arith; some = refl }
+module _ (links : List ℕ) (q : ℕ) where
+  pub gathered_none : Gathered links q 0 0
+  unfolding any_below
+  gathered_none = refl
 
-module _ {links : List ℕ} {q n kinds : ℕ} (g : Gathered links q n kinds) where
-  pub gathered-more : {kind : ℕ} → KindsFit links q → n < targets → kind ≡ link_word links q n 0 →
+  pub gathered-more : (n kinds : ℕ) {kind : ℕ} → Gathered links q n kinds → KindsFit links q → n < targets → kind ≡ link_word links q n 0 →
       Gathered links q (n + 1) (bit_or kinds kind)
   unfolding any_below
-  gathered-more {kind} fit l e = record {
-    within = omega arith;
-    some = rw (add-one n) (or_some kinds kind ∙ rw (g.some, e, filled-kind links q n (fit n l)));
-  }
-
-  pub gathered-all : targets ≤ n → not (eqb kinds 0) ≡ any_below (filled links q) targets
-  gathered-all h = let e : n ≡ targets = omega (arith, g.within) in g.some ∙ rw e
+  gathered-more n kinds {kind} g fit l e = rw (add-one n) (or_some kinds kind ∙ rw (g, e, filled-kind links q n (fit n l)))

@@ -18,7 +18,7 @@ pub fn showing_nothing(arrival: Arrival) -> Delivered
     ensures { result ≡ nothing_shown arrival }
 {
     Delivered {
-        arrival: arrival,
+        arrival,
         setpoints: [0; 16],
         tags: [0; 16],
         badges: [0; 16],
@@ -30,14 +30,7 @@ pub fn is_pending(links: &[u32], client: usize) -> bool
     requires { HasLinks links.now client }
     ensures { result ≡ pending links.now client }
 {
-    let mut target = 0;
-    while target < links::TARGETS {
-        if !links::is_empty(links, client, target) {
-            return true;
-        }
-        target += 1;
-    }
-    false
+    (0..links::TARGETS).any(|target| !links::is_empty(links, client, target))
 }
 
 // The same of links whose kinds are among the four, as those of sound tables are. All kinds are gathered by "or" and tested once: the
@@ -47,10 +40,8 @@ pub fn is_waiting(links: &[u32], client: usize) -> bool
     ensures { result ≡ pending links.now client }
 {
     let mut kinds = 0;
-    let mut target = 0;
-    while target < links::TARGETS {
-        kinds = kinds | links::link_word(links, client, target, links::KIND);
-        target += 1;
+    for target in 0..links::TARGETS {
+        kinds |= links::link_word(links, client, target, links::KIND);
     }
     kinds != 0
 }
@@ -66,7 +57,7 @@ pub fn fill(
     requires { Fillable counts.old links.old client target }
     ensures { Filled counts.old links.old client target content result counts.new links.new }
 {
-    links::put_link(links, client, target, links::Link { content: content });
+    links::put_link(links, client, target, links::Link { content });
     let step = counts::count_at(counts, counts::STEP) + 1;
     counts::put_count(counts, counts::STEP, step);
     step

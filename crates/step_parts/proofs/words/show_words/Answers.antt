@@ -1,5 +1,5 @@
 -- `step_parts::words::show_words` meets its contract: the loop has laid what is shown of the servers that it has passed.
-use Prim.Native.Nat.{ℕ, ◌+◌, ◌-◌}
+use Prim.Native.Nat.{ℕ, ◌+◌}
 use mathlib.Core.Path.{◌∙◌}
 use Rattle.ranges.specs.LaidLaws.{laying-none, laying-more, laying-all, laid_at}
 use Rattle.tables.specs.Layout.{client_word}

@@ -1,5 +1,5 @@
 -- `step_parts::words::show_words` meets its contract: the loop has laid what is shown of the servers that it has passed.
-use Prim.Native.Nat.{ℕ, ◌+◌, ◌-◌}
+use Prim.Native.Nat.{ℕ, ◌+◌}
 use mathlib.Core.Bool.{cond}
 use mathlib.Core.List.{List}
 use Rattle.ranges.specs.LaidLaws.{Laying}
@@ -13,6 +13,3 @@ shown clients client field mask i = cond (has_server mask i) (client_word client
 
 abbrev pub invariant-loop-server : goal.invariant-loop-server
 invariant-loop-server l = Laying (shown l.clients l.client l.field l.mask) 16 l.initial.row l.server l.row
-
-abbrev pub decreases-loop-server : goal.decreases-loop-server
-decreases-loop-server l = 16 - l.server
