@@ -6,7 +6,7 @@ use mathlib.Core.List.{List, [], ◌∷◌, ◌++◌, append_assoc, append-nil, 
 use Rattle.std.proofs.Math.ListN.{length-append}
 use Rattle.std.proofs.lemmas.List.{length-map}
 use Rattle.std.proofs.lemmas.List.Edits.{sets, sets-eq}
-use Rattle.std.proofs.Math.Seq.{length-sets}
+use Rattle.std.proofs.Math.Seq.{length-sets, take-length}
 use Rattle.tables.specs.Rows.{HasRow}
 use Rattle.tables.specs.Layout.{record_word, begin_of_record, end_of_record, badge_of_record}
 use Rattle.listing.specs.Register.{kept, places_below, passing, line_width, Line, write, read, write_words, read_words, record_words, overlap, words_of_line}
@@ -84,8 +84,10 @@ module _ (words : ℕ → List ℕ) (wide : (place : ℕ) → length (words plac
     pub laid-passing : i < length places → {last : ℕ} {list'' : List ℕ} → Laid words (kept (p (get_or places i 0)) (get_or places i 0)) next list' last list'' → Laid words (passing p (take (i + 1) places)) line list last list''
     laid-passing h m = rw (passing-more p places i h) (laid_more words wide l m)
 
-    pub room-passing : (n : ℕ) → i < n → n ≤ length places → Room (length (passing p (take n places))) line list → Room (length (kept (p (get_or places i 0)) (get_or places i 0))) next list'
-    room-passing n h g r = omega (arith, r, l.lines, laid-length words l, passing_room p places i n h g)
+    pub room-passing : i < length places → Room (length (passing p places)) line list → Room (length (kept (p (get_or places i 0)) (get_or places i 0))) next list'
+    room-passing h r =
+        let m = rw (take-length places) at (passing_room p places i (length places) h (omega arith)) in
+        omega (arith, r, l.lines, laid-length words l, m)
 
 -- the line of a READ: its record, with the overlap of its begin and end
 pub read-line : (writes : List ℕ) (n : ℕ) (reads : List ℕ) (place line : ℕ) (list : List ℕ) {begin end over : ℕ} {list' : List ℕ} →

@@ -1,8 +1,8 @@
 -- The register's listing and overlap.
+pub mod Listed
 pub mod Register
 pub mod Sample
 pub mod Places
-pub mod Moves
 pub mod Laid
 pub mod Ready
 pub mod Lengths

@@ -2,8 +2,8 @@
 use Rattle.std.specs.Prelude.{ℕ, ◌≡◌, refl}
 use Rattle.rules.specs.Answers.{Word, ok, wait, next, write, read, no'}
 use Rattle.rules.specs.AnswersLaws.{said-once, said_number}
-use Rattle.listing.specs.declared.Listed.{Listed}
-use Rattle.listing.specs.declared.Listed.TheVariants.{Rows, Refused}
+use Rattle.listing.specs.Listed.{Listed}
+use Rattle.listing.specs.Listed.Listed.{Rows, Refused}
 use Rattle.listing.specs.Register.{listed_said}
 
 abbrev listed_of : Word → ℕ → Listed

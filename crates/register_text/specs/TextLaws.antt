@@ -9,8 +9,8 @@ use Rattle.soundness.specs.Facts.{Sound, facts-sound}
 use Rattle.printing.specs.Texts.{write_text, read_text}
 use Rattle.printing.specs.Printed.{Printed}
 use Rattle.printing.specs.PrintedLaws.{printed-none, printed_then}
-use Rattle.listing.specs.declared.Listed.{Listed}
-use Rattle.listing.specs.declared.Listed.TheVariants.{Rows, Refused}
+use Rattle.listing.specs.Listed.{Listed}
+use Rattle.listing.specs.Listed.Listed.{Rows, Refused}
 use Rattle.listing.specs.Register.{Line, write, read, line_width, most_lines, line_words, register, register_words, Listing, listing, listed_sound, list_register}
 use Rattle.listing.specs.Changes.{register_few}
 use Rattle.register_text.specs.Text.{row_text, rows_text, register_text}

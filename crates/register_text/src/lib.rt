@@ -2,17 +2,18 @@
 #![tactic(auto)]
 
 ghost use Rattle.std.specs.Prelude.{◌+◌, ◌*◌, ◌≤◌, ◌<◌, length};
-ghost use Rattle.tables.specs.Tables.{tables_of};
+ghost use Rattle.tables.specs.Lent.{tables_lent};
 ghost use Rattle.soundness.specs.Facts.{Sound};
 ghost use Rattle.printing.specs.Printed.{Printed};
 ghost use Rattle.printing.specs.Sizes.{record_most};
 ghost use Rattle.listing.specs.Register.{line_width, most_lines};
 ghost use Rattle.register_text.specs.Text.{row_text, rows_text, register_text, register_most};
 
-use listing::Listed;
+use listing::WIDTH;
+use tables::lent::Lent;
 
 // How many words listing needs at most.
-const LIST: usize = listing::WIDTH * listing::ROWS;
+const LIST: usize = WIDTH * listing::ROWS;
 
 // The bytes of the longest register: of each line a letter, six numbers of ten digits, each behind a space, and byte 10.
 pub const MOST: usize = (1 + 6 * (1 + 10) + 1) * listing::ROWS;
@@ -37,40 +38,22 @@ fn print_rows(list: &[u32], rows: usize, out: &mut [u8], at: usize) -> usize
     ensures { Printed out.old at (rows_text list.now rows) result out.new × (result ≤ at + record_most * rows) }
 {
     let mut next = at;
-    let mut i = 0;
-    while i < rows {
-        next = print_row(
-            &list[listing::WIDTH * i..listing::WIDTH * i + listing::WIDTH],
-            out,
-            next,
-        );
-        i += 1;
+    for i in 0..rows {
+        let row = &list[WIDTH * i..WIDTH * i + WIDTH];
+        next = print_row(row, out, next);
     }
     next
 }
 
 // The register of sound tables, printed from a place on; it answers where the print ends.
-pub fn print_register(
-    counts: &[u32],
-    clients: &[u32],
-    links: &[u32],
-    keys: &[u32],
-    values: &[u32],
-    log: &[u32],
-    writes: &[u32],
-    reads: &[u32],
-    out: &mut [u8],
-    at: usize,
-) -> usize
-    requires sound { Sound (tables_of counts.now clients.now links.now keys.now values.now log.now writes.now reads.now) }
+pub fn print_register(t: &Lent, out: &mut [u8], at: usize) -> usize
+    requires sound { Sound (tables_lent t.now) }
     requires register_most_in_bounds { at + register_most ≤ length out.old }
-    ensures { Printed out.old at (register_text (tables_of counts.now clients.now links.now keys.now values.now log.now writes.now reads.now)) result out.new × (result ≤ at + register_most) }
+    ensures { Printed out.old at (register_text (tables_lent t.now)) result out.new × (result ≤ at + register_most) }
 {
     let mut list = [0u32; LIST];
-    match register_listing::list_register_sound(
-        counts, clients, links, keys, values, log, writes, reads, &mut list,
-    ) {
-        Listed::Rows(rows) => print_rows(&list, rows, out, at),
-        Listed::Refused(_) => at,
+    match register_listing::list_register_sound(t, &mut list) {
+        Ok(rows) => print_rows(&list, rows, out, at),
+        Err(_) => at,
     }
 }

@@ -2,7 +2,7 @@
 use Rattle.std.specs.Prelude.{ℕ, ◌≡◌, List}
 use Rattle.std.proofs.Common.{◌∙◌, ap}
 use Rattle.frames.specs.declared.Written.{Written}
-use Rattle.listing.specs.declared.Listed.{Listed}
+use Rattle.listing.specs.Listed.{Listed}
 use Rattle.listing.specs.Register.{Listing, listing}
 use Rattle.wire.specs.Sending.{Sent, sent}
 use Rattle.wire_exports.specs.Numbers.{written_number, listed_number, numbered, frame_numbered, list_numbered}

@@ -1,5 +1,5 @@
 -- The rows passed are printed, each in as many bytes as a line can have.
-use Prim.Native.Nat.{ℕ, ◌-◌}
+use Prim.Native.Nat.{ℕ}
 use mathlib.Core.Path.{◌≡◌, subst, ◌∙◌}
 use native.Mathlib.Omega.{arith}
 use Rattle.printing.specs.Printed.{Printed}
@@ -17,12 +17,12 @@ loop-i-preserved c =
     let a = c.args in
     let p = c.print_row-next in (
       printed-row a.out.now a.list.now a.at l.i (omega (arith, c.requires.rows_in_bounds.1)) l.invariant.0 p.ensures.0,
-      (omega (arith, p.ensures.1, l.invariant.1.0), (omega (arith, c.loop-i-test.true), p.auto.out ∙ l.invariant.1.1.1)),
+      (omega (arith, p.ensures.1, l.invariant.1.0), p.auto.out ∙ l.invariant.1.1),
     )
 
 pub returns : goal.returns
 returns c =
     let l = c.loop-i in
     let a = c.args in
-    let e : l.i ≡ a.rows = omega (arith, l.invariant.1.1.0, c.loop-i-test.false) in
+    let e : l.i ≡ a.rows = omega (arith, l.auto.i-end, c.loop-i-test.false) in
     (subst (λ (n : ℕ). Printed a.out.now a.at (rows_text a.list.now n) l.next l.out) e l.invariant.0, omega (arith, l.invariant.1.0, e))

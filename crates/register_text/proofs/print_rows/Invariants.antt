@@ -1,5 +1,5 @@
 -- The rows passed are printed, each in as many bytes as a line can have.
-use Prim.Native.Nat.{◌+◌, ◌*◌, ◌≤◌, ◌-◌}
+use Prim.Native.Nat.{◌+◌, ◌*◌, ◌≤◌}
 use mathlib.Core.Path.{◌≡◌}
 use lib.ListN.{length}
 use Rattle.printing.specs.Printed.{Printed}
@@ -10,7 +10,4 @@ use Rattle.register_text.proofs.print_rows.Given as goal
 abbrev pub invariant-loop-i : goal.invariant-loop-i
 invariant-loop-i l =
     Printed l.initial.out l.at (rows_text l.list l.i) l.next l.out
-    × ((l.next ≤ l.at + record_most * l.i) × ((l.i ≤ l.rows) × (length l.out ≡ length l.initial.out)))
-
-abbrev pub decreases-loop-i : goal.decreases-loop-i
-decreases-loop-i l = l.rows - l.i
+    × ((l.next ≤ l.at + record_most * l.i) × (length l.out ≡ length l.initial.out))

@@ -1,0 +1,2 @@
+-- Rows laid in a lent list.
+pub mod Rows
