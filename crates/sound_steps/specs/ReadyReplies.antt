@@ -1,26 +1,16 @@
 -- Sound tables are ready for the delivery of a reply.
-use Rattle.std.specs.Prelude.{ℕ, ◌+◌, ◌*◌, ◌≤◌, ◌<◌, ◌≡◌, true, false, ◌&&◌, List, length, eqb}
-use Rattle.std.proofs.Common.{sym, ◌∙◌, arith, length-set, lt-ltb, eq-eqb}
-use Rattle.std.proofs.Math.Bool.{or-true}
-use Rattle.ranges.specs.Tests.{by-test, by_equal, not-both, both}
-use Rattle.ranges.specs.AllLaws.{any_at, all_of}
-use Rattle.ranges.specs.FirstLaws.{first_below_lem}
-use Rattle.keys.specs.Masks.{has_server}
-use Rattle.tables.specs.Rows.{HasRow, word_same, word_other}
+use Rattle.std.specs.Prelude.{ℕ, ◌+◌, ◌*◌, ◌≤◌, ◌<◌, ◌≡◌, false, List, length}
+use Rattle.std.proofs.Common.{sym, ◌∙◌, arith, length-set}
+use Rattle.tables.specs.Rows.{HasRow}
 use Rattle.tables.specs.Layout.{client_width, received_field, server_places}
-use Rattle.tables.specs.Links.{targets, is_empty, link_at, put_link}
-use Rattle.tables.specs.LinkLaws.{link_other}
-use Rattle.tables.specs.Tables.{Tables, clients_of, servers_of, entries_of, held_of, state_of, mask_of, record_of, received_of, content_at}
+use Rattle.tables.specs.Links.{put_link}
+use Rattle.tables.specs.Tables.{Tables, clients_of, servers_of, entries_of, state_of, mask_of, record_of, content_at}
 use Rattle.tables.specs.declared.links.Contents.{Contents}
 use Rattle.tables.specs.declared.links.Content.TheVariants.{Nothing, Reply}
-use Rattle.coordinator.specs.Latest.{latest_tag, latest_key}
-use Rattle.coordinator.specs.LatestLaws.{latest-within}
-use Rattle.server.specs.Held.{first_bearing, bears}
-use Rattle.rules.specs.Common.{asking_keys, asking_setpoints, asking_all, coordinator, filled, pending}
+use Rattle.rules.specs.Common.{asking_keys, asking_setpoints, asking_all, coordinator, pending}
 use Rattle.step_parts.specs.Waiting.{KindsFit}
-use Rattle.rules.specs.Choice.{serves, qualifies}
 use Rattle.rules.specs.Reply.{received_in, got_number}
-use Rattle.soundness.specs.Sound.{uses, holding}
+use Rattle.soundness.specs.Sound.{holding}
 use Rattle.soundness.specs.Facts.{Sound, Between}
 use Rattle.soundness.specs.Room.{few_servers, server-fits, client-fits, client-row, client-links, write-row, read-row, log-entries}
 use Rattle.choice.specs.Ready.{ChoiceReady}
@@ -28,7 +18,7 @@ use Rattle.read_replies.specs.Ready.{KeysReady}
 use Rattle.choice_replies.specs.Ready.{Concludable, AllReady}
 use Rattle.keeping.specs.Accepted.{Deliverable}
 use Rattle.keeping.specs.Told.{told_held, log-told, opening-qualifies}
-use Rattle.keeping.specs.States.{uses_setpoints, uses-all, by_state, keys-target, masked-server, holding-log, holding-server, arrived, received_none, received-some, keys-told, all_told}
+use Rattle.keeping.specs.States.{uses_setpoints, by_state, keys-target, masked-server, holding-log, keys-told, all_told}
 use Rattle.sound_steps.specs.ReplyStates.{Brings, ReplyReady}
 use Rattle.sound_steps.specs.Ready.{target, fillable, reply-used, reply-sound}
 

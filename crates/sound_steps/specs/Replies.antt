@@ -1,7 +1,8 @@
 -- A reply delivered to sound tables where no fault refuses it.
-use Rattle.std.specs.Prelude.{ℕ, ◌≡◌, refl, true, List, replicate}
+use Rattle.std.specs.Prelude.{ℕ, ◌≡◌, refl, Option, None, Some, IfSome, Result, Ok, Err, List, replicate}
 use Rattle.std.proofs.Common.{sym, ◌∙◌, ap}
-use Rattle.ranges.specs.Tests.{not-both}
+use Rattle.causes.specs.declared.Refusal.{Refusal}
+use Rattle.causes.specs.Numbers.{fault_of}
 use Rattle.tables.specs.Rows.{HasRow}
 use Rattle.tables.specs.Layout.{client_width}
 use Rattle.tables.specs.Links.{link_at}
@@ -26,9 +27,11 @@ pub record Taking (t : Tables) (q i : ℕ) : Type 0 where
   pub ready : ReplyReady t.counts t.clients t.links t.keys t.values t.log t.writes t.reads q i
   pub accepted : (x : Arrived) → x ≡ reply_delivered q i t → x ≡ deliver_reply q i t
 
--- n is the fault that was found
-pub taking : (t : Tables) → Sound t → (q i : ℕ) {n : ℕ} → n ≡ delivery_fault q i t → n ≡ 0 → Taking t q i
-taking t s q i d z = record { ready = reply-ready t s q i (delivery_able t s q i d z); accepted = λ x e. reply-accepted t s q i d z e }
+-- no fault was found
+pub taking : {A : Type 0} (t : Tables) → Sound t → (q i : ℕ) (r : Result A Refusal) → fault_of r ≡ delivery_fault q i t →
+    ((e : Refusal) → r ≡ Err e → ⊥) → Taking t q i
+taking t s q i (Ok v) d n = record { ready = reply-ready t s q i (delivery_able t s q i d); accepted = λ x e. reply-accepted t s q i d e }
+taking t s q i (Err r) d n = absurd (n r refl)
 
 -- l is what was read of the links, w what the reply there brings
 module _
@@ -44,13 +47,18 @@ module _
 pub record Replied (q i : ℕ) (t : Tables) (o : Outcome) (tags : List ℕ) (t' : Tables) : Type 0 where
   pub leaves : arrived (shown_by o tags t'.clients q) t' ≡ deliver_reply q i t
   pub tagged : tags ≡ (deliver_reply q i t).delivered.tags
-  pub row : o.ended ≡ true → HasRow client_width t'.clients q
+  pub row : IfSome o.shown (λ mask. HasRow client_width t'.clients q)
+
+always : (m : Option ℕ) {P : Type 0} → P → IfSome m (λ mask. P)
+always None r = tt
+always (Some mask) r = r
 
 module _ (q i : ℕ) (t : Tables) {o : Outcome} {tags : List ℕ} {t' : Tables} where
-  pub replied : {x : Arrived} → Shows x o tags q t' → x ≡ deliver_reply q i t → (o.ended ≡ true → HasRow client_width t'.clients q) →
-      Replied q i t o tags t'
-  replied s e r = record { leaves = s.leaves ∙ e; tagged = s.tagged ∙ ap (λ (y : Arrived). y.delivered.tags) e; row = r }
+  pub replied : {x : Arrived} → Shows x o tags q t' → x ≡ deliver_reply q i t → HasRow client_width t'.clients q → Replied q i t o tags t'
+  replied s e r = record { leaves = s.leaves ∙ e; tagged = s.tagged ∙ ap (λ (y : Arrived). y.delivered.tags) e; row = always o.shown r }
 
   -- an outcome that shows nothing
   pub plain-replied : {a : Arrival} → o ≡ plainly a → tags ≡ replicate 16 0 → said a t' ≡ deliver_reply q i t → Replied q i t o tags t'
-  plain-replied e z f = replied (plain-shows tags q e z f) refl (λ y. absurd (not-both y (ap (λ (p : Outcome). p.ended) e)))
+  plain-replied e z f =
+      let s = plain-shows tags q e z f in
+      record { leaves = s.leaves; tagged = s.tagged; row = rw e tt }

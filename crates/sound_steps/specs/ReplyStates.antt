@@ -15,7 +15,7 @@ use Rattle.rules.specs.declared.Arrival.TheVariants.{Wait, Refused}
 use Rattle.rules.specs.declared.Delivered.{Delivered}
 use Rattle.rules.specs.Answers.{Arrived, arrived, nothing_shown}
 use Rattle.rules.specs.Common.{writing, entering, asking_keys, asking_setpoints}
-use Rattle.rules.specs.Reply.{on_set_done, on_entered, on_keys, on_got, on_all, on_reply_in, on_reply, reply_delivered}
+use Rattle.rules.specs.Reply.{said, on_set_done, on_entered, on_keys, on_got, on_all, on_reply_in, on_reply, reply_delivered}
 use Rattle.step_parts.specs.Filled.{Fillable}
 use Rattle.step_parts.specs.Waiting.{KindsFit}
 use Rattle.reply_parts.specs.Settled.{GotReady}
@@ -70,17 +70,15 @@ module _ (q i : ℕ) (t : Tables) {l : Link} (d : l ≡ link_at t.links q i) whe
   unfolding reply_delivered
   by_content e f = f ∙ ap (λ (c : Content). on_reply c q i t) (sym e ∙ ap (λ (k : Link). k.content) d)
 
-  -- no reply is there
-  none_of : (c : Content) {x : Delivered} → l.content ≡ c → ((w : Contents) → c ≡ Reply w → ⊥) → x ≡ nothing_shown (Refused 9) →
-      arrived x t ≡ reply_delivered q i t
-  none_of Nothing e n f = by_content e (rw f)
-  none_of (Request w) e n f = by_content e (rw f)
-  none_of (Reply w) e n f = absurd (n w refl)
-  none_of Lost e n f = by_content e (rw f)
+  no_reply : (c : Content) → ((w : Contents) → c ≡ Reply w → ⊥) → said (Refused 9) t ≡ on_reply c q i t
+  no_reply Nothing n = refl
+  no_reply (Request w) n = refl
+  no_reply (Reply w) n = absurd (n w refl)
+  no_reply Lost n = refl
 
-  pub by-none : {x : Delivered} → ((w : Contents) → l.content ≡ Reply w → ⊥) → x ≡ nothing_shown (Refused 9) →
-      arrived x t ≡ reply_delivered q i t
-  by-none n f = none_of l.content refl n f
+  -- nothing, a request, or what was lost
+  pub by-none : ((w : Contents) → l.content ≡ Reply w → ⊥) → said (Refused 9) t ≡ reply_delivered q i t
+  by-none n = by_content refl (no_reply l.content n)
 
   pub by-reply : {w : Contents} {x : Arrived} → l.content ≡ Reply w → x ≡ on_reply_in (state_of t q) w q i t → x ≡ reply_delivered q i t
   by-reply e f = by_content e f

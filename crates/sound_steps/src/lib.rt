@@ -6,15 +6,21 @@
 ghost use Rattle.std.specs.Prelude.{◌≡◌, replicate};
 ghost use Rattle.tables.specs.Tables.{tables_of};
 ghost use Rattle.rules.specs.Answers.{left, arrived};
+ghost use Rattle.causes.specs.Numbers.{number_of};
+ghost use Rattle.rules.specs.Results.{answer_by};
+ghost use Rattle.rules.specs.declared.Arrival.TheVariants.{Refused};
+ghost use Rattle.reply_parts.specs.Shown.{plainly};
 ghost use Rattle.soundness.specs.Facts.{Sound};
 ghost use Rattle.sound_steps.specs.Replies.{Replied};
 ghost use Rattle.refusals.specs.Steps.{open', begin_write, begin_read, deliver_request, deliver_reply, lose, resend};
 
+use causes::Refusal;
 use refusal_tests::openings;
 use reply_parts::Outcome;
-use rules::{Answer, Arrival, Delivered, states};
+use rules::{Arrival, Delivered, states};
 use sound_lengths::lengths;
 use step_parts::words;
+use tables::lent::Lent;
 use tables::{clients, links};
 
 // Opens the store: refused by 1 or 2. Old contents need not be sound. The number of clients is called panels here, since clients are their
@@ -32,22 +38,30 @@ pub fn open(
     servers: u32,
     panels: u32,
     setpoints: &[u32],
-) -> Answer
-    ensures { left result (tables_of counts.new clients.new links.new keys.new values.new log.new writes.now reads.now)
+) -> Result<(), Refusal>
+    ensures { left (answer_by result) (tables_of counts.new clients.new links.new keys.new values.new log.new writes.now reads.now)
         ≡ open' method servers panels setpoints.now (tables_of counts.old clients.old links.old keys.old values.old log.old writes.now reads.now) }
 {
     if !openings::fits_press(method, servers, panels, setpoints.len()) {
-        return Answer::Refused(1);
+        return Err(Refusal::NoSuchPress);
     }
-    if !lengths::long_enough(
-        servers, panels, &*counts, &*clients, &*links, &*keys, &*values, &*log, writes, reads,
-    ) {
-        return Answer::Refused(2);
+    let lent = Lent {
+        counts: &*counts,
+        clients: &*clients,
+        links: &*links,
+        keys: &*keys,
+        values: &*values,
+        log: &*log,
+        writes,
+        reads,
+    };
+    if !lengths::long_enough(servers, panels, &lent) {
+        return Err(Refusal::NotSound);
     }
     opening::open(
         counts, clients, links, keys, values, log, method, servers, panels, setpoints,
     );
-    Answer::Ok
+    Ok(())
 }
 
 // Begins a WRITE on tables known to be sound: refused by 3 to 7.
@@ -64,15 +78,12 @@ pub fn begin_write_sound(
     mask: u32,
     badge: u16,
     setpoints: &[u32],
-) -> Answer
+) -> Result<(), Refusal>
     requires { Sound (tables_of counts.old clients.old links.old keys.now values.now log.now writes.old reads.now) }
-    ensures { left result (tables_of counts.new clients.new links.new keys.now values.now log.now writes.new reads.now)
+    ensures { left (answer_by result) (tables_of counts.new clients.new links.new keys.now values.now log.now writes.new reads.now)
         ≡ begin_write client mask badge setpoints.now (tables_of counts.old clients.old links.old keys.now values.now log.now writes.old reads.now) }
 {
-    let fault = refusal_tests::write_fault(&*counts, &*clients, client, mask, setpoints.len());
-    if fault != 0 {
-        return Answer::Refused(fault);
-    }
+    refusal_tests::write_fault(&*counts, &*clients, client, mask, setpoints.len())?;
     begins::begin_write(
         counts,
         clients,
@@ -83,7 +94,7 @@ pub fn begin_write_sound(
         badge as u32,
         setpoints,
     );
-    Answer::Ok
+    Ok(())
 }
 
 // Begins a READ on tables known to be sound: refused by 3 to 7.
@@ -98,17 +109,14 @@ pub fn begin_read_sound(
     reads: &mut [u32],
     client: u32,
     mask: u32,
-) -> Answer
+) -> Result<(), Refusal>
     requires { Sound (tables_of counts.old clients.old links.old keys.now values.now log.now writes.now reads.old) }
-    ensures { left result (tables_of counts.new clients.new links.new keys.now values.now log.now writes.now reads.new)
+    ensures { left (answer_by result) (tables_of counts.new clients.new links.new keys.now values.now log.now writes.now reads.new)
         ≡ begin_read client mask (tables_of counts.old clients.old links.old keys.now values.now log.now writes.now reads.old) }
 {
-    let fault = refusal_tests::read_fault(&*counts, &*clients, client, mask);
-    if fault != 0 {
-        return Answer::Refused(fault);
-    }
+    refusal_tests::read_fault(&*counts, &*clients, client, mask)?;
     begins::begin_read(counts, clients, links, reads, client as usize, mask);
-    Answer::Ok
+    Ok(())
 }
 
 // Delivers a request on tables known to be sound: refused by 3, 7, 8 or 9.
@@ -123,15 +131,12 @@ pub fn deliver_request_sound(
     reads: &[u32],
     client: u32,
     target: u32,
-) -> Answer
+) -> Result<(), Refusal>
     requires { Sound (tables_of counts.old clients.now links.old keys.old values.old log.old writes.old reads.now) }
-    ensures { left result (tables_of counts.new clients.now links.new keys.new values.new log.new writes.new reads.now)
+    ensures { left (answer_by result) (tables_of counts.new clients.now links.new keys.new values.new log.new writes.new reads.now)
         ≡ deliver_request client target (tables_of counts.old clients.now links.old keys.old values.old log.old writes.old reads.now) }
 {
-    let fault = refusal_tests::delivery_fault(&*counts, client, target);
-    if fault != 0 {
-        return Answer::Refused(fault);
-    }
+    refusal_tests::delivery_fault(&*counts, client, target)?;
     requests::deliver_request(
         counts,
         clients,
@@ -143,6 +148,13 @@ pub fn deliver_request_sound(
         client as usize,
         target as usize,
     )
+}
+
+// The outcome of a reply whose delivery is refused.
+fn refused(refusal: Refusal) -> Outcome
+    ensures { result ≡ plainly (Refused (number_of refusal)) }
+{
+    reply_parts::plain(Arrival::Refused(refusal.number()))
 }
 
 // Takes in a reply on tables known to be sound, ahead of what is shown of the client's row: refused by 3, 7 or 9. A row that was 0 gets the
@@ -169,16 +181,14 @@ pub fn take_reply(
         (tables_of counts.new clients.new links.new keys.now values.now
         log.now writes.new reads.new) }
 {
-    let fault = refusal_tests::delivery_fault(&*counts, client, target);
-    if fault != 0 {
-        return reply_parts::plain(Arrival::Refused(fault));
+    if let Err(refusal) = refusal_tests::delivery_fault(&*counts, client, target) {
+        return refused(refusal);
     }
     let client = client as usize;
     let target = target as usize;
     let link = links::link_at(&*links, client, target);
-    let content = link.content;
-    let links::Content::Reply(contents) = content else {
-        return reply_parts::plain(Arrival::Refused(9));
+    let links::Content::Reply(contents) = link.content else {
+        return refused(Refusal::NoMessage);
     };
     let state = clients::client_word(clients, client, clients::STATE);
     if state == states::WRITING {
@@ -206,8 +216,7 @@ pub fn take_reply(
         words::show_words(&*clients, client, clients::TAGS, mask, tags);
         return Outcome {
             arrival: Arrival::Read(tag),
-            ended: true,
-            mask: mask,
+            shown: Some(mask),
         };
     }
     choice_replies::all_told(
@@ -256,19 +265,16 @@ pub fn lose_sound(
     reads: &[u32],
     client: u32,
     target: u32,
-) -> Answer
+) -> Result<(), Refusal>
     requires { Sound (tables_of counts.old clients.now links.old keys.now values.now log.now writes.now reads.now) }
-    ensures { left result (tables_of counts.new clients.now links.new keys.now
+    ensures { left (answer_by result) (tables_of counts.new clients.now links.new keys.now
         values.now log.now
         writes.now reads.now)
         ≡ lose client target (tables_of counts.old clients.now links.old keys.now
         values.now log.now
         writes.now reads.now) }
 {
-    let fault = refusal_tests::delivery_fault(&*counts, client, target);
-    if fault != 0 {
-        return Answer::Refused(fault);
-    }
+    refusal_tests::delivery_fault(&*counts, client, target)?;
     losses::lose(counts, links, client as usize, target as usize)
 }
 
@@ -284,18 +290,15 @@ pub fn resend_sound(
     reads: &[u32],
     client: u32,
     target: u32,
-) -> Answer
+) -> Result<(), Refusal>
     requires { Sound (tables_of counts.old clients.now links.old keys.now values.now log.now writes.now reads.now) }
-    ensures { left result (tables_of counts.new clients.now links.new keys.now
+    ensures { left (answer_by result) (tables_of counts.new clients.now links.new keys.now
         values.now log.now
         writes.now reads.now)
         ≡ resend client target (tables_of counts.old clients.now links.old keys.now
         values.now log.now
         writes.now reads.now) }
 {
-    let fault = refusal_tests::delivery_fault(&*counts, client, target);
-    if fault != 0 {
-        return Answer::Refused(fault);
-    }
+    refusal_tests::delivery_fault(&*counts, client, target)?;
     losses::resend(counts, clients, links, client as usize, target as usize)
 }

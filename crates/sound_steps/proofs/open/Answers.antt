@@ -7,56 +7,23 @@ use Rattle.sound_steps.specs.Cases.{open_wrong, open_short, open_able, open-acce
 use Rattle.sound_steps.proofs.open.Goals as goal
 
 pub returns-then-not-fits_press : goal.returns-then-not-fits_press
-returns-then-not-fits_press c = let a = c.args in open_wrong a.method a.servers a.panels a.setpoints.now (tables_of a.counts.now a.clients.now a.links.now a.keys.now a.values.now a.log.now a.writes.now a.reads.now) c.fits_press.ensures (ap not c.if-not-fits_press.true)
+returns-then-not-fits_press c = open_wrong _ _ _ _ _ c.fits_press.ensures (ap not c.if-not-fits_press.true)
 
 pub returns-then-not-long_enough : goal.returns-then-not-long_enough
 returns-then-not-long_enough c =
-    let a = c.args in
-    open_short a.method a.servers a.panels a.setpoints.now (tables_of a.counts.now a.clients.now a.links.now a.keys.now a.values.now a.log.now a.writes.now a.reads.now) c.fits_press.ensures c.long_enough.ensures (ap not c.if-not-fits_press.false) (ap not c.if-not-long_enough.true)
+    open_short _ _ _ _ _ c.fits_press.ensures c.long_enough.ensures (ap not c.if-not-fits_press.false) (ap not c.if-not-long_enough.true)
 
 pub open-requires : goal.open-requires
 open-requires c =
     let a = c.args in
-    open-ready a.method a.servers a.panels a.setpoints.now (tables_of a.counts.now a.clients.now a.links.now a.keys.now a.values.now a.log.now a.writes.now a.reads.now) (open_able a.method a.servers a.panels a.setpoints.now (tables_of a.counts.now a.clients.now a.links.now a.keys.now a.values.now a.log.now a.writes.now a.reads.now) c.fits_press.ensures c.long_enough.ensures (ap not c.if-not-fits_press.false) (ap not c.if-not-long_enough.false))
+    let t = tables_of a.counts.now a.clients.now a.links.now a.keys.now a.values.now a.log.now a.writes.now a.reads.now in
+    open-ready a.method a.servers a.panels a.setpoints.now t
+    (open_able a.method a.servers a.panels a.setpoints.now t c.fits_press.ensures c.long_enough.ensures
+    (ap not c.if-not-fits_press.false) (ap not c.if-not-long_enough.false))
 
 pub returns : goal.returns
 returns c =
     let at_open = c.before.before.before.before.before.before.before.before.before.before.before.before in
     let a = c.args in
-    open-accepted a.method a.servers a.panels a.setpoints.now (tables_of a.counts.now a.clients.now a.links.now a.keys.now a.values.now a.log.now a.writes.now a.reads.now) c.fits_press.ensures c.long_enough.ensures (ap not c.if-not-fits_press.false) (ap not c.if-not-long_enough.false) (at_open.«open».ensures a.writes.now a.reads.now)
-
-pub shape_of-counts-then-not-long_enough : goal.shape_of-counts-then-not-long_enough
-shape_of-counts-then-not-long_enough c = search
-
-pub shape_of-clients-then-not-long_enough : goal.shape_of-clients-then-not-long_enough
-shape_of-clients-then-not-long_enough c = search
-
-pub shape_of-links-then-not-long_enough : goal.shape_of-links-then-not-long_enough
-shape_of-links-then-not-long_enough c = search
-
-pub shape_of-keys-then-not-long_enough : goal.shape_of-keys-then-not-long_enough
-shape_of-keys-then-not-long_enough c = search
-
-pub shape_of-values-then-not-long_enough : goal.shape_of-values-then-not-long_enough
-shape_of-values-then-not-long_enough c = search
-
-pub shape_of-log-then-not-long_enough : goal.shape_of-log-then-not-long_enough
-shape_of-log-then-not-long_enough c = search
-
-pub shape_of-counts : goal.shape_of-counts
-shape_of-counts c = search
-
-pub shape_of-clients : goal.shape_of-clients
-shape_of-clients c = search
-
-pub shape_of-links : goal.shape_of-links
-shape_of-links c = search
-
-pub shape_of-keys : goal.shape_of-keys
-shape_of-keys c = search
-
-pub shape_of-values : goal.shape_of-values
-shape_of-values c = search
-
-pub shape_of-log : goal.shape_of-log
-shape_of-log c = search
+    open-accepted _ _ _ _ _ c.fits_press.ensures c.long_enough.ensures (ap not c.if-not-fits_press.false) (ap not c.if-not-long_enough.false)
+    (at_open.«open».ensures a.writes.now a.reads.now)

@@ -1,38 +1,29 @@
--- `sound_steps::resend_sound` meets its contract: a fault refuses, and where there is none sound tables are ready for the inner step.
-use mathlib.Core.Path.{◌≡◌}
+-- `sound_steps::resend_sound` meets its contract: a cause refuses, and where there is none sound tables are ready for the inner step.
 use Rattle.tables.specs.Tables.{tables_of}
-use Rattle.refusals.specs.Refusals.{delivery_fault}
 use Rattle.sound_steps.specs.Ready.{resend-ready}
 use Rattle.sound_steps.specs.Cases.{resend-refused, resend-accepted, delivery_able}
-use Rattle.sound_steps.proofs.resend_sound.Goals.{After-delivery_fault-fault}
+use Rattle.std.proofs.lemmas.Result.{err_from_is_err_and}
 use Rattle.sound_steps.proofs.resend_sound.Goals as goal
 
-fault : (f : After-delivery_fault-fault) →
-    f.delivery_fault-fault.result ≡ delivery_fault f.args.client f.args.target (tables_of f.args.counts.now f.args.clients.now f.args.links.now f.args.keys.now f.args.values.now f.args.log.now f.args.writes.now f.args.reads.now)
-fault f =
-    let a = f.args in
-    f.delivery_fault-fault.ensures a.clients.now a.links.now a.keys.now a.values.now a.log.now a.writes.now
-    a.reads.now
-
-pub returns-then-fault-ne0 : goal.returns-then-fault-ne0
-returns-then-fault-ne0 c = resend-refused (tables_of c.args.counts.now c.args.clients.now c.args.links.now c.args.keys.now c.args.values.now c.args.log.now c.args.writes.now c.args.reads.now) c.requires c.args.client c.args.target (fault (goal.at.returns-then-fault-ne0 c).After-delivery_fault-fault) c.if-fault-ne0.true
+pub returns-in_err-delivery_fault : goal.returns-in_err-delivery_fault
+returns-in_err-delivery_fault c =
+    let a = c.args in
+    let p = err_from_is_err_and c.from_residual.result c.from_residual.ensures.1 in
+    rw (p.1, p.2)
+    (resend-refused _ c.requires _ _ _
+    (c.in_err-delivery_fault.ensures a.clients.now a.links.now a.keys.now a.values.now a.log.now a.writes.now a.reads.now))
 
 pub resend-requires : goal.resend-requires
 resend-requires c =
-    resend-ready (tables_of c.args.counts.now c.args.clients.now c.args.links.now c.args.keys.now c.args.values.now c.args.log.now c.args.writes.now c.args.reads.now) c.requires c.args.client c.args.target
-    (delivery_able (tables_of c.args.counts.now c.args.clients.now c.args.links.now c.args.keys.now c.args.values.now c.args.log.now c.args.writes.now c.args.reads.now) c.requires c.args.client c.args.target (fault (goal.at.resend-requires c).After-delivery_fault-fault) c.if-fault-ne0.false)
+    let a = c.args in
+    let t = tables_of a.counts.now a.clients.now a.links.now a.keys.now a.values.now a.log.now a.writes.now a.reads.now in
+    resend-ready t c.requires a.client a.target
+    (delivery_able t c.requires a.client a.target
+    (c.in_ok-delivery_fault.ensures a.clients.now a.links.now a.keys.now a.values.now a.log.now a.writes.now a.reads.now))
 
 pub returns : goal.returns
 returns c =
     let a = c.args in
-    resend-accepted (tables_of c.args.counts.now c.args.clients.now c.args.links.now c.args.keys.now c.args.values.now c.args.log.now c.args.writes.now c.args.reads.now) c.requires a.client a.target (fault (goal.at.returns c).After-delivery_fault-fault) c.if-fault-ne0.false
+    resend-accepted _ c.requires _ _
+    (c.in_ok-delivery_fault.ensures a.clients.now a.links.now a.keys.now a.values.now a.log.now a.writes.now a.reads.now)
     (c.resend.ensures a.keys.now a.values.now a.log.now a.writes.now a.reads.now)
-
-pub shape_of-counts-then-fault-ne0 : goal.shape_of-counts-then-fault-ne0
-shape_of-counts-then-fault-ne0 c = search
-
-pub shape_of-counts : goal.shape_of-counts
-shape_of-counts c = search
-
-pub shape_of-links : goal.shape_of-links
-shape_of-links c = search
