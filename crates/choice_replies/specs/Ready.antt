@@ -1,15 +1,14 @@
 -- What the delivery of a reply to a READ by C relies on, and what its end leaves. Sound tables have all of it.
-use Rattle.std.specs.Prelude.{ℕ, ◌*◌, ◌<◌, ◌≤◌, ◌≡◌, Bool, true, false, List, length}
-use Rattle.std.proofs.Common.{sym, ◌∙◌}
+use Rattle.std.specs.Prelude.{ℕ, ◌*◌, ◌<◌, ◌≤◌, ◌≡◌, true, false, List, length}
 use Rattle.tables.specs.Rows.{HasRow}
 use Rattle.tables.specs.Layout.{count_at, servers_field, client_width, client_word, put_client_word, state_field, record_field, record_width}
 use Rattle.tables.specs.Layout.{entry_width, log_places, mask_field}
 use Rattle.tables.specs.Links.{targets, HasLinks, put_link}
 use Rattle.tables.specs.declared.links.Content.TheVariants.{Nothing}
 use Rattle.rules.specs.Common.{idle, pending, coordinator, ended_record, tagged_record}
-use Rattle.rules.specs.Choice.{qualifies, chosen_tag, chosen_setpoint, chosen_badge}
+use Rattle.rules.specs.Choice.{qualifies, chosen_setpoint, chosen_badge}
 use Rattle.rules.specs.Reply.{received_in, put_received, tag_from, concluded_row, chosen_tags}
-use Rattle.choice.specs.Ready.{ChoiceReady, Choosable}
+use Rattle.choice.specs.Ready.{ChoiceReady}
 use Rattle.step_parts.specs.Waiting.{KindsFit}
 
 -- what the end of a READ leaves whose client has the row: the tag chosen, the tags beside what is shown, the client idle, the record ended
@@ -39,15 +38,6 @@ FinishedByC clients keys values log reads q mask k place step tag' tags' clients
     let row = concluded_row setpoint badge tag q mask k clients in
     Finished row reads q place tag (chosen_tags log mask k tag) step tag' tags' clients' reads'
 
--- what C's choice relies on, and the tag that it finds; n is what was read of the row
-module _ (clients keys log : List ℕ) (q mask k : ℕ) {n : ℕ} (e : n ≡ received_in clients q coordinator) where
-  pub choosable : {reads : List ℕ} {place : ℕ} → Concludable clients keys log reads q mask k place → Choosable clients keys log q mask k n
-  choosable c =
-      record { some = rw e c.some; few = rw e c.entries; logged = rw e c.logged; opening = c.opening }
-
-  pub tag_is : {tag : ℕ} → tag ≡ chosen_tag keys log mask (received_in clients q) k n → tag ≡ tag_from clients keys log q mask k
-  tag_is d = d ∙ rw e
-
 -- a reply to C: where it is the last, the choice is ready
 pub record AllReady (counts clients links keys values log reads : List ℕ) (q i number : ℕ) : Type 0 where
   pub row : HasRow client_width clients q
@@ -58,12 +48,3 @@ pub record AllReady (counts clients links keys values log reads : List ℕ) (q i
       (ChoiceReady (put_received clients q i number) keys values q (count_at counts servers_field)
       × Concludable (put_received clients q i number) keys log reads q (client_word clients q mask_field) (count_at counts servers_field)
       (client_word clients q record_field))
-
--- the last reply, as the code finds it: the words read, and what was put
-pub last-ready : (counts clients links keys values log reads : List ℕ) (q i number : ℕ) {told links' : List ℕ} {b : Bool}
-    {k mask place : ℕ} →
-    AllReady counts clients links keys values log reads q i number → links' ≡ put_link links q i Nothing → b ≡ pending links' q →
-    b ≡ false → told ≡ put_received clients q i number →
-    k ≡ count_at counts servers_field → mask ≡ client_word clients q mask_field → place ≡ client_word clients q record_field →
-    (ChoiceReady told keys values q k × Concludable told keys log reads q mask k place)
-last-ready counts clients links keys values log reads q i number r l p e t k m c = rw (t, k, m, c) (r.last (rw l at (sym p ∙ e)))

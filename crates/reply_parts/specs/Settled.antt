@@ -8,12 +8,14 @@ use Rattle.tables.specs.Tables.{Tables}
 use Rattle.tables.specs.declared.links.Content.TheVariants.{Nothing}
 use Rattle.rules.specs.Common.{counted, pending}
 use Rattle.rules.specs.Reply.{emptied}
+use Rattle.step_parts.specs.Waiting.{KindsFit}
 
--- what `settle` leaves
+-- what `settle` leaves; the kinds of the client's links stay among the four
 pub record Settled (counts links : List ℕ) (q i step : ℕ) (counts' links' : List ℕ) : Type 0 where
   pub stepped : step ≡ count_at counts step_field + 1
   pub counted' : counts' ≡ counted counts
   pub emptied : links' ≡ put_link links q i Nothing
+  pub fit : KindsFit links q → KindsFit links' q
 
 -- the client's record of a READ or a WRITE is there
 pub record GotReady (clients records : List ℕ) (q : ℕ) : Type 0 where
