@@ -8,7 +8,7 @@ ghost use Rattle.printing.specs.Plain.{shows_servers, plain_text, plain_answer, 
 ghost use Rattle.printing.specs.Sizes.{marked_most, word_most, answer_most};
 ghost use Rattle.printing.specs.StepTexts.{refusal_text, refusal_most};
 
-use printing::Word;
+use printing::{Servers, Word};
 
 // A word, and a tag or a number behind it.
 fn print_tagged(text: &[u8], tag: u32, out: &mut [u8], at: usize) -> usize
@@ -23,14 +23,7 @@ fn print_tagged(text: &[u8], tag: u32, out: &mut [u8], at: usize) -> usize
 pub fn shows_servers(word: Word) -> bool
     ensures { result ≡ shows_servers word }
 {
-    match word {
-        Word::Ok => false,
-        Word::Wait => false,
-        Word::Next => false,
-        Word::Write(_) => false,
-        Word::Read(_) => true,
-        Word::No(_) => false,
-    }
+    matches!(word, Word::Read(_))
 }
 
 // The answer behind the line's number, without the servers that it shows.
@@ -49,51 +42,32 @@ fn print_plain(word: Word, out: &mut [u8], at: usize) -> usize
 }
 
 // The answer behind the line's number.
-fn print_word(
-    word: Word,
-    mask: u32,
-    setpoints: &[u32],
-    tags: &[u32],
-    badges: &[u32],
-    out: &mut [u8],
-    at: usize,
-) -> usize
-    requires in_bounds { (16 ≤ length setpoints.now) × ((16 ≤ length tags.now) × (16 ≤ length badges.now)) }
-    requires word_most_in_bounds { at + word_most ≤ length out.old }
+fn print_word(word: Word, shown: &Servers, out: &mut [u8], at: usize) -> usize
+    requires { at + word_most ≤ length out.old }
     ensures { Printed out.old at
-        (word_text word mask setpoints.now tags.now badges.now) result out.new
+        (word_text word shown.now.mask shown.now.setpoints.now shown.now.tags.now shown.now.badges.now) result out.new
         × (result ≤ at + word_most) }
 {
     let next = print_plain(word, out, at);
     if shows_servers(word) {
-        return server_text::print_servers(mask, setpoints, tags, badges, out, next);
+        return server_text::print_servers(shown, out, next);
     }
     next
 }
 
-// The line that answers the line of a number. Mask, setpoints, tags and badges count for a READ alone.
-pub fn print_answer(
-    number: u64,
-    word: Word,
-    mask: u32,
-    setpoints: &[u32],
-    tags: &[u32],
-    badges: &[u32],
-    out: &mut [u8],
-    at: usize,
-) -> usize
-    requires in_bounds { (16 ≤ length setpoints.now) × ((16 ≤ length tags.now) × (16 ≤ length badges.now)) }
-    requires answer_most_in_bounds { at + answer_most ≤ length out.old }
+// The line that answers the line of a number. The servers count for a READ alone.
+pub fn print_answer(number: u64, word: Word, shown: &Servers, out: &mut [u8], at: usize) -> usize
+    requires { at + answer_most ≤ length out.old }
     ensures { Printed out.old at
-        (answer_text number word mask setpoints.now tags.now badges.now) result out.new
+        (answer_text number word shown.now.mask shown.now.setpoints.now shown.now.tags.now shown.now.badges.now) result out.new
         × (result ≤ at + answer_most) }
 {
     let behind = number_text::print_decimal(number, out, at);
-    let next = print_word(word, mask, setpoints, tags, badges, out, behind);
+    let next = print_word(word, shown, out, behind);
     number_text::put_byte(b'\n', out, next)
 }
 
-// The same where the answer shows no servers: mask and rows are not asked for.
+// The same where the answer shows no servers: none are asked for.
 pub fn print_plain_answer(number: u64, word: Word, out: &mut [u8], at: usize) -> usize
     requires { at + answer_most ≤ length out.old }
     ensures { Printed out.old at (plain_answer number word) result out.new × (result ≤ at + answer_most) }

@@ -10,6 +10,7 @@ ghost use Rattle.playing.specs.Played.{showing, played_line, shown_text, LinePla
 ghost use Rattle.playing.specs.Playable.{Playable};
 
 use playing::Shown;
+use printing::Servers;
 
 // One line of a schedule: the step that it names. The place that is lent for its setpoints holds them then.
 fn play_named(
@@ -56,12 +57,13 @@ fn print_shown(number: u64, shown: Shown, out: &mut [u8], at: usize) -> usize
     if !answer_text::shows_servers(word) {
         return answer_text::print_plain_answer(number, word, out, at);
     }
-    let setpoints = shown.setpoints;
-    let tags = shown.tags;
-    let badges = shown.badges;
-    answer_text::print_answer(
-        number, word, shown.mask, &setpoints, &tags, &badges, out, at,
-    )
+    let servers = Servers {
+        mask: shown.mask,
+        setpoints: &shown.setpoints,
+        tags: &shown.tags,
+        badges: &shown.badges,
+    };
+    answer_text::print_answer(number, word, &servers, out, at)
 }
 
 // One line of a schedule: its step, and its answer behind what is printed so far. It answers where the print ends then. The place that is

@@ -13,10 +13,8 @@ pub fn print_numbers(numbers: &[u32], out: &mut [u8], at: usize) -> usize
     ensures { Printed out.old at (spaced_all numbers.now) result out.new × (result ≤ at + marked_most * length numbers.now) }
 {
     let mut next = at;
-    let mut i = 0;
-    while i < numbers.len() {
-        next = number_text::print_spaced(numbers[i], out, next);
-        i += 1;
+    for number in numbers {
+        next = number_text::print_spaced(*number, out, next);
     }
     next
 }

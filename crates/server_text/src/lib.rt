@@ -6,6 +6,8 @@ ghost use Rattle.printing.specs.Texts.{server_text, masked_text, servers_below};
 ghost use Rattle.printing.specs.Printed.{Printed};
 ghost use Rattle.printing.specs.Sizes.{server_most, shown_most};
 
+use printing::Servers;
+
 // A server with its setpoint, and with tag and badge of the WRITE that it comes from.
 fn print_server(
     server: u32,
@@ -26,27 +28,19 @@ fn print_server(
 }
 
 // A server with its setpoint, tag and badge, where the mask has it.
-fn print_masked(
-    mask: u32,
-    setpoints: &[u32],
-    tags: &[u32],
-    badges: &[u32],
-    server: usize,
-    out: &mut [u8],
-    at: usize,
-) -> usize
-    requires server_bound { (server < 16) × ((server < length setpoints.now) × ((server < length tags.now) × (server < length badges.now))) }
+fn print_masked(shown: &Servers, server: usize, out: &mut [u8], at: usize) -> usize
+    requires server_bound { server < 16 }
     requires server_most_in_bounds { at + server_most ≤ length out.old }
     ensures { Printed out.old at
-        (masked_text mask setpoints.now tags.now badges.now server) result out.new
+        (masked_text shown.now.mask shown.now.setpoints.now shown.now.tags.now shown.now.badges.now server) result out.new
         × (result ≤ at + server_most) }
 {
-    if keys::has_server(mask, server) {
+    if keys::has_server(shown.mask, server) {
         return print_server(
             server as u32,
-            setpoints[server],
-            tags[server],
-            badges[server],
+            shown.setpoints[server],
+            shown.tags[server],
+            shown.badges[server],
             out,
             at,
         );
@@ -55,25 +49,15 @@ fn print_masked(
 }
 
 // The servers of a mask, rising, each with its setpoint, tag and badge.
-pub fn print_servers(
-    mask: u32,
-    setpoints: &[u32],
-    tags: &[u32],
-    badges: &[u32],
-    out: &mut [u8],
-    at: usize,
-) -> usize
-    requires in_bounds { (16 ≤ length setpoints.now) × ((16 ≤ length tags.now) × (16 ≤ length badges.now)) }
-    requires shown_most_in_bounds { at + shown_most ≤ length out.old }
+pub fn print_servers(shown: &Servers, out: &mut [u8], at: usize) -> usize
+    requires { at + shown_most ≤ length out.old }
     ensures { Printed out.old at
-        (servers_below mask setpoints.now tags.now badges.now 16) result out.new
+        (servers_below shown.now.mask shown.now.setpoints.now shown.now.tags.now shown.now.badges.now 16) result out.new
         × (result ≤ at + shown_most) }
 {
     let mut next = at;
-    let mut server = 0;
-    while server < 16 {
-        next = print_masked(mask, setpoints, tags, badges, server, out, next);
-        server += 1;
+    for server in 0..16 {
+        next = print_masked(shown, server, out, next);
     }
     next
 }

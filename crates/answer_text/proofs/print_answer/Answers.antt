@@ -1,6 +1,5 @@
 -- Three texts, one behind the other: a number of at most 20 digits, the answer, and byte 10.
-use mathlib.Core.List.{[], ◌∷◌, ◌++◌}
-use native.Mathlib.Omega.{arith}
+use Rattle.std.proofs.Common.{[], ◌∷◌, ◌++◌, arith}
 use Rattle.schedule.specs.Decimal.{decimal}
 use Rattle.schedule.specs.DecimalLaws.{decimal_short}
 use Rattle.printing.specs.Texts.{word_text}
@@ -23,8 +22,9 @@ put_byte-requires c =
 pub returns : goal.returns
 returns c =
     let a = c.args in
+    let s = a.shown.now in
     let out = a.out.now in
-    let text = word_text a.word a.mask a.setpoints.now a.tags.now a.badges.now in
+    let text = word_text a.word s.mask s.setpoints.now s.tags.now s.badges.now in
     let short = decimal_short a.number c.ranges.number.fits in
     let both = printed_then out (decimal a.number) text a.at (omega arith) c.print_decimal-behind.ensures c.print_word-next.ensures.0 in (
       printed_then out (decimal a.number ++ text) (10 ∷ []) a.at (omega arith) both c.put_byte.ensures,

@@ -1,6 +1,5 @@
 -- Three texts, one behind the other: a number of at most 20 digits, the answer without servers, and byte 10.
-use mathlib.Core.List.{[], ◌∷◌, ◌++◌}
-use native.Mathlib.Omega.{arith}
+use Rattle.std.proofs.Common.{[], ◌∷◌, ◌++◌, arith}
 use Rattle.schedule.specs.Decimal.{decimal}
 use Rattle.schedule.specs.DecimalLaws.{decimal_short}
 use Rattle.printing.specs.Plain.{plain_text}

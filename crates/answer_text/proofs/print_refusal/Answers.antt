@@ -1,6 +1,5 @@
 -- A text behind a text.
-use mathlib.Core.List.{[], ◌∷◌, ◌++◌}
-use native.Mathlib.Omega.{arith}
+use Rattle.std.proofs.Common.{[], ◌∷◌, ◌++◌, arith}
 use Rattle.printing.specs.Texts.{spaced}
 use Rattle.printing.specs.PrintedLaws.{printed_then}
 use Rattle.answer_text.proofs.print_refusal.Goals as goal

@@ -1,5 +1,5 @@
 -- A text behind a text.
-use native.Mathlib.Omega.{arith}
+use Rattle.std.proofs.Common.{arith}
 use Rattle.printing.specs.Texts.{spaced}
 use Rattle.printing.specs.PrintedLaws.{printed_then}
 use Rattle.answer_text.proofs.print_tagged.Goals as goal

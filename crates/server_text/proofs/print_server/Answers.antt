@@ -1,26 +1,9 @@
 -- Four texts, one behind the other: at most 3, 11, 11 and 11 bytes.
-use mathlib.Core.List.{◌++◌}
-use native.Mathlib.Omega.{arith}
+use Rattle.std.proofs.Common.{◌++◌, arith}
 use Rattle.schedule.specs.DecimalLaws.{two_short}
 use Rattle.printing.specs.Texts.{marked, spaced}
 use Rattle.printing.specs.PrintedLaws.{printed_then}
 use Rattle.server_text.proofs.print_server.Goals as goal
-
-pub print_marked-next-requires : goal.print_marked-next-requires
-print_marked-next-requires c =
-    let two = two_short c.args.server (omega arith) in
-    omega (arith, c.print_spaced-behind.ensures.0.end, c.print_spaced-behind.auto.out)
-
-pub print_marked-last-requires : goal.print_marked-last-requires
-print_marked-last-requires c =
-    let two = two_short c.args.server (omega arith) in
-    omega (
-      arith,
-      c.print_spaced-behind.ensures.0.end,
-      c.print_spaced-behind.auto.out,
-      c.print_marked-next.ensures.1,
-      c.print_marked-next.auto.out,
-    )
 
 pub print_marked-requires : goal.print_marked-requires
 print_marked-requires c =
