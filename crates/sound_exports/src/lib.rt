@@ -10,8 +10,6 @@ ghost use Rattle.soundness.specs.Facts.{Sound};
 ghost use Rattle.refusals.specs.Steps.{begin_write, begin_read, deliver_request, deliver_reply, lose, resend};
 ghost use Rattle.step_numbers.specs.Numbers.{numbered, in_numbers, crossed, in_crossing};
 
-use reply_parts::Outcome;
-use rules::Answer;
 use step_numbers::Crossing;
 
 // Begins a WRITE on tables known to be sound.
@@ -39,10 +37,9 @@ pub extern "C" fn store_begin_write_unchecked(
         values.now log.now
         writes.old reads.now)) }
 {
-    let answer: Answer = sound_steps::begin_write_sound(
+    step_numbers::answer_number(sound_steps::begin_write_sound(
         counts, clients, links, keys, values, log, writes, reads, client, mask, badge, setpoints,
-    );
-    step_numbers::answer_number(answer)
+    ))
 }
 
 // Begins a READ on tables known to be sound.
@@ -68,10 +65,9 @@ pub extern "C" fn store_begin_read_unchecked(
         values.now log.now
         writes.now reads.old)) }
 {
-    let answer: Answer = sound_steps::begin_read_sound(
+    step_numbers::answer_number(sound_steps::begin_read_sound(
         counts, clients, links, keys, values, log, writes, reads, client, mask,
-    );
-    step_numbers::answer_number(answer)
+    ))
 }
 
 // Delivers a request on tables known to be sound.
@@ -97,10 +93,9 @@ pub extern "C" fn store_deliver_request_unchecked(
         values.old log.old
         writes.old reads.now)) }
 {
-    let answer: Answer = sound_steps::deliver_request_sound(
+    step_numbers::answer_number(sound_steps::deliver_request_sound(
         counts, clients, links, keys, values, log, writes, reads, client, target,
-    );
-    step_numbers::answer_number(answer)
+    ))
 }
 
 // Delivers a reply on tables known to be sound.
@@ -127,14 +122,14 @@ pub extern "C" fn store_deliver_reply_unchecked(
         writes.old reads.old)) }
 {
     let mut tags = [0u32; 16];
-    let outcome: Outcome = sound_steps::take_reply(
+    let outcome = sound_steps::take_reply(
         counts, clients, links, keys, values, log, writes, reads, client, target, &mut tags,
     );
-    if outcome.ended {
-        return crossings::shown(&*clients, client as usize, outcome, tags);
-    }
-    let arrival = outcome.arrival;
-    crossings::plain(arrival)
+    // The answer is made in two places: where two paths make one value, the compiler copies its rows.
+    let Some(mask) = outcome.shown else {
+        return crossings::plain(outcome.arrival);
+    };
+    crossings::shown(&*clients, client as usize, outcome.arrival, mask, tags)
 }
 
 // Loses what a link holds, on tables known to be sound.
@@ -159,10 +154,9 @@ pub extern "C" fn store_lose_unchecked(
         values.now log.now
         writes.now reads.now)) }
 {
-    let answer: Answer = sound_steps::lose_sound(
+    step_numbers::answer_number(sound_steps::lose_sound(
         counts, clients, links, keys, values, log, writes, reads, client, target,
-    );
-    step_numbers::answer_number(answer)
+    ))
 }
 
 // Sends again what was lost on a link, on tables known to be sound.
@@ -187,8 +181,7 @@ pub extern "C" fn store_resend_unchecked(
         values.now log.now
         writes.now reads.now)) }
 {
-    let answer: Answer = sound_steps::resend_sound(
+    step_numbers::answer_number(sound_steps::resend_sound(
         counts, clients, links, keys, values, log, writes, reads, client, target,
-    );
-    step_numbers::answer_number(answer)
+    ))
 }
