@@ -1,5 +1,6 @@
 -- The steps on tables that are not sound, as the code meets them: number 2, with all as before.
-use Rattle.std.specs.Prelude.{ℕ, ◌≡◌, Bool, true, not, List}
+use Rattle.std.specs.Prelude.{ℕ, ◌≡◌, Bool, false, List}
+use Rattle.std.proofs.Common.{sym, ◌∙◌}
 use Rattle.tables.specs.Tables.{Tables}
 use Rattle.rules.specs.Answer.{Refused}
 use Rattle.rules.specs.declared.Arrival.TheVariants as arrival
@@ -9,9 +10,9 @@ use Rattle.soundness.specs.Sound.{sound}
 use Rattle.refusals.specs.Refusals.{write_refusal, read_refusal, delivery_refusal}
 use Rattle.refusals.specs.Steps.{begin_write, begin_read, deliver_request, deliver_reply, lose, resend}
 
-module _ (t : Tables) {b : Bool} (d : b ≡ sound t) (e : not b ≡ true) where
-  unsound : not (sound t) ≡ true
-  unsound = rw (← d) e
+module _ (t : Tables) {b : Bool} (d : b ≡ sound t) (e : b ≡ false) where
+  unsound : sound t ≡ false
+  unsound = sym d ∙ e
 
   pub unsound-write : (q mask badge : ℕ) (setpoints : List ℕ) → left (Refused 2) t ≡ begin_write q mask badge setpoints t
   unfolding begin_write write_refusal

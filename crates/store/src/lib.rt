@@ -1,13 +1,16 @@
-// The seven public steps, on any tables: refused by number with all as before, or accepted and changed as the rules say. Each judges the
+// The seven public steps, on any tables: refused by a cause with all as before, or accepted and changed as the rules say. Each judges the
 // tables first, number 2, and then takes the step of `sound_steps`; the opening there judges any tables by itself.
 #![tactic(auto)]
 
 ghost use Rattle.std.specs.Prelude.{◌≡◌};
 ghost use Rattle.tables.specs.Tables.{tables_of};
 ghost use Rattle.rules.specs.Answers.{left, arrived};
+ghost use Rattle.rules.specs.Results.{answer_by};
 ghost use Rattle.refusals.specs.Steps.{open', begin_write, begin_read, deliver_request, deliver_reply, lose, resend};
 
-use rules::{Answer, Arrival, Delivered};
+use causes::Refusal;
+use rules::{Arrival, Delivered};
+use tables::lent::Lent;
 
 // Opens the store: refused by 1 or 2. Old contents need not be sound. The number of clients is called panels here, since clients are their
 // rows.
@@ -24,8 +27,8 @@ pub fn open(
     servers: u32,
     panels: u32,
     setpoints: &[u32],
-) -> Answer
-    ensures { left result (tables_of counts.new clients.new links.new keys.new values.new
+) -> Result<(), Refusal>
+    ensures { left (answer_by result) (tables_of counts.new clients.new links.new keys.new values.new
         log.new writes.now reads.now)
         ≡ open' method servers panels setpoints.now (tables_of counts.old clients.old links.old
         keys.old values.old log.old writes.now reads.now) }
@@ -50,14 +53,22 @@ pub fn begin_write(
     mask: u32,
     badge: u16,
     setpoints: &[u32],
-) -> Answer
-    ensures { left result (tables_of counts.new clients.new links.new keys.now values.now log.now writes.new reads.now)
+) -> Result<(), Refusal>
+    ensures { left (answer_by result) (tables_of counts.new clients.new links.new keys.now values.now log.now writes.new reads.now)
         ≡ begin_write client mask badge setpoints.now (tables_of counts.old clients.old links.old keys.now values.now log.now writes.old reads.now) }
 {
-    if !sound_tables::sound(
-        &*counts, &*clients, &*links, keys, values, log, &*writes, reads,
-    ) {
-        return Answer::Refused(2);
+    let lent = Lent {
+        counts: &*counts,
+        clients: &*clients,
+        links: &*links,
+        keys,
+        values,
+        log,
+        writes: &*writes,
+        reads,
+    };
+    if !sound_tables::sound(&lent) {
+        return Err(Refusal::NotSound);
     }
     sound_steps::begin_write_sound(
         counts, clients, links, keys, values, log, writes, reads, client, mask, badge, setpoints,
@@ -76,14 +87,22 @@ pub fn begin_read(
     reads: &mut [u32],
     client: u32,
     mask: u32,
-) -> Answer
-    ensures { left result (tables_of counts.new clients.new links.new keys.now values.now log.now writes.now reads.new)
+) -> Result<(), Refusal>
+    ensures { left (answer_by result) (tables_of counts.new clients.new links.new keys.now values.now log.now writes.now reads.new)
         ≡ begin_read client mask (tables_of counts.old clients.old links.old keys.now values.now log.now writes.now reads.old) }
 {
-    if !sound_tables::sound(
-        &*counts, &*clients, &*links, keys, values, log, writes, &*reads,
-    ) {
-        return Answer::Refused(2);
+    let lent = Lent {
+        counts: &*counts,
+        clients: &*clients,
+        links: &*links,
+        keys,
+        values,
+        log,
+        writes,
+        reads: &*reads,
+    };
+    if !sound_tables::sound(&lent) {
+        return Err(Refusal::NotSound);
     }
     sound_steps::begin_read_sound(
         counts, clients, links, keys, values, log, writes, reads, client, mask,
@@ -102,14 +121,22 @@ pub fn deliver_request(
     reads: &[u32],
     client: u32,
     target: u32,
-) -> Answer
-    ensures { left result (tables_of counts.new clients.now links.new keys.new values.new log.new writes.new reads.now)
+) -> Result<(), Refusal>
+    ensures { left (answer_by result) (tables_of counts.new clients.now links.new keys.new values.new log.new writes.new reads.now)
         ≡ deliver_request client target (tables_of counts.old clients.now links.old keys.old values.old log.old writes.old reads.now) }
 {
-    if !sound_tables::sound(
-        &*counts, clients, &*links, &*keys, &*values, &*log, &*writes, reads,
-    ) {
-        return Answer::Refused(2);
+    let lent = Lent {
+        counts: &*counts,
+        clients,
+        links: &*links,
+        keys: &*keys,
+        values: &*values,
+        log: &*log,
+        writes: &*writes,
+        reads,
+    };
+    if !sound_tables::sound(&lent) {
+        return Err(Refusal::NotSound);
     }
     sound_steps::deliver_request_sound(
         counts, clients, links, keys, values, log, writes, reads, client, target,
@@ -132,10 +159,18 @@ pub fn deliver_reply(
     ensures { arrived result (tables_of counts.new clients.new links.new keys.now values.now log.now writes.new reads.new)
         ≡ deliver_reply client target (tables_of counts.old clients.old links.old keys.now values.now log.now writes.old reads.old) }
 {
-    if !sound_tables::sound(
-        &*counts, &*clients, &*links, keys, values, log, &*writes, &*reads,
-    ) {
-        return step_parts::showing_nothing(Arrival::Refused(2));
+    let lent = Lent {
+        counts: &*counts,
+        clients: &*clients,
+        links: &*links,
+        keys,
+        values,
+        log,
+        writes: &*writes,
+        reads: &*reads,
+    };
+    if !sound_tables::sound(&lent) {
+        return step_parts::showing_nothing(Arrival::Refused(Refusal::NotSound.number()));
     }
     sound_steps::deliver_reply_sound(
         counts, clients, links, keys, values, log, writes, reads, client, target,
@@ -154,16 +189,26 @@ pub fn lose(
     reads: &[u32],
     client: u32,
     target: u32,
-) -> Answer
-    ensures { left result (tables_of counts.new clients.now links.new keys.now
+) -> Result<(), Refusal>
+    ensures { left (answer_by result) (tables_of counts.new clients.now links.new keys.now
         values.now log.now
         writes.now reads.now)
         ≡ lose client target (tables_of counts.old clients.now links.old keys.now
         values.now log.now
         writes.now reads.now) }
 {
-    if !sound_tables::sound(&*counts, clients, &*links, keys, values, log, writes, reads) {
-        return Answer::Refused(2);
+    let lent = Lent {
+        counts: &*counts,
+        clients,
+        links: &*links,
+        keys,
+        values,
+        log,
+        writes,
+        reads,
+    };
+    if !sound_tables::sound(&lent) {
+        return Err(Refusal::NotSound);
     }
     sound_steps::lose_sound(
         counts, clients, links, keys, values, log, writes, reads, client, target,
@@ -182,16 +227,26 @@ pub fn resend(
     reads: &[u32],
     client: u32,
     target: u32,
-) -> Answer
-    ensures { left result (tables_of counts.new clients.now links.new keys.now
+) -> Result<(), Refusal>
+    ensures { left (answer_by result) (tables_of counts.new clients.now links.new keys.now
         values.now log.now
         writes.now reads.now)
         ≡ resend client target (tables_of counts.old clients.now links.old keys.now
         values.now log.now
         writes.now reads.now) }
 {
-    if !sound_tables::sound(&*counts, clients, &*links, keys, values, log, writes, reads) {
-        return Answer::Refused(2);
+    let lent = Lent {
+        counts: &*counts,
+        clients,
+        links: &*links,
+        keys,
+        values,
+        log,
+        writes,
+        reads,
+    };
+    if !sound_tables::sound(&lent) {
+        return Err(Refusal::NotSound);
     }
     sound_steps::resend_sound(
         counts, clients, links, keys, values, log, writes, reads, client, target,

@@ -1,40 +1,11 @@
 -- `store::lose` meets its contract: number 2, or the step on tables that were found sound.
-use mathlib.Core.Bool.{not}
-use mathlib.Core.Path.{ap}
 use mathlib.Core.Path.{sym, ◌∙◌}
-use borrow.Author.Tests.{not-false}
-use Rattle.tables.specs.Tables.{tables_of}
 use Rattle.soundness.specs.Facts.{sound_facts}
 use Rattle.store.specs.Unsound.{unsound_loss}
 use Rattle.store.proofs.lose.Goals as goal
 
 pub returns-then-not-sound : goal.returns-then-not-sound
-returns-then-not-sound c =
-    let a = c.args in
-    unsound_loss
-    (tables_of a.counts.now a.clients.now a.links.now a.keys.now a.values.now a.log.now a.writes.now
-    a.reads.now)
-    c.sound.ensures (ap not c.if-not-sound.true) a.client a.target
+returns-then-not-sound c = unsound_loss _ c.sound.ensures c.if-not-sound.true _ _
 
 pub lose_sound-requires : goal.lose_sound-requires
-lose_sound-requires c =
-    let a = c.args in
-    sound_facts
-    (tables_of a.counts.now a.clients.now a.links.now a.keys.now a.values.now a.log.now a.writes.now
-    a.reads.now)
-    (sym c.sound.ensures ∙ not-false _ (ap not c.if-not-sound.false))
-
-pub shape_of-counts-then-not-sound : goal.shape_of-counts-then-not-sound
-shape_of-counts-then-not-sound c = search
-
-pub shape_of-links-then-not-sound : goal.shape_of-links-then-not-sound
-shape_of-links-then-not-sound c = search
-
-pub shape_of-counts : goal.shape_of-counts
-shape_of-counts c = search
-
-pub shape_of-links : goal.shape_of-links
-shape_of-links c = search
-
-pub returns : goal.returns
-returns c = search
+lose_sound-requires c = sound_facts _ (sym c.sound.ensures ∙ c.if-not-sound.false)
