@@ -1,35 +1,25 @@
 -- The cases of C's choice, as the code meets them.
-use Rattle.std.specs.Prelude.{ℕ, ◌≤◌, ◌<◌, ◌≡◌, refl, Bool, true, false, List, get_or, replicate}
-use Rattle.std.proofs.Common.{arith, lt-ltb, le-ltb}
+use Rattle.std.specs.Prelude.{ℕ, ◌≡◌, refl, Bool, true, false, List, get_or, replicate}
+use Rattle.std.proofs.Common.{arith}
 use Rattle.std.proofs.lemmas.List.{get_or-replicate}
 use Rattle.tables.specs.Layout.{setpoints_field, badges_field, received_field, tag_field, put_client_word}
 use Rattle.tables.specs.Links.{targets}
 use Rattle.keys.specs.declared.Key.{Key}
 use Rattle.keys.specs.Masks.{has_server}
-use Rattle.server.specs.Held.{first_bearing}
 use Rattle.coordinator.specs.Latest.{latest_key}
 use Rattle.rules.specs.Words.{every, kept_words}
 use Rattle.rules.specs.WordsLaws.{kept_same, has-every}
-use Rattle.rules.specs.Choice.{serves, chosen_place}
+use Rattle.rules.specs.Choice.{holds_key, serves}
 use Rattle.rules.specs.Reply.{forgotten, concluded_row}
 use Rattle.choice.specs.Values.{HasWords}
 
--- The search for a server's version, as the code meets it: has is what was asked of the mask, n how many were received, key and place what
--- was looked for and found.
+-- A server whose version is looked for, as the code meets it: has is what was asked of the mask, key the key that was looked for.
 module _ (keys log : List ℕ) (mask : ℕ) (received : ℕ → ℕ) (t i : ℕ) {has : Bool} (m : has ≡ has_server mask i) where
   pub spared : has ≡ false → serves keys log mask received t i ≡ true
   spared e = rw (← m, e)
 
-  module _ {n place : ℕ} {key : Key}
-      (e : has ≡ true) (c : n ≡ received i) (k : key ≡ latest_key log i t) (p : place ≡ first_bearing keys i key n) where
-    pub place_is : place ≡ chosen_place keys log received t i
-    place_is = rw (p, k, c)
-
-    pub lacks : n ≤ place → serves keys log mask received t i ≡ false
-    lacks h = rw (← m, e) (le-ltb (chosen_place keys log received t i) (received i) (omega (arith, c, place_is, h)))
-
-    pub holds : place < n → serves keys log mask received t i ≡ true
-    holds h = rw (← m, e) (lt-ltb (chosen_place keys log received t i) (received i) (omega (arith, c, place_is, h)))
+  pub sought : {key : Key} → has ≡ true → key ≡ latest_key log i t → holds_key keys received key i ≡ serves keys log mask received t i
+  sought e k = rw (← m, e, k)
 
 -- a row of zeros kept for every target is the n forgotten
 pub none_kept : (q : ℕ) (clients : List ℕ) →

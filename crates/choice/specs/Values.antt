@@ -1,5 +1,5 @@
 -- What C takes of the masked servers at a tag, in rows of 16: what a row has for the other servers is free.
-use Rattle.std.specs.Prelude.{ℕ, ◌+◌, ◌≤◌, ◌<◌, ◌≡◌, true, false, List, length, get_or, set, replicate}
+use Rattle.std.specs.Prelude.{ℕ, ◌+◌, ◌≤◌, ◌<◌, ◌≡◌, true, false, List, length, get_or, set}
 use Rattle.std.proofs.Common.{ap, ◌∙◌, arith, length-set, get_or-set_same, get_or-set_other}
 use Rattle.ranges.specs.Tests.{by_equal, not-both}
 use Rattle.ranges.specs.All.{all_below}
@@ -12,12 +12,6 @@ use Rattle.rules.specs.Choice.{serves, chosen_place, chosen_setpoint, chosen_bad
 pub record HasWords (mask k : ℕ) (word : ℕ → ℕ) (row : List ℕ) : Type 0 where
   pub long : length row ≡ 16
   pub there : (i : ℕ) → i < k → has_server mask i ≡ true → get_or row i 0 ≡ word i
-
--- the rows of 16 words that are lent for the values at a tag; the one for the tags has zeros
-pub record Rows (setpoints badges tags : List ℕ) : Type 0 where
-  pub setpoint : length setpoints ≡ 16
-  pub badge : length badges ≡ 16
-  pub tag : tags ≡ replicate 16 0
 
 -- a loop that puts the word of one server after another: it has passed n of them
 module _ (mask : ℕ) (word : ℕ → ℕ) {row : List ℕ} where

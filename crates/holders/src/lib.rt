@@ -1,107 +1,88 @@
 // The table of holders: the versions received from all servers are gone over once, and then each key of the log is looked up in its slot.
 #![tactic(auto)]
 
-ghost use Rattle.std.specs.Prelude.{◌≡◌, ℕ, ◌≤◌, ◌<◌, length};
-ghost use Rattle.ranges.specs.Picked.{picked};
-ghost use Rattle.keys.specs.Masks.{has_server};
-ghost use Rattle.keys.specs.Bits.{add_server, gathered};
+ghost use Rattle.std.specs.Prelude.{◌≡◌, ℕ, ◌≤◌, ◌<◌, length, cond, Some, None};
+ghost use Rattle.keys.specs.Bits.{gathered};
+ghost use Rattle.server.specs.Held.{first_bearing};
 ghost use Rattle.rules.specs.Choice.{holds_key};
 ghost use Rattle.rules.specs.Reply.{received_in};
-ghost use Rattle.holder_slots.specs.Holders.{slots, mark_versions, mark_servers};
+ghost use Rattle.holder_slots.specs.Holders.{slots, mark_servers};
 ghost use Rattle.holders.specs.Ready.{Received};
 ghost use Rattle.holders.specs.Looked.{holders_of};
 
 use keys::Key;
 use tables::clients;
 
-// The versions received from a server, if the mask has it.
-fn mark_server(
-    holders: &mut [u16],
-    clients: &[u32],
-    keys: &[u32],
-    client: usize,
-    mask: u32,
-    server: usize,
-)
-    requires slots_in_bounds { slots ≤ length holders.old }
-    requires received { Received clients.now keys.now client server }
-    ensures { holders.new ≡ picked (has_server mask) (λ i. mark_versions keys.now i (received_in clients.now client i)) server holders.old }
-{
-    if keys::has_server(mask, server) {
-        let received = clients::client_word(clients, client, clients::RECEIVED + server) as usize;
-        holder_slots::mark_versions(holders, keys, server, received);
-    }
+// What a client received under C: the first versions of each server, as many as the client's row says.
+#[derive(Clone, Copy)]
+pub struct Receipts<'a> {
+    pub clients: &'a [u32],
+    pub keys: &'a [u32],
+    pub client: usize,
+    pub servers: usize,
+    pub ghost received: { (i : ℕ) → i < servers → Received clients.now keys.now client i },
 }
 
-// The versions received from all servers of a mask.
-pub fn mark_servers(
-    holders: &mut [u16],
-    clients: &[u32],
-    keys: &[u32],
-    client: usize,
-    mask: u32,
-    servers: usize,
-)
-    requires slots_in_bounds { slots ≤ length holders.old }
-    requires by_index { (i : ℕ) → i < servers → Received clients.now keys.now client i }
-    ensures { holders.new ≡ mark_servers keys.now mask (received_in clients.now client) servers holders.old }
-{
-    let mut server = 0;
-    while server < servers {
-        mark_server(holders, clients, keys, client, mask, server);
-        server += 1;
+impl<'a> Receipts<'a> {
+    // How many versions came from a server.
+    pub fn number_from(&self, server: usize) -> usize
+        requires { server < self.now.servers }
+        ensures { result ≡ received_in self.now.clients.now self.now.client server }
+    {
+        clients::client_word(self.clients, self.client, clients::RECEIVED + server) as usize
     }
-}
 
-// A mask with a server besides, if a key is among the versions received from it.
-fn with_holder(
-    clients: &[u32],
-    keys: &[u32],
-    client: usize,
-    server: usize,
-    key: Key,
-    found: u32,
-) -> u32
-    requires { Received clients.now keys.now client server }
-    ensures { result ≡ picked (holds_key keys.now (received_in clients.now client) key) add_server server found }
-{
-    let received = clients::client_word(clients, client, clients::RECEIVED + server) as usize;
-    if server::find(keys, server, received, key) < received {
-        return found | keys::one_server(server);
+    // The place of a key among the versions that came from a server.
+    pub fn place_of(&self, server: usize, key: Key) -> Option<usize>
+        requires { server < self.now.servers }
+        ensures { let received = received_in self.now.clients.now self.now.client in
+            result ≡ cond (holds_key self.now.keys.now received key server)
+            (Some (first_bearing self.now.keys.now server key (received server))) None }
+    {
+        let received = self.number_from(server);
+        let place = server::find(self.keys, server, received, key);
+        if place < received { Some(place) } else { None }
     }
-    found
-}
 
-// The holders of a key, each searched for.
-fn search_holders(clients: &[u32], keys: &[u32], client: usize, servers: usize, key: Key) -> u32
-    requires { (i : ℕ) → i < servers → Received clients.now keys.now client i }
-    ensures { result ≡ gathered (holds_key keys.now (received_in clients.now client) key) servers }
-{
-    let mut found = 0;
-    let mut server = 0;
-    while server < servers {
-        found = with_holder(clients, keys, client, server, key, found);
-        server += 1;
+    // The versions received from all servers of a mask are marked as held by them.
+    pub fn mark_servers(&self, holders: &mut [u16], mask: u32)
+        requires { slots ≤ length holders.old }
+        ensures { holders.new
+            ≡ mark_servers self.now.keys.now mask (received_in self.now.clients.now self.now.client) self.now.servers holders.old }
+    {
+        for server in 0..self.servers {
+            if keys::has_server(mask, server) {
+                holder_slots::mark_versions(holders, self.keys, server, self.number_from(server));
+            }
+        }
     }
-    found
-}
 
-// The holders of a key: its slot has them. A key that has no slot occurs in no sound tables.
-pub fn holders_of(
-    holders: &[u16],
-    clients: &[u32],
-    keys: &[u32],
-    client: usize,
-    servers: usize,
-    key: Key,
-) -> u32
-    requires slots_in_bounds { slots ≤ length holders.now }
-    requires by_index { (i : ℕ) → i < servers → Received clients.now keys.now client i }
-    ensures { result ≡ holders_of holders.now keys.now (received_in clients.now client) servers key }
-{
-    let word = key.word();
-    if holder_slots::is_tabled(word) {
-        return holders[holder_slots::slot_of(word)] as u32;
+    // The holders of a key, each searched for.
+    fn search_holders(&self, key: Key) -> u32
+        ensures { result
+            ≡ gathered (holds_key self.now.keys.now (received_in self.now.clients.now self.now.client) key) self.now.servers }
+    {
+        let mut found = 0;
+        for server in 0..self.servers {
+            if self.place_of(server, key).is_some() {
+                found |= keys::one_server(server);
+            }
+        }
+        found
     }
-    search_holders(clients, keys, client, servers, key)
+
+    // The holders of a key: its slot has them. A key that has no slot occurs in no sound tables.
+    #[tactic(auto, unfolding(crate::specs::Looked::holders_of))]
+    pub fn holders_of(&self, holders: &[u16], key: Key) -> u32
+        requires { slots ≤ length holders.now }
+        ensures { result
+            ≡ holders_of holders.now self.now.keys.now (received_in self.now.clients.now self.now.client) self.now.servers key }
+    {
+        let word = key.word();
+        if holder_slots::is_tabled(word) {
+            holders[holder_slots::slot_of(word)] as u32
+        } else {
+            self.search_holders(key)
+        }
+    }
 }

@@ -1,10 +1,10 @@
 -- The walk up the log: which of the wanted servers lack their key at the tag come to, as a mask. At each tag only the servers that its entry wrote change.
-use Rattle.std.specs.Prelude.{ℕ, ◌+◌, ◌-◌, ◌^◌, ◌%◌, ◌≤◌, ◌<◌, ◌≡◌, refl, Bool, true, false, cond, not, ◌&&◌, ◌||◌, List, eqb, ltb}
-use Rattle.std.proofs.Common.{sym, ap, ◌∙◌, arith, eqb-true, ltb-true, ltb-false}
+use Rattle.std.specs.Prelude.{ℕ, ◌+◌, ◌-◌, ◌^◌, ◌%◌, ◌<◌, ◌≡◌, refl, Bool, true, false, not, ◌&&◌, ◌||◌, List, ltb}
+use Rattle.std.proofs.Common.{sym, ap, ◌∙◌, arith, ltb-true, ltb-false}
 use Rattle.std.proofs.Math.Bool.{or-true, or-false, and-true}
 use Rattle.std.specs.Int.Bits.{bit_and, bit_or}
-use Rattle.std.proofs.lemmas.Bool.{eqb-false, not-true, not-false}
-use Rattle.ranges.specs.Tests.{by_equal, by-test, not-both, both_left, both_right}
+use Rattle.std.proofs.lemmas.Bool.{not-true, not-false}
+use Rattle.ranges.specs.Tests.{by-test, not-both, both_left, both_right}
 use Rattle.ranges.specs.AllLaws.{all_of, all-not, all_same}
 use Rattle.ranges.specs.Last.{last_below}
 use Rattle.ranges.specs.LastLaws.{last-here, last-before, last-below, last_passes, last-same}
@@ -71,14 +71,14 @@ module _ (keys log : List ℕ) (received : ℕ → ℕ) (wanted k : ℕ) (few : 
         (f i) (λ e b. key-written keys log received i t b ∙ sym (held_at (t + 1) i e)) (key-kept keys log received i t)))
 
   -- where no server lacks its key the tag qualifies, and else not
-  none_lacking : (t l : ℕ) → Lacking keys log received wanted t l → l ≡ 0 → q t ≡ true
+  pub none_lacking : (t l : ℕ) → Lacking keys log received wanted t l → l ≡ 0 → q t ≡ true
   none_lacking t l f z =
       all_of (serves keys log wanted received t) k
       (λ i h. by-test (has_server wanted i)
       (λ e. rw e (not-false _ (sym (rw (z, no_bit i, e) at (f i)))))
       (λ e. rw e))
 
-  some_lacking : (t l : ℕ) → Lacking keys log received wanted t l → l < 2 ^ 32 → (l ≡ 0 → ⊥) → q t ≡ false
+  pub some_lacking : (t l : ℕ) → Lacking keys log received wanted t l → l < 2 ^ 32 → (l ≡ 0 → ⊥) → q t ≡ false
   some_lacking t l f b n =
       let s = some-server l 32 (record { some = omega arith; below = b }) in
       let e : (has_server wanted s.0 && not (has_version keys log received t s.0)) ≡ true = sym (f s.0) ∙ s.2 in
@@ -87,13 +87,6 @@ module _ (keys log : List ℕ) (received : ℕ → ℕ) (wanted k : ℕ) (few : 
 
   pub walk_begins : 0 ≡ last_below q (0 + 1)
   walk_begins = let l : last_below q 1 < 1 = last-below q 1 (omega arith) in omega arith
-
-  pub walk-next : (t l : ℕ) {chosen r : ℕ} → Lacking keys log received wanted (t + 1) l → l < 2 ^ 32 → chosen ≡ last_below q (t + 1) →
-      r ≡ cond (eqb l 0) (t + 1) chosen → r ≡ last_below q (t + 1 + 1)
-  walk-next t l {chosen} {r} f b c d =
-      by-test (eqb l 0)
-      (λ e. d ∙ rw e (sym (last-here q (t + 1) (none_lacking (t + 1) l f (eqb-true l 0 e)))))
-      (λ e. d ∙ rw e (c ∙ sym (last-before q (t + 1) (some_lacking (t + 1) l f b (eqb-false l 0 e)))))
 
 -- the first k servers of a mask are all that its choice asks for
 module _ (keys log : List ℕ) (mask : ℕ) (received : ℕ → ℕ) (k : ℕ) {wanted : ℕ} (first : wanted ≡ mask % 2 ^ k) where
@@ -105,38 +98,16 @@ module _ (keys log : List ℕ) (mask : ℕ) (received : ℕ → ℕ) (k : ℕ) {
       last-same (qualifies keys log wanted received k) (qualifies keys log mask received k) n
       (λ t l. all_same (serves keys log wanted received t) (serves keys log mask received t) k (λ i h. rw (first, first_bit mask k i h)))
 
--- The tag whose values are tried: the newest, or the one that the walk chose. It is the greatest where it qualifies, and else behind that.
-pub record Tried (keys log : List ℕ) (mask : ℕ) (received : ℕ → ℕ) (k n tag : ℕ) : Type 0 where
-  pub below : tag < n
-  pub greatest : qualifies keys log mask received k tag ≡ true → tag ≡ chosen_tag keys log mask received k n
-  pub falls : qualifies keys log mask received k tag ≡ false → chosen_tag keys log mask received k n < tag
-
-module _ (keys log : List ℕ) (mask : ℕ) (received : ℕ → ℕ) (k n : ℕ)
-    (some : 0 < n) (opening : qualifies keys log mask received k 0 ≡ true) where
+module _ (keys log : List ℕ) (mask : ℕ) (received : ℕ → ℕ) (k n : ℕ) (some : 0 < n) where
+  -- the tag chosen is one of an entry, and it qualifies, since the opening's tag does
   pub chosen-below : chosen_tag keys log mask received k n < n
   chosen-below = last-below (qualifies keys log mask received k) n some
 
-  -- it qualifies, since the opening's tag does
-  chosen-serves : qualifies keys log mask received k (chosen_tag keys log mask received k n) ≡ true
-  chosen-serves = last_passes (qualifies keys log mask received k) n 0 some opening
+  pub chosen-serves : qualifies keys log mask received k 0 ≡ true → qualifies keys log mask received k (chosen_tag keys log mask received k n) ≡ true
+  chosen-serves opening = last_passes (qualifies keys log mask received k) n 0 some opening
 
-  pub tried_newest : Tried keys log mask received k n (n - 1)
-  tried_newest =
+  -- the newest tag is the greatest where it qualifies
+  pub newest_chosen : qualifies keys log mask received k (n - 1) ≡ true → n - 1 ≡ chosen_tag keys log mask received k n
+  newest_chosen e =
       let z : n - 1 + 1 ≡ n = omega arith in
-      record {
-        below = omega arith;
-        greatest = λ e.
-            sym (ap (last_below (qualifies keys log mask received k)) (sym z) ∙ last-here (qualifies keys log mask received k) (n - 1) e);
-        falls = λ e.
-            by_equal (chosen_tag keys log mask received k n) (n - 1)
-            (λ d. absurd (not-both (rw d at chosen-serves) e))
-            (λ d. omega (arith, chosen-below));
-      }
-
-  pub tried-chosen : {tag : ℕ} → tag ≡ chosen_tag keys log mask received k n → Tried keys log mask received k n tag
-  tried-chosen e =
-      record {
-        below = rw e chosen-below;
-        greatest = λ d. e;
-        falls = λ d. absurd (not-both chosen-serves (rw e at d));
-      }
+      sym (ap (last_below (qualifies keys log mask received k)) (sym z) ∙ last-here (qualifies keys log mask received k) (n - 1) e)

@@ -1,140 +1,87 @@
 // The greatest tag that qualifies: a walk up the log, over the table of holders.
 #![tactic(auto)]
 
-ghost use Rattle.std.specs.Prelude.{◌≡◌, ℕ, ◌+◌, ◌*◌, ◌≤◌, ◌<◌, eqb, length, true, cond};
+ghost use Rattle.std.specs.Prelude.{◌≡◌, ℕ, ◌*◌, ◌≤◌, ◌<◌, length, true};
 ghost use Rattle.keys.specs.Masks.{has_server};
-ghost use Rattle.keys.specs.Bits.{without};
 ghost use Rattle.tables.specs.Rows.{HasRow};
 ghost use Rattle.tables.specs.Layout.{entry_width, entry_key, entry_mask};
 ghost use Rattle.rules.specs.Choice.{chosen_tag};
 ghost use Rattle.rules.specs.Reply.{received_in};
-ghost use Rattle.holders.specs.Ready.{Received};
-ghost use Rattle.holder_slots.specs.Holders.{slots, Marked};
+ghost use Rattle.holder_slots.specs.Holders.{Marked};
 ghost use Rattle.holders.specs.Looked.{holders_of};
 ghost use Rattle.qualifying_tag.specs.Walk.{lacking_after};
 
 use holder_slots::SLOTS;
+use holders::Receipts;
 use tables::log;
 
-// Of the wanted servers, those that lack their key at a tag, from those at the tag before it: one that the entry wrote has the entry's key there,
-// and lacks it unless it holds it; any other lacks its key as before.
-fn lacking_after(lacking: u32, wanted: u32, written: u32, holding: u32) -> u32
-    ensures { result ≡ lacking_after lacking wanted written holding }
-{
-    let touched = wanted & written;
-    keys::without(lacking | touched, touched & holding)
-}
-
-// The same, of the entry at the tag.
-fn lacking_at(
-    holders: &[u16],
-    clients: &[u32],
-    keys: &[u32],
-    log: &[u32],
-    client: usize,
+// What a walk up the log goes by: the table of holders, marked for the wanted servers, of which there are no others.
+#[derive(Clone, Copy)]
+struct Walk<'a> {
+    receipts: Receipts<'a>,
+    holders: &'a [u16],
+    log: &'a [u32],
     wanted: u32,
-    servers: usize,
-    tag: usize,
-    lacking: u32,
-) -> u32
-    requires slots_in_bounds { slots ≤ length holders.now }
-    requires by_index { (i : ℕ) → i < servers → Received clients.now keys.now client i }
-    requires has_row { HasRow entry_width log.now tag }
-    ensures { result ≡ lacking_after lacking wanted (entry_mask log.now tag)
-        (holders_of holders.now keys.now (received_in clients.now client) servers (entry_key log.now tag)) }
-{
-    let key = log::entry_key(log, tag);
-    let holding = holders::holders_of(holders, clients, keys, client, servers, key);
-    lacking_after(lacking, wanted, log::entry_mask(log, tag), holding)
+    ghost marked: { Marked receipts.keys.now wanted (received_in receipts.clients.now receipts.client) holders.now },
+    ghost few: { (i : ℕ) → has_server wanted i ≡ true → i < receipts.servers },
 }
 
-// At the first tag every server has the first entry's key, whatever its mask.
-fn lacking_first(
-    holders: &[u16],
-    clients: &[u32],
-    keys: &[u32],
-    log: &[u32],
-    client: usize,
-    wanted: u32,
-    servers: usize,
-) -> u32
-    requires slots_in_bounds { slots ≤ length holders.now }
-    requires by_index { (i : ℕ) → i < servers → Received clients.now keys.now client i }
-    requires has_row { HasRow entry_width log.now 0 }
-    ensures { result ≡ without wanted
-        (holders_of holders.now keys.now (received_in clients.now client) servers (entry_key log.now 0)) }
-{
-    let key = log::entry_key(log, 0);
-    keys::without(
-        wanted,
-        holders::holders_of(holders, clients, keys, client, servers, key),
-    )
-}
-
-// The tag just come to, if no server lacks its key there, else the one chosen before.
-fn chosen_at(tag: usize, lacking: u32, chosen: usize) -> usize
-    ensures { result ≡ cond (eqb lacking 0) tag chosen }
-{
-    if lacking == 0 {
-        return tag;
+impl<'a> Walk<'a> {
+    // The holders of the key of the entry at a tag.
+    fn holding(&self, tag: usize) -> u32
+        requires { HasRow entry_width self.now.log.now tag }
+        ensures { let r = self.now.receipts in
+            result ≡ holders_of self.now.holders.now r.keys.now (received_in r.clients.now r.client) r.servers (entry_key self.now.log.now tag) }
+    {
+        self.receipts
+            .holders_of(self.holders, log::entry_key(self.log, tag))
     }
-    chosen
-}
 
-// A walk up the log keeps which servers lack their key, and the last tag at which none did.
-fn walk(
-    holders: &[u16],
-    clients: &[u32],
-    keys: &[u32],
-    log: &[u32],
-    client: usize,
-    wanted: u32,
-    servers: usize,
-    entries: usize,
-) -> usize
-    requires marked { Marked keys.now wanted (received_in clients.now client) holders.now }
-    requires by_index { ((i : ℕ) → i < servers → Received clients.now keys.now client i) × ((i : ℕ) → has_server wanted i ≡ true → i < servers) }
-    requires entries_nonzero { (0 < entries) × (entry_width * entries ≤ length log.now) }
-    ensures { result ≡ chosen_tag keys.now log.now wanted (received_in clients.now client) servers entries }
-{
-    let mut lacking = lacking_first(holders, clients, keys, log, client, wanted, servers);
-    let mut chosen = 0;
-    let mut tag = 0;
-    while tag + 1 < entries {
-        lacking = lacking_at(
-            holders,
-            clients,
-            keys,
-            log,
-            client,
-            wanted,
-            servers,
-            tag + 1,
-            lacking,
-        );
-        chosen = chosen_at(tag + 1, lacking, chosen);
-        tag += 1;
+    // Of the wanted servers, those that lack their key at a tag, from those at the tag before it: one that the entry wrote has the entry's
+    // key there, and lacks it unless it holds it; any other lacks its key as before.
+    fn lacking_at(&self, tag: usize, lacking: u32) -> u32
+        requires { HasRow entry_width self.now.log.now tag }
+        ensures { let r = self.now.receipts in
+            result ≡ lacking_after lacking self.now.wanted (entry_mask self.now.log.now tag)
+            (holders_of self.now.holders.now r.keys.now (received_in r.clients.now r.client) r.servers (entry_key self.now.log.now tag)) }
+    {
+        let touched = self.wanted & log::entry_mask(self.log, tag);
+        keys::without(lacking | touched, touched & self.holding(tag))
     }
-    chosen
+
+    // The walk keeps which servers lack their key, and the last tag at which none did. At the first tag every server has the first entry's
+    // key, whatever its mask.
+    fn greatest(&self, entries: usize) -> usize
+        requires { (0 < entries) × (entry_width * entries ≤ length self.now.log.now) }
+        ensures { let r = self.now.receipts in
+            result ≡ chosen_tag r.keys.now self.now.log.now self.now.wanted (received_in r.clients.now r.client) r.servers entries }
+    {
+        let mut lacking = keys::without(self.wanted, self.holding(0));
+        let mut chosen = 0;
+        for tag in 1..entries {
+            lacking = self.lacking_at(tag, lacking);
+            if lacking == 0 {
+                chosen = tag;
+            }
+        }
+        chosen
+    }
 }
 
 // The greatest tag that qualifies, of the servers of a mask that has no others: the versions received are gone over once, and then the log.
-pub fn greatest_tag(
-    clients: &[u32],
-    keys: &[u32],
-    log: &[u32],
-    client: usize,
-    wanted: u32,
-    servers: usize,
-    entries: usize,
-) -> usize
-    requires by_index { ((i : ℕ) → i < servers → Received clients.now keys.now client i) × ((i : ℕ) → has_server wanted i ≡ true → i < servers) }
+pub fn greatest_tag(receipts: &Receipts, log: &[u32], wanted: u32, entries: usize) -> usize
+    requires few { (i : ℕ) → has_server wanted i ≡ true → i < receipts.now.servers }
     requires entries_nonzero { (0 < entries) × (entry_width * entries ≤ length log.now) }
-    ensures { result ≡ chosen_tag keys.now log.now wanted (received_in clients.now client) servers entries }
+    ensures { let r = receipts.now in
+        result ≡ chosen_tag r.keys.now log.now wanted (received_in r.clients.now r.client) r.servers entries }
 {
     let mut holders = [0; SLOTS];
-    holders::mark_servers(&mut holders, clients, keys, client, wanted, servers);
-    walk(
-        &holders, clients, keys, log, client, wanted, servers, entries,
-    )
+    receipts.mark_servers(&mut holders, wanted);
+    let walk = Walk {
+        receipts: *receipts,
+        holders: &holders,
+        log,
+        wanted,
+    };
+    walk.greatest(entries)
 }
