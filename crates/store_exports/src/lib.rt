@@ -8,8 +8,8 @@ ghost use Rattle.soundness.specs.Sound.{sound};
 ghost use Rattle.refusals.specs.Steps.{open', begin_write, begin_read, deliver_request, deliver_reply, lose, resend};
 ghost use Rattle.step_numbers.specs.Numbers.{numbered, in_numbers, crossed, in_crossing};
 
-use rules::{Answer, Delivered};
 use step_numbers::Crossing;
+use tables::lent::Lent;
 
 // Whether the tables are sound.
 #[unsafe(no_mangle)]
@@ -25,7 +25,16 @@ pub extern "C" fn store_sound(
 ) -> bool
     ensures { result ≡ sound (tables_of counts.now clients.now links.now keys.now values.now log.now writes.now reads.now) }
 {
-    sound_tables::sound(counts, clients, links, keys, values, log, writes, reads)
+    sound_tables::sound(&Lent {
+        counts,
+        clients,
+        links,
+        keys,
+        values,
+        log,
+        writes,
+        reads,
+    })
 }
 
 // Opens the store.
@@ -47,11 +56,10 @@ pub extern "C" fn store_open(
     ensures { numbered result (tables_of counts.new clients.new links.new keys.new values.new log.new writes.now reads.now)
         ≡ in_numbers (open' method servers panels setpoints.now (tables_of counts.old clients.old links.old keys.old values.old log.old writes.now reads.now)) }
 {
-    let answer: Answer = store::open(
+    step_numbers::answer_number(store::open(
         counts, clients, links, keys, values, log, writes, reads, method, servers, panels,
         setpoints,
-    );
-    step_numbers::answer_number(answer)
+    ))
 }
 
 // Begins a WRITE.
@@ -73,10 +81,9 @@ pub extern "C" fn store_begin_write(
     ensures { numbered result (tables_of counts.new clients.new links.new keys.now values.now log.now writes.new reads.now)
         ≡ in_numbers (begin_write client mask badge setpoints.now (tables_of counts.old clients.old links.old keys.now values.now log.now writes.old reads.now)) }
 {
-    let answer: Answer = store::begin_write(
+    step_numbers::answer_number(store::begin_write(
         counts, clients, links, keys, values, log, writes, reads, client, mask, badge, setpoints,
-    );
-    step_numbers::answer_number(answer)
+    ))
 }
 
 // Begins a READ.
@@ -96,10 +103,9 @@ pub extern "C" fn store_begin_read(
     ensures { numbered result (tables_of counts.new clients.new links.new keys.now values.now log.now writes.now reads.new)
         ≡ in_numbers (begin_read client mask (tables_of counts.old clients.old links.old keys.now values.now log.now writes.now reads.old)) }
 {
-    let answer: Answer = store::begin_read(
+    step_numbers::answer_number(store::begin_read(
         counts, clients, links, keys, values, log, writes, reads, client, mask,
-    );
-    step_numbers::answer_number(answer)
+    ))
 }
 
 // Delivers a request.
@@ -119,10 +125,9 @@ pub extern "C" fn store_deliver_request(
     ensures { numbered result (tables_of counts.new clients.now links.new keys.new values.new log.new writes.new reads.now)
         ≡ in_numbers (deliver_request client target (tables_of counts.old clients.now links.old keys.old values.old log.old writes.old reads.now)) }
 {
-    let answer: Answer = store::deliver_request(
+    step_numbers::answer_number(store::deliver_request(
         counts, clients, links, keys, values, log, writes, reads, client, target,
-    );
-    step_numbers::answer_number(answer)
+    ))
 }
 
 // Delivers a reply.
@@ -142,10 +147,9 @@ pub extern "C" fn store_deliver_reply(
     ensures { crossed result (tables_of counts.new clients.new links.new keys.now values.now log.now writes.new reads.new)
         ≡ in_crossing (deliver_reply client target (tables_of counts.old clients.old links.old keys.now values.now log.now writes.old reads.old)) }
 {
-    let delivered: Delivered = store::deliver_reply(
+    step_numbers::to_cross(store::deliver_reply(
         counts, clients, links, keys, values, log, writes, reads, client, target,
-    );
-    step_numbers::to_cross(delivered)
+    ))
 }
 
 // Loses what a link holds.
@@ -169,10 +173,9 @@ pub extern "C" fn store_lose(
         values.now log.now
         writes.now reads.now)) }
 {
-    let answer: Answer = store::lose(
+    step_numbers::answer_number(store::lose(
         counts, clients, links, keys, values, log, writes, reads, client, target,
-    );
-    step_numbers::answer_number(answer)
+    ))
 }
 
 // Sends again what was lost on a link.
@@ -196,8 +199,7 @@ pub extern "C" fn store_resend(
         values.now log.now
         writes.now reads.now)) }
 {
-    let answer: Answer = store::resend(
+    step_numbers::answer_number(store::resend(
         counts, clients, links, keys, values, log, writes, reads, client, target,
-    );
-    step_numbers::answer_number(answer)
+    ))
 }
