@@ -2,12 +2,13 @@
 // An opening is judged by its numbers (`openings`) and asks for no sound tables.
 #![tactic(auto)]
 
-ghost use Rattle.std.specs.Prelude.{◌≡◌, List, ◌&&◌, ℕ, ◌≤◌, ◌<◌, length, eqb};
+ghost use Rattle.std.specs.Prelude.{◌≡◌, List, ◌&&◌, ℕ, ◌≤◌, ◌<◌, length, eqb, leb};
 ghost use Rattle.keys.specs.Masks.{mask_within};
-ghost use Rattle.tables.specs.Layout.{count_words};
+ghost use Rattle.tables.specs.Layout.{count_words, count_at, clients_field, method_field, client_word, state_field};
 ghost use Rattle.tables.specs.Tables.{tables_of};
 ghost use Rattle.causes.specs.Numbers.{fault_of};
-ghost use Rattle.refusals.specs.Refusals.{is_retired, is_target_of, write_fault, read_fault, delivery_fault};
+ghost use Rattle.rules.specs.Common.{idle};
+ghost use Rattle.refusals.specs.Refusals.{is_retired, is_target_of, begin_fault, write_fault, read_fault, delivery_fault};
 ghost use Rattle.refusals.specs.Cases.{Judged, is_spent};
 
 use causes::Refusal;
@@ -20,10 +21,7 @@ pub mod openings;
 pub fn is_target(servers: u32, target: u32) -> bool
     ensures { result ≡ is_target_of servers target }
 {
-    if target < servers {
-        return true;
-    }
-    target == links::COORDINATOR as u32
+    target < servers || target == links::COORDINATOR as u32
 }
 
 // A delivery: no such client or target, or the last step.
@@ -55,10 +53,8 @@ fn is_spent(counts: &[u32], kind: usize) -> bool
     requires { (count_words ≤ length counts.now) × (kind < count_words) }
     ensures { result ≡ is_spent counts.now kind }
 {
-    if records::PLACES as u32 <= counts::count_at(counts, kind) {
-        return true;
-    }
-    counts::LAST_STEP <= counts::count_at(counts, counts::STEP)
+    records::PLACES as u32 <= counts::count_at(counts, kind)
+        || counts::LAST_STEP <= counts::count_at(counts, counts::STEP)
 }
 
 // Whether a WRITE has a mask within the servers, and a setpoint for each of them.
@@ -66,13 +62,42 @@ fn fits_write(mask: u32, given: usize, servers: u32) -> bool
     requires { servers ≤ 16 }
     ensures { result ≡ (mask_within mask servers && eqb given servers) }
 {
-    if keys::mask_within(mask, servers) {
-        return given == servers as usize;
-    }
-    false
+    keys::mask_within(mask, servers) && given == servers as usize
 }
 
-// A WRITE: the causes of the numbers 3 to 7 in their order.
+// A begin, that fits or not: the causes of the numbers 3 to 7 in their order.
+fn begin_fault(
+    counts: &[u32],
+    clients: &[u32],
+    client: u32,
+    fits: bool,
+    kind: usize,
+) -> Result<(), Refusal>
+    requires judged { Judged counts.now clients.now }
+    requires kind_lt_words { kind < count_words }
+    ensures { fault_of result
+        ≡ begin_fault (leb (count_at counts.now clients_field) client) (is_retired (count_at counts.now method_field))
+        (eqb (client_word clients.now client state_field) idle) fits (is_spent counts.now kind) }
+{
+    if counts::count_at(counts, counts::CLIENTS) <= client {
+        return Err(Refusal::Absent);
+    }
+    if is_retired(counts::count_at(counts, counts::METHOD)) {
+        return Err(Refusal::Retired);
+    }
+    if clients::client_word(clients, client as usize, clients::STATE) != states::IDLE {
+        return Err(Refusal::Busy);
+    }
+    if !fits {
+        return Err(Refusal::Unfit);
+    }
+    if is_spent(counts, kind) {
+        return Err(Refusal::Spent);
+    }
+    Ok(())
+}
+
+// A WRITE: its mask, and how many setpoints are given.
 pub fn write_fault(
     counts: &[u32],
     clients: &[u32],
@@ -83,43 +108,27 @@ pub fn write_fault(
     requires { Judged counts.now clients.now }
     ensures { (links keys values log writes reads : List ℕ) → fault_of result ≡ write_fault client mask given (tables_of counts.now clients.now links keys values log writes reads) }
 {
-    if counts::count_at(counts, counts::CLIENTS) <= client {
-        return Err(Refusal::Absent);
-    }
-    if is_retired(counts::count_at(counts, counts::METHOD)) {
-        return Err(Refusal::Retired);
-    }
-    if clients::client_word(clients, client as usize, clients::STATE) != states::IDLE {
-        return Err(Refusal::Busy);
-    }
-    if !fits_write(mask, given, counts::count_at(counts, counts::SERVERS)) {
-        return Err(Refusal::Unfit);
-    }
-    if is_spent(counts, counts::WRITES) {
-        return Err(Refusal::Spent);
-    }
-    Ok(())
+    let servers = counts::count_at(counts, counts::SERVERS);
+    begin_fault(
+        counts,
+        clients,
+        client,
+        fits_write(mask, given, servers),
+        counts::WRITES,
+    )
 }
 
-// A READ: the causes of the numbers 3 to 7 in their order.
+// A READ: its mask.
 pub fn read_fault(counts: &[u32], clients: &[u32], client: u32, mask: u32) -> Result<(), Refusal>
     requires { Judged counts.now clients.now }
     ensures { (links keys values log writes reads : List ℕ) → fault_of result ≡ read_fault client mask (tables_of counts.now clients.now links keys values log writes reads) }
 {
-    if counts::count_at(counts, counts::CLIENTS) <= client {
-        return Err(Refusal::Absent);
-    }
-    if is_retired(counts::count_at(counts, counts::METHOD)) {
-        return Err(Refusal::Retired);
-    }
-    if clients::client_word(clients, client as usize, clients::STATE) != states::IDLE {
-        return Err(Refusal::Busy);
-    }
-    if !keys::mask_within(mask, counts::count_at(counts, counts::SERVERS)) {
-        return Err(Refusal::Unfit);
-    }
-    if is_spent(counts, counts::READS) {
-        return Err(Refusal::Spent);
-    }
-    Ok(())
+    let servers = counts::count_at(counts, counts::SERVERS);
+    begin_fault(
+        counts,
+        clients,
+        client,
+        keys::mask_within(mask, servers),
+        counts::READS,
+    )
 }

@@ -8,18 +8,12 @@ use sound_numbers::scalars;
 pub fn opens_press(method: u32, servers: u32, panels: u32) -> bool
     ensures { result ≡ press_opens method servers panels }
 {
-    if super::is_retired(method) {
-        return false;
-    }
-    scalars::press_fits(method, servers, panels)
+    !super::is_retired(method) && scalars::press_fits(method, servers, panels)
 }
 
 // Whether a press may be opened, and there is a setpoint for each server.
 pub fn fits_press(method: u32, servers: u32, panels: u32, given: usize) -> bool
     ensures { result ≡ (press_opens method servers panels && eqb given servers) }
 {
-    if opens_press(method, servers, panels) {
-        return given == servers as usize;
-    }
-    false
+    opens_press(method, servers, panels) && given == servers as usize
 }
