@@ -7,9 +7,8 @@ ghost use Rattle.soundness.specs.Facts.{Sound};
 ghost use Rattle.refusals.specs.Steps.{deliver_reply};
 ghost use Rattle.playing.specs.Played.{showing, arrived_played, mask_or_zero, played};
 
+use causes::Refusal;
 use playing::Shown;
-use printing::Word;
-use rules::Delivered;
 use schedule::Step;
 
 // Delivers a reply on sound tables, with the mask of its client beside the answer.
@@ -33,13 +32,14 @@ fn deliver_reply(
         values.now log.now writes.old reads.old)) }
 {
     let mask = step_showing::mask_of(&*clients, client);
-    let delivered: Delivered = sound_steps::deliver_reply_sound(
+    let delivered = sound_steps::deliver_reply_sound(
         counts, clients, links, keys, values, log, writes, reads, client, target,
     );
     step_showing::arrived(delivered, mask)
 }
 
 // One step on sound tables.
+// Kept: (c) a step of sound_steps is lent some tables to be read; behind a Press the borrow checker has no rule for that beside tables to be changed.
 pub fn play_opened(
     counts: &mut [u32],
     clients: &mut [u32],
@@ -60,11 +60,14 @@ pub fn play_opened(
         values.old log.old writes.old reads.old) }
 {
     match step {
-        Step::Unreadable => step_showing::plain(Word::No(13)),
-        Step::Open(method, servers, panels) => step_showing::answered(sound_steps::open(
-            counts, clients, links, keys, values, log, &*writes, &*reads, method, servers, panels,
-            setpoints,
-        )),
+        Step::Unreadable => step_showing::answered(Err(Refusal::Unreadable)),
+        Step::Open(method, servers, panels) => {
+            let answer = sound_steps::open(
+                counts, clients, links, keys, values, log, &*writes, &*reads, method, servers,
+                panels, setpoints,
+            );
+            step_showing::answered(answer)
+        }
         Step::BeginWrite(client, mask, badge) => step_showing::answered(
             sound_steps::begin_write_sound(
                 counts, clients, links, &*keys, &*values, &*log, writes, &*reads, client, mask,

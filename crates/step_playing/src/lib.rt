@@ -2,41 +2,46 @@
 #![tactic(auto)]
 
 ghost use Rattle.std.specs.Prelude.{◌≡◌};
-ghost use Rattle.tables.specs.Tables.{tables_of};
+ghost use Rattle.tables.specs.Lent.{tables_in, SameLent};
 ghost use Rattle.playing.specs.Played.{showing, played};
 ghost use Rattle.playing.specs.Playable.{Playable};
 
 use playing::Shown;
 use schedule::Step;
-use tables::counts::METHOD;
+use tables::counts;
+use tables::lent::Press;
 
 // One step of a schedule.
-pub fn play_step(
-    counts: &mut [u32],
-    clients: &mut [u32],
-    links: &mut [u32],
-    keys: &mut [u32],
-    values: &mut [u32],
-    log: &mut [u32],
-    writes: &mut [u32],
-    reads: &mut [u32],
-    step: Step,
-    setpoints: &[u32],
-) -> Shown
-    requires { Playable (tables_of counts.old clients.old links.old keys.old
-        values.old log.old writes.old reads.old) }
-    ensures { showing result (tables_of counts.new clients.new links.new keys.new
-        values.new log.new writes.new reads.new)
-        ≡ played step setpoints.now
-        (tables_of counts.old clients.old links.old keys.old
-        values.old log.old writes.old reads.old) }
+pub fn play_step(press: &mut Press, step: Step, setpoints: &[u32]) -> Shown
+    requires { Playable (tables_in press.old) }
+    ensures same { SameLent press.old press.new }
+    ensures shown { showing result (tables_in press.new) ≡ played step setpoints.now (tables_in press.old) }
 {
-    if tables::counts::count_at(counts, METHOD) == 0 {
-        return unopened_playing::play_unopened(
-            counts, clients, links, keys, values, log, writes, reads, step, setpoints,
-        );
+    if counts::count_at(press.lent().counts, counts::METHOD) == 0 {
+        unopened_playing::play_unopened(
+            press.counts,
+            press.clients,
+            press.links,
+            press.keys,
+            press.values,
+            press.log,
+            press.writes,
+            press.reads,
+            step,
+            setpoints,
+        )
+    } else {
+        opened_playing::play_opened(
+            press.counts,
+            press.clients,
+            press.links,
+            press.keys,
+            press.values,
+            press.log,
+            press.writes,
+            press.reads,
+            step,
+            setpoints,
+        )
     }
-    opened_playing::play_opened(
-        counts, clients, links, keys, values, log, writes, reads, step, setpoints,
-    )
 }

@@ -4,20 +4,22 @@
 ghost use Rattle.std.specs.Prelude.{◌≡◌};
 ghost use Rattle.tables.specs.Tables.{Tables};
 ghost use Rattle.rules.specs.Answers.{left, arrived};
+ghost use Rattle.rules.specs.Results.{answer_by};
 ghost use Rattle.playing.specs.Played.{answer_word, arrival_word, showing, noted, plainly, left_played, arrived_played, mask_or_zero};
 
+use causes::Refusal;
 use playing::Shown;
 use printing::Word;
-use rules::{Answer, Arrival, Delivered};
+use rules::{Arrival, Delivered};
 use tables::clients::{MASK, WIDTH};
 
 // The word of an opening, a begin, a delivered request, a loss and a resend.
-fn answer_word(answer: Answer) -> Word
-    ensures { result ≡ answer_word answer }
+fn answer_word(answer: Result<(), Refusal>) -> Word
+    ensures { result ≡ answer_word (answer_by answer) }
 {
     match answer {
-        Answer::Ok => Word::Ok,
-        Answer::Refused(number) => Word::No(number as u32),
+        Ok(()) => Word::Ok,
+        Err(refusal) => Word::No(refusal.number() as u32),
     }
 }
 
@@ -39,8 +41,8 @@ pub fn noted(word: Word, mask: u32) -> Shown
     ensures { result ≡ noted word mask }
 {
     Shown {
-        word: word,
-        mask: mask,
+        word,
+        mask,
         setpoints: [0; 16],
         tags: [0; 16],
         badges: [0; 16],
@@ -55,8 +57,8 @@ pub fn plain(word: Word) -> Shown
 }
 
 // What is printed of an opening, a begin, a delivered request, a loss and a resend.
-pub fn answered(answer: Answer) -> Shown
-    ensures { (t : Tables) → showing result t ≡ left_played (left answer t) }
+pub fn answered(answer: Result<(), Refusal>) -> Shown
+    ensures { (t : Tables) → showing result t ≡ left_played (left (answer_by answer) t) }
 {
     plain(answer_word(answer))
 }
@@ -68,13 +70,12 @@ pub fn arrived(delivered: Delivered, mask: u32) -> Shown
     let setpoints = delivered.setpoints;
     let tags = delivered.tags;
     let badges = delivered.badges;
-    let arrival = delivered.arrival;
     Shown {
-        word: arrival_word(arrival),
-        mask: mask,
-        setpoints: setpoints,
-        tags: tags,
-        badges: badges,
+        word: arrival_word(delivered.arrival),
+        mask,
+        setpoints,
+        tags,
+        badges,
     }
 }
 

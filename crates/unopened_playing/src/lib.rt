@@ -5,12 +5,13 @@ ghost use Rattle.std.specs.Prelude.{◌≡◌};
 ghost use Rattle.tables.specs.Tables.{tables_of, method_of};
 ghost use Rattle.playing.specs.Played.{showing, played};
 
+use causes::Refusal;
 use playing::Shown;
 use printing::Word;
-use rules::Answer;
 use schedule::Step;
 
-// One step before any opening: a readable one but an opening is 2.
+// One step before any opening: a readable one but an opening is refused, since the tables are not sound.
+// Kept: (c) a step of sound_steps is lent some tables to be read; behind a Press the borrow checker has no rule for that beside tables to be changed.
 pub fn play_unopened(
     counts: &mut [u32],
     clients: &mut [u32],
@@ -32,23 +33,23 @@ pub fn play_unopened(
         values.old log.old writes.old reads.old) }
 {
     match step {
-        Step::Unreadable => step_showing::plain(Word::No(13)),
+        Step::Unreadable => step_showing::answered(Err(Refusal::Unreadable)),
         Step::Open(method, servers, panels) => {
-            let answer: Answer = sound_steps::open(
+            let answer = sound_steps::open(
                 counts, clients, links, keys, values, log, &*writes, &*reads, method, servers,
                 panels, setpoints,
             );
             step_showing::answered(answer)
         }
-        Step::BeginWrite(_, _, _) => step_showing::plain(Word::No(2)),
-        Step::BeginRead(_, _) => step_showing::plain(Word::No(2)),
-        Step::Request(_, _) => step_showing::plain(Word::No(2)),
+        Step::BeginWrite(_, _, _) => step_showing::answered(Err(Refusal::NotSound)),
+        Step::BeginRead(_, _) => step_showing::answered(Err(Refusal::NotSound)),
+        Step::Request(_, _) => step_showing::answered(Err(Refusal::NotSound)),
         Step::Reply(client, _) => {
             // A delivered reply has its client's mask beside it, refused or not.
             let mask = step_showing::mask_of(&*clients, client);
-            step_showing::noted(Word::No(2), mask)
+            step_showing::noted(Word::No(Refusal::NotSound.number() as u32), mask)
         }
-        Step::Lose(_, _) => step_showing::plain(Word::No(2)),
-        Step::Resend(_, _) => step_showing::plain(Word::No(2)),
+        Step::Lose(_, _) => step_showing::answered(Err(Refusal::NotSound)),
+        Step::Resend(_, _) => step_showing::answered(Err(Refusal::NotSound)),
     }
 }

@@ -3,7 +3,7 @@ use Rattle.std.specs.Prelude.{ℕ, ◌-◌, List}
 use Rattle.frames.specs.declared.Written.{Written}
 use Rattle.frames.specs.declared.Written.TheVariants as written
 use Rattle.listing.specs.Listed.{Listed}
-use Rattle.listing.specs.Listed.Listed as listed
+use Rattle.listing.specs.Listed as listed
 use Rattle.listing.specs.Register.{Listing}
 use Rattle.wire.specs.Sending.{Sent}
 
