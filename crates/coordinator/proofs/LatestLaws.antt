@@ -1,13 +1,10 @@
 -- Of specs/LatestLaws: what cites a theorem there that a changed definition can make fail.
-use Rattle.std.specs.Prelude.{ℕ, ◌+◌, ◌-◌, ◌≤◌, ◌<◌, ◌≡◌, Bool, true, false, List}
-use Rattle.std.proofs.Common.{sym, ap, arith}
-use Rattle.ranges.specs.Tests.{by_equal}
-use Rattle.ranges.specs.LastLaws.{last-here, last-before, last-below, last-same}
+use Rattle.std.specs.Prelude.{ℕ, ◌<◌, ◌≡◌, List}
+use Rattle.std.proofs.Common.{arith}
 use Rattle.keys.specs.declared.Key.{Key}
-use Rattle.keys.specs.Masks.{has_server}
-use Rattle.tables.specs.Layout.{entry_mask, put_entry}
-use Rattle.tables.specs.Entries.{entry_key_other, entry-mask_other}
-use Rattle.coordinator.specs.Latest.{wrote, latest_tag, latest_key}
+use Rattle.tables.specs.Layout.{put_entry}
+use Rattle.tables.specs.Entries.{entry_key_other}
+use Rattle.coordinator.specs.Latest.{latest_tag, latest_key}
 use Rattle.coordinator.specs.LatestLaws.{latest-tag-kept, latest-within}
 
 -- the cases of the search, as the code meets them

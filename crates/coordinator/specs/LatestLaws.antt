@@ -6,8 +6,8 @@ use Rattle.ranges.specs.LastLaws.{last-here, last-before, last-below, last-same}
 use Rattle.keys.specs.declared.Key.{Key}
 use Rattle.keys.specs.Masks.{has_server}
 use Rattle.tables.specs.Layout.{entry_mask, put_entry}
-use Rattle.tables.specs.Entries.{entry_key_other, entry-mask_other}
-use Rattle.coordinator.specs.Latest.{wrote, latest_tag, latest_key}
+use Rattle.tables.specs.Entries.{entry-mask_other}
+use Rattle.coordinator.specs.Latest.{wrote, latest_tag}
 
 -- the tag found is at most the tag asked for
 pub latest-within : (log : List ℕ) (i t : ℕ) → latest_tag log i t ≤ t

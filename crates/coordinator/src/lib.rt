@@ -10,6 +10,7 @@ use keys::Key;
 use tables::{counts, log};
 
 // Appends (key, mask) to the log; the new place is the tag. Where it has 256 entries, nothing changes and the answer is false.
+// Kept: (d) whether it was entered is all that there is to tell; a step that this refuses names the cause itself.
 pub fn enter(counts: &mut [u32], log: &mut [u32], key: Key, mask: u32) -> bool
     requires { LogRoom counts.old log.old }
     ensures { enter_left result counts.new log.new ≡ entered counts.old log.old key mask }
@@ -65,11 +66,9 @@ pub fn latest_entries(log: &[u32], servers: usize, tag: usize, keys: &mut [u32],
     ensures keys { keys.new ≡ laid (latest_word log.now tag) servers keys.old }
     ensures tags { tags.new ≡ laid (latest_tag_at log.now tag) servers tags.old }
 {
-    let mut server = 0;
-    while server < servers {
+    for server in 0..servers {
         let latest = latest_entry(log, server, tag);
         keys[server] = latest.key.word();
         tags[server] = latest.tag;
-        server += 1;
     }
 }

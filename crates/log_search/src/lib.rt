@@ -2,61 +2,34 @@
 // are here for speed: the search for one server as document 01 has it is the coordinator's, and laws tie the walk to it.
 #![tactic(auto)]
 
-ghost use Rattle.std.specs.Prelude.{◌≡◌, ◌*◌, ◌≤◌, ◌<◌, length, replicate};
-ghost use Rattle.ranges.specs.First.{first_below};
-ghost use Rattle.ranges.specs.FirstLaws.{Sought};
+ghost use Rattle.std.specs.Prelude.{◌≡◌, ◌*◌, ◌≤◌, length, replicate};
 ghost use Rattle.ranges.specs.Picked.{laid_over};
 ghost use Rattle.keys.specs.Masks.{has_server};
 ghost use Rattle.tables.specs.Layout.{entry_width};
 ghost use Rattle.coordinator.specs.Log.{HasEntry, first_entry};
 ghost use Rattle.coordinator.specs.Latest.{latest_tag_at};
-ghost use Rattle.log_search.specs.Bearers.{bearer};
 ghost use Rattle.log_search.specs.Tags.{latest_of_any};
 
 use keys::Key;
 use tables::log;
 
-// Of n entries, a tag before which none bears the key of a word: blocks of so many entries without the word are passed over from a tag on,
-// up to the first that has it. Masks are looked at too, since words that stand side by side are compared four at once and every second one
-// is not; where a mask is the word by chance, the entries from there on are searched more closely.
-fn passed(log: &[u32], from: usize, n: usize, many: usize, word: u32) -> usize
-    requires { (entry_width * n ≤ length log.now) × ((0 < many) × Sought (bearer log.now word) n from) }
-    ensures { Sought (bearer log.now word) n result }
-{
-    let mut tag = from;
-    while many <= n - tag {
-        if ranges::has_equal(log, log::WIDTH * tag, log::WIDTH * many, word) {
-            return tag;
-        }
-        tag += many;
-    }
-    tag
-}
-
-// Of n entries, the first that bears the key of a word, where none of those before from does; n where none does.
-fn find_behind(log: &[u32], from: usize, n: usize, word: u32) -> usize
-    requires { (entry_width * n ≤ length log.now) × Sought (bearer log.now word) n from }
-    ensures { result ≡ first_below (bearer log.now word) n }
-{
-    let mut tag = from;
-    while tag < n {
-        if log::key_word(log, tag) == word {
-            return tag;
-        }
-        tag += 1;
-    }
-    tag
-}
-
-// The first of the log's n first entries that bears a key, and n where none does. Blocks of 16 entries are passed over, then blocks of 4.
+// The first of the log's n first entries that bears a key, and n where none does. Blocks of 16 entries without the key's word are passed over, then
+// blocks of 4. Masks are looked at too, since words that stand side by side are compared four at once and every second one is not; where a
+// mask is the word by chance, the entries from there on are searched more closely.
 pub fn find(log: &[u32], n: usize, key: Key) -> usize
     requires { entry_width * n ≤ length log.now }
     ensures { result ≡ first_entry log.now key n }
 {
     let word = key.word();
-    let wide = passed(log, 0, n, 16, word);
-    let narrow = passed(log, wide, n, 4, word);
-    find_behind(log, narrow, n, word)
+    let wide = ranges::passed(0, n, 16, |tag| {
+        ranges::has_equal(log, log::WIDTH * tag, log::WIDTH * 16, word)
+    });
+    let narrow = ranges::passed(wide, n, 4, |tag| {
+        ranges::has_equal(log, log::WIDTH * tag, log::WIDTH * 4, word)
+    });
+    (narrow..n)
+        .find(|tag| log::key_word(log, *tag) == word)
+        .unwrap_or(n)
 }
 
 // The latest entry, at the tag or before it, whose mask has one of the servers left; 0 where there is none.
@@ -64,14 +37,12 @@ fn latest_of_any(log: &[u32], tag: usize, left: u32) -> usize
     requires { HasEntry log.now tag }
     ensures { result ≡ latest_of_any log.now left tag }
 {
-    let mut at = tag;
-    while 0 < at {
+    for at in (1..=tag).rev() {
         if log::entry_mask(log, at) & left != 0 {
             return at;
         }
-        at -= 1;
     }
-    at
+    0
 }
 
 // The servers of a mask, of the first so many, get a tag.
@@ -79,12 +50,10 @@ fn put_tag(tags: &mut [u32; 16], servers: usize, mask: u32, tag: u32)
     requires { servers ≤ 16 }
     ensures { tags.new ≡ laid_over (has_server mask) (λ i. tag) servers tags.old }
 {
-    let mut server = 0;
-    while server < servers {
+    for server in 0..servers {
         if keys::has_server(mask, server) {
             tags[server] = tag;
         }
-        server += 1;
     }
 }
 

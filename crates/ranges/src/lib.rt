@@ -1,7 +1,7 @@
 // Folds over 0..n are definitions with laws, in specs/. The search that runs over words as they are stands here.
 #![tactic(auto)]
 
-ghost use Rattle.std.specs.Prelude.{◌≡◌, ◌+◌, ◌≤◌, ◌<◌, length};
+ghost use Rattle.std.specs.Prelude.{ℕ, Bool, true, false, ◌≡◌, ◌+◌, ◌≤◌, ◌<◌, length};
 ghost use Rattle.ranges.specs.All.{any_below};
 ghost use Rattle.ranges.specs.First.{first_below};
 ghost use Rattle.ranges.specs.FirstLaws.{Sought};
@@ -22,33 +22,24 @@ pub fn has_equal(words: &[u32], place: usize, many: usize, word: u32) -> bool
     found
 }
 
-// Of n words from start on, a place before which none equals a word: blocks of so many words without one are passed over from a place on,
-// up to the first that has one.
-fn passed(words: &[u32], start: usize, from: usize, n: usize, many: usize, word: u32) -> usize
-    requires { (start + n ≤ length words.now) × ((0 < many) × Sought (equal_from words.now start word) n from) }
-    ensures { Sought (equal_from words.now start word) n result }
+// Of n numbers, one before which none passes a test: from a number on, so many at a time are passed over where none of them is seen to pass, up
+// to the first block where one is.
+pub fn passed<F: Fn(usize) -> bool>(from: usize, n: usize, many: usize, seen: F) -> usize
+    requires many_nonzero { (from ≤ n) × (0 < many) }
+    requires blocks { (at : ℕ) → at + many ≤ n → F.pre seen at }
+    ensures within { result ≤ n }
+    ensures stops { result + many ≤ n → F.post seen result true }
+    ensures passed { (p : ℕ → Bool) → Sought p n from → ((at : ℕ) → at + many ≤ n → F.post seen at false → any_below (λ i. p (at + i)) many ≡ false)
+        → Sought p n result }
 {
     let mut at = from;
     while many <= n - at {
-        if has_equal(words, start + at, many, word) {
+        if seen(at) {
             return at;
         }
         at += many;
     }
     at
-}
-
-// Of n words from start on, the first that equals a word, where none of those before from does; n where none does.
-fn first_behind(words: &[u32], start: usize, from: usize, n: usize, word: u32) -> usize
-    requires { (start + n ≤ length words.now) × Sought (equal_from words.now start word) n from }
-    ensures { result ≡ first_below (equal_from words.now start word) n }
-{
-    for at in from..n {
-        if words[start + at] == word {
-            return at;
-        }
-    }
-    n
 }
 
 // The first of the n words from start on that equals a word: its distance from start, and n where none does. What is passed over by 16 and
@@ -57,7 +48,7 @@ pub fn first_equal(words: &[u32], start: usize, n: usize, word: u32) -> usize
     requires { start + n ≤ length words.now }
     ensures { result ≡ first_below (equal_from words.now start word) n }
 {
-    let wide = passed(words, start, 0, n, 16, word);
-    let narrow = passed(words, start, wide, n, 4, word);
-    first_behind(words, start, narrow, n, word)
+    let wide = passed(0, n, 16, |at| has_equal(words, start + at, 16, word));
+    let narrow = passed(wide, n, 4, |at| has_equal(words, start + at, 4, word));
+    (narrow..n).find(|at| words[start + *at] == word).unwrap_or(n)
 }

@@ -9,6 +9,7 @@ use keys::Key;
 use tables::{counts, versions};
 
 // Appends a version behind those that a server holds. Where it holds 256, nothing changes and the answer is false.
+// Kept: (d) whether it was stored is all that there is to tell; a step that this refuses names the cause itself.
 pub fn append(
     counts: &mut [u32],
     keys: &mut [u32],

@@ -1,5 +1,4 @@
 -- `coordinator::latest_entries` meets its contract: the loop has laid the keys and the tags of the servers it has passed.
-use Prim.Native.Nat.{◌-◌}
 use mathlib.Core.Path.{ap, ◌∙◌}
 use native.Mathlib.Omega.{arith}
 use Rattle.ranges.specs.LaidLaws.{laying-none, laying-more, laying-all}

@@ -14,9 +14,6 @@ entry_key-requires c =
     let there = c.requires.1.there in
     omega (arith, latest-within a.log.now a.server a.tag)
 
-pub returns : goal.returns
-returns c = rw c.entry_key.ensures c.search_back-found.ensures
-
 pub overflow_cast-result : goal.overflow_cast-result
 overflow_cast-result c =
     let found = ap (λ (x : Latest). x.tag) c.search_back-found.ensures in

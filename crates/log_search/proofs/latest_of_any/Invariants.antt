@@ -7,6 +7,3 @@ use Rattle.log_search.proofs.latest_of_any.Given as goal
 
 abbrev pub invariant-loop-at : goal.invariant-loop-at
 invariant-loop-at l = (l.at ≤ l.tag) × (latest_of_any l.log l.left l.at ≡ latest_of_any l.log l.left l.tag)
-
-abbrev pub decreases-loop-at : goal.decreases-loop-at
-decreases-loop-at l = l.at

@@ -1,5 +1,5 @@
 -- `log_search::put_tag` meets its contract: the loop has put the tag for the servers of the mask that it has passed.
-use Prim.Native.Nat.{ℕ, ◌-◌}
+use Prim.Native.Nat.{ℕ}
 use mathlib.Core.Path.{◌≡◌, sym, ◌∙◌}
 use mathlib.Core.List.{List}
 use native.Mathlib.Omega.{arith}

@@ -1,11 +1,15 @@
--- `ranges::passed` meets its contract: no word before `at` is equal, since blocks without one are passed over.
-use Prim.Native.Nat.{◌-◌}
-use Rattle.ranges.specs.Words.{equal_from}
+-- `ranges::passed` meets its contract: none before `at` passes, since blocks of which none passes are passed over.
+use Rattle.std.specs.Prelude.{ℕ, Bool, false, ◌≡◌, ◌+◌, ◌-◌, ◌≤◌}
+use Rattle.ranges.specs.All.{any_below}
 use Rattle.ranges.specs.FirstLaws.{Sought}
 use Rattle.ranges.proofs.passed.Given as goal
 
 abbrev pub invariant-loop-at : goal.invariant-loop-at
-invariant-loop-at l = Sought (equal_from l.words l.start l.word) l.n l.at
+invariant-loop-at g l = record {
+  within : l.at ≤ l.n;
+  passed : (p : ℕ → Bool) → Sought p l.n l.fn.from →
+      ((at : ℕ) → at + l.many ≤ l.n → goal.F-post g l.seen at false → any_below (λ i. p (at + i)) l.many ≡ false) → Sought p l.n l.at
+}
 
 abbrev pub decreases-loop-at : goal.decreases-loop-at
-decreases-loop-at l = l.n - l.at
+decreases-loop-at g l = l.n - l.at
