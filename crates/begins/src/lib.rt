@@ -62,10 +62,8 @@ pub fn send_gets(
 {
     let mut tags = [0u32; 16];
     log_search::latest_tags(log, servers, tag, mask, &mut tags);
-    let mut server = 0;
-    while server < servers {
+    for server in 0..servers {
         send_get(clients, links, log, client, mask, server, tags[server]);
-        server += 1;
     }
 }
 
@@ -97,6 +95,7 @@ fn start_write(
 }
 
 // Begins a WRITE: the next count, a request to each masked server, the record.
+#[tactic(auto, unfolding(rules::specs::Begin::begun_write))]
 pub fn begin_write(
     counts: &mut [u32],
     clients: &mut [u32],

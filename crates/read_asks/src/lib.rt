@@ -57,7 +57,8 @@ pub fn ask(counts: &[u32], clients: &mut [u32], links: &mut [u32], client: usize
         (tables_of counts.now clients.old links.old keys values log writes reads) }
 {
     if counts::count_at(counts, counts::METHOD) == 2 {
-        return ask_by_b(counts, clients, links, client, mask);
+        ask_by_b(counts, clients, links, client, mask)
+    } else {
+        ask_by_c(counts, clients, links, client, mask)
     }
-    ask_by_c(counts, clients, links, client, mask)
 }
