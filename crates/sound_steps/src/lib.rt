@@ -1,6 +1,7 @@
 // The opening, and the other steps on tables known to be sound: refused by number with all as before, or accepted and changed as the rules
 // say. But for the opening they ask for sound tables and do not check them: who has opened a store and keeps its tables to himself calls
 // these. `store` has the same steps on any tables.
+// Kept: (a) the eight tables are parameters, since a struct of them would ask `&mut` of tables that a step lends as `&`; C lends those as const.
 #![tactic(auto)]
 
 ghost use Rattle.std.specs.Prelude.{◌≡◌, replicate};

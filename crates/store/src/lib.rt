@@ -1,5 +1,6 @@
 // The seven public steps, on any tables: refused by a cause with all as before, or accepted and changed as the rules say. Each judges the
 // tables first, number 2, and then takes the step of `sound_steps`; the opening there judges any tables by itself.
+// Kept: (a) the eight tables are parameters, since a struct of them would ask `&mut` of tables that a step lends as `&`; C lends those as const.
 #![tactic(auto)]
 
 ghost use Rattle.std.specs.Prelude.{◌≡◌};

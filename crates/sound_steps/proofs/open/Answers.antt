@@ -23,7 +23,6 @@ open-requires c =
 
 pub returns : goal.returns
 returns c =
-    let at_open = c.before.before.before.before.before.before.before.before.before.before.before.before in
     let a = c.args in
     open-accepted _ _ _ _ _ c.fits_press.ensures c.long_enough.ensures (ap not c.if-not-fits_press.false) (ap not c.if-not-long_enough.false)
-    (at_open.«open».ensures a.writes.now a.reads.now)
+    (c.«open».ensures a.writes.now a.reads.now)
