@@ -10,5 +10,5 @@ use tables::counts;
 pub fn may_step(step: u32) -> bool
     ensures { result ≡ may_step step }
 {
-    !(counts::LAST_STEP <= step)
+    step < counts::LAST_STEP
 }
