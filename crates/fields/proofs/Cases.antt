@@ -1,13 +1,9 @@
 -- Of specs/Cases: what cites a theorem there that a changed definition can make fail.
-use Rattle.std.specs.Prelude.{◌≡◌, List}
-use Rattle.std.proofs.Common.{◌∙◌, not-suc-le-zero, shl_exact}
-use Prim.Native.Nat.{ℕ, zero, suc, ◌+◌, ◌-◌, ◌*◌, ◌/◌, ◌%◌, ◌^◌, ◌≤◌, ◌<◌}
-use Rattle.std.proofs.Math.Numerals.{add-one}
-use native.Mathlib.Omega.{arith}
-use borrow.Author.Tests.{le-leb, lt-leb}
+use Rattle.std.specs.Prelude.{List}
+use Prim.Native.Nat.{ℕ, ◌^◌, ◌≤◌, ◌<◌}
 use Rattle.fields.specs.FieldLaws.{field_small}
-use Rattle.fields.specs.Parts.{part_at, put_part, free_of, whole_of, left_of, up_to, put_up_to, field_by_bytes, put_by_bytes}
-use Rattle.fields.specs.ByBytes.{up_to-field, field_by_bytes_lem}
+use Rattle.fields.specs.Parts.{field_by_bytes}
+use Rattle.fields.specs.ByBytes.{field_by_bytes_lem}
 
 module _ (bytes : List ℕ) (at w : ℕ) where
   -- a field of at most 32 bits fits a word

@@ -7,7 +7,7 @@ use native.Mathlib.Omega.{arith}
 use borrow.Author.Tests.{le-leb, lt-leb}
 use Rattle.fields.specs.FieldLaws.{field_small}
 use Rattle.fields.specs.Parts.{part_at, put_part, free_of, whole_of, left_of, up_to, put_up_to, field_by_bytes, put_by_bytes}
-use Rattle.fields.specs.ByBytes.{up_to-field, field_by_bytes_lem}
+use Rattle.fields.specs.ByBytes.{up_to-field}
 
 -- ---- the first part and whole bytes
 

@@ -51,6 +51,7 @@ fn put_part(bytes: &mut [u8], place: usize, width: usize, behind: usize, value: 
     bytes[place] = with_part(byte, width, behind, value);
 }
 
+// Kept: `part_at` and `put_part` alone, in place of what follows for first part, whole byte and last part, miss the bar of frames (kind 12 read, 16 entries: 3,310 instructions for 2,843).
 // The first part of a field, its byte's last `free` bits.
 fn first_part(bytes: &[u8], place: usize, free: usize) -> u32
     requires { (free ≤ 8) × (place < length bytes.now) }
@@ -83,10 +84,8 @@ fn up_to(bytes: &[u8], place: usize, free: usize, n: usize) -> u32
     ensures { result ≡ up_to bytes.now place free n }
 {
     let mut value = first_part(bytes, place, free);
-    let mut i: usize = 0;
-    while i < n {
-        i += 1;
-        value = value * 256 + byte_at(bytes, place + i);
+    for i in 0..n {
+        value = value * 256 + byte_at(bytes, place + i + 1);
     }
     value
 }
@@ -163,11 +162,9 @@ fn put_up_to(bytes: &mut [u8], place: usize, free: usize, n: usize, value: u32)
     ensures { bytes.new ≡ put_up_to bytes.old place free n value }
 {
     let mut rest = value;
-    let mut i = n;
-    while 0 < i {
-        put_byte(bytes, place + i, rest);
-        rest = rest / 256;
-        i -= 1;
+    for i in (0..n).rev() {
+        put_byte(bytes, place + i + 1, rest);
+        rest /= 256;
     }
     put_first(bytes, place, free, rest);
 }

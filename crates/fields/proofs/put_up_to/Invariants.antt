@@ -1,12 +1,7 @@
 -- What is left to put, into the bytes as they are, gives the same in each turn.
-use mathlib.Core.Path.{◌≡◌}
-use Prim.Native.Nat.{◌≤◌}
-use lib.ListN.{length}
+use Rattle.std.proofs.Common.{◌≡◌}
 use Rattle.fields.specs.Parts.{put_up_to}
 use Rattle.fields.proofs.put_up_to.Given as goal
 
 abbrev pub invariant-loop-i : goal.invariant-loop-i
-invariant-loop-i l = (l.i ≤ l.n) × (length l.bytes ≡ length l.initial.bytes) × (put_up_to l.bytes l.place l.free l.i l.rest ≡ put_up_to l.initial.bytes l.place l.free l.n l.value)
-
-abbrev pub decreases-loop-i : goal.decreases-loop-i
-decreases-loop-i l = l.i
+invariant-loop-i l = put_up_to l.bytes l.place l.free l.i l.rest ≡ put_up_to l.initial.bytes l.place l.free l.n l.value
