@@ -6,7 +6,10 @@ pub mod RoundTrip
 pub mod FormatLaws
 pub mod EntryLaws
 pub mod EntryFields
+pub mod Took
+pub mod Scan
 pub mod Reading
+pub mod Results
 pub mod Judging
 pub mod Tested
 pub mod Walk

@@ -12,8 +12,8 @@ use Rattle.ranges.specs.Tests.{by_equal}
 use Rattle.fields.specs.Bits.{field_at}
 use Rattle.frame_table.specs.declared.Field.{Field}
 use Rattle.formats.specs.declared.state.State.{State}
-use Rattle.formats.specs.declared.reading.Took.{Took}
-use Rattle.formats.specs.declared.reading.Scan.{Scan}
+use Rattle.formats.specs.Took.{Took}
+use Rattle.formats.specs.Scan.{Scan}
 use Rattle.formats.specs.Grammar.{Grammar, end, field, Outcome, got, fault, ahead, judged, ended, read, zeros}
 use Rattle.frame_table.specs.Table.{none, many_place, entry_place, fixed_fields, entry_fields, sort_at, bits_of, least_of, most_of, entries_in}
 use Rattle.frame_table.specs.TableLaws.{kind_bits}

@@ -20,13 +20,11 @@ pub fn store_entries(
         × (numbers.new ≡ laid (number_at bytes.now first behind) entries numbers.old) }
 {
     let mut at = first;
-    let mut i: usize = 0;
-    while i < entries {
+    for i in 0..entries {
         let key = fields::read_field(bytes, at, KEY_BITS);
         keys[i] = key / 16 * 256 + key % 16;
         numbers[i] = fields::read_field(bytes, at + KEY_BITS + behind.badge, behind.width);
         at += KEY_BITS + behind.badge + behind.width;
-        i += 1;
     }
 }
 
@@ -36,10 +34,8 @@ pub fn store_badges(bytes: &[u8], first: usize, behind: Behind, badges: &mut [u3
     ensures { badges.new ≡ laid (badge_at bytes.now first behind) entries badges.old }
 {
     let mut at = first;
-    let mut i: usize = 0;
-    while i < entries {
+    for i in 0..entries {
         badges[i] = fields::read_field(bytes, at + KEY_BITS, BADGE_BITS);
         at += KEY_BITS + BADGE_BITS + behind.width;
-        i += 1;
     }
 }

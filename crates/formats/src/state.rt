@@ -37,11 +37,7 @@ pub fn field_at(sort: u8, state: State) -> Field
     let width = plain.width;
     let least = frame_table::least_of(sort, plain.least, state.client);
     let most = frame_table::most_of(sort, plain.most, state.client, state.before);
-    Field {
-        width: width,
-        least: least,
-        most: most,
-    }
+    Field { width, least, most }
 }
 
 // A value that is taken over at one place and kept at the others.
@@ -84,10 +80,10 @@ pub fn next(sort: u8, state: State, value: u32) -> State
     let left = left_after(sort, state, value);
     let after = place_after(place);
     State {
-        kind: kind,
-        client: client,
+        kind,
+        client,
         before: value,
-        left: left,
+        left,
         place: after,
     }
 }

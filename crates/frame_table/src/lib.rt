@@ -110,9 +110,9 @@ fn columns(target: u8, body: u8, entry: u8) -> Shape
     ensures { result ≡ record { target = target; body = body; entry = entry } }
 {
     Shape {
-        target: target,
-        body: body,
-        entry: entry,
+        target,
+        body,
+        entry,
     }
 }
 
@@ -198,9 +198,9 @@ fn limits(width: usize, least: u32, most: u32) -> Field
     ensures { result ≡ record { width = width; least = least; most = most } }
 {
     Field {
-        width: width,
-        least: least,
-        most: most,
+        width,
+        least,
+        most,
     }
 }
 

@@ -6,7 +6,7 @@ use Rattle.std.proofs.Math.Bool.{cond}
 use Rattle.ranges.specs.Tests.{by-test, both_right}
 use Rattle.ranges.specs.Laid.{laid}
 use Rattle.ranges.specs.LaidLaws.{built-same, laid_none}
-use Rattle.formats.specs.declared.reading.Scan.{Scan}
+use Rattle.formats.specs.Scan.{Scan}
 use Rattle.format_writing.specs.declared.Wrote.{Wrote}
 use Rattle.formats.specs.Grammar.{Outcome, got, fault, good, frame}
 use Rattle.formats.specs.RoundTrip.{read-good}

@@ -5,7 +5,7 @@ use Rattle.ranges.specs.Tests.{by-test}
 use Rattle.fields.specs.Bits.{field_at}
 use Rattle.fields.specs.Parts.{part_at, field_by_bytes}
 use Rattle.fields.specs.ByBytes.{field_by_bytes_lem}
-use Rattle.formats.specs.declared.reading.Scan.{Scan}
+use Rattle.formats.specs.Scan.{Scan}
 use Rattle.formats.specs.Grammar.{Grammar, end, field, Outcome, got, fault, ahead, judged, ended, read}
 use Rattle.formats.specs.Format.{format}
 use Rattle.formats.specs.Reading.{scan_of}

@@ -1,6 +1,11 @@
 -- The row holds the fixed values so far, and what is left of the format is read from the next bit on, with the row of the kind; behind them
 -- the entries decide, as many as the last of them says.
-use borrow.Author.Rules.{rules}
+use Rattle.std.proofs.Common.{rules, refl}
+use Rattle.std.proofs.lemmas.Result.{err_from_is_err_and}
+use Rattle.formats.specs.Format.{field_of}
+use Rattle.formats.specs.Grammar.{fault}
+use Rattle.causes.specs.declared.Refusal.TheVariants as refusal
+use Rattle.formats.specs.Results.{number-some, refusal-told}
 use mathlib.Core.Path.{◌≡◌, ap, ◌∙◌}
 use Prim.Native.Nat.{ℕ, ◌+◌, ◌-◌}
 use native.Mathlib.Omega.{arith}
@@ -14,19 +19,18 @@ use Rattle.formats.specs.FormatLaws.{rowed-start, rowed_tells, next_place, place
 use Rattle.frame_table.specs.Entry.{behind_of, Slim}
 use Rattle.formats.specs.EntryFields.{Ahead}
 use Rattle.frame_table.proofs.TableLaws.{sort_known}
-use Rattle.formats.specs.Reading.{scan_of, Said, come-none, come_unknown, come-start, turn-fault, turn_on, turn-rowed, turn-said}
+use Rattle.formats.specs.Reading.{fault_at, Said, come-none, come_unknown, come-start, turn-fault, turn_on, turn-rowed, turn-said}
 use Rattle.formats.specs.Judging.{entries-said, behind_limits, said_few, rest-asked, rest-refused, rest_read}
 use Rattle.format_reading.proofs.scan_frame.Goals.{After-behind_key-behind, After-entries_in-entries, After-loop-state, After-next-state}
 use Rattle.format_reading.proofs.scan_frame.Goals as goal
 
 pub returns-then-bytes-eq0 : goal.returns-then-bytes-eq0
-returns-then-bytes-eq0 c = c.refused.ensures ∙ ap scan_of (come-none c.args.bytes.now c.if-bytes-eq0.true)
+returns-then-bytes-eq0 c = refusal-told refusal.CutShort (come-none c.args.bytes.now c.if-bytes-eq0.true)
 
 pub returns-then-kind-gt-LAST_KIND : goal.returns-then-kind-gt-LAST_KIND
 returns-then-kind-gt-LAST_KIND c =
     let a = c.args in
-    c.refused-then-kind-gt-LAST_KIND.ensures
-    ∙ ap scan_of (come_unknown a.bytes.now c.if-bytes-eq0.false (c.read_field-kind.ensures ∙ field_by_bytes_lem _ _ _)
+    refusal-told refusal.Malformed (come_unknown a.bytes.now c.if-bytes-eq0.false (c.read_field-kind.ensures ∙ field_by_bytes_lem _ _ _)
     c.if-kind-gt-LAST_KIND.true)
 
 pub target_of-requires : goal.target_of-requires
@@ -47,24 +51,25 @@ loop-state-init c =
 pub bounds-row-place : goal.bounds-row-place
 bounds-row-place c = omega (arith, c.loop-state-test.true)
 
-pub taken-took-requires : goal.taken-took-requires
-taken-took-requires c =
+pub taken-requires : goal.taken-requires
+taken-requires c =
     let l = c.loop-state in
     let t = rowed_tells c.read_field-kind.result l.at l.state l.invariant.1
     c.row_of-row.ensures in
     (omega (arith, l.invariant.0.near, c.loop-state-test.true), l.invariant.0.inside, t.0, t.1)
 
-pub returns-then-number-ne0 : goal.returns-then-number-ne0
-returns-then-number-ne0 c =
-    let l = c.loop-state in
-    c.refused-then-number-ne0.ensures
-    ∙ ap scan_of (turn-fault l.invariant.0 c.loop-state-test.true c.taken-took.ensures.0 c.if-number-ne0.true)
+pub returns-in_err-took : goal.returns-in_err-took
+returns-in_err-took c =
+    let p = err_from_is_err_and c.from_residual.result c.from_residual.ensures.1 in
+    let e = c.in_err-took.ensures.takes in
+    let none : fault_at c.args.bytes.now c.loop-state.at (field_of c.loop-state.state) ≡ 0 → ⊥ = λ z. number-some _ (e ∙ z) in
+    rw (p.1, p.2) (refusal-told _ (ap fault e ∙ turn-fault c.loop-state.invariant.0 c.loop-state-test.true refl none))
 
 pub bounds-fixed-place : goal.bounds-fixed-place
 bounds-fixed-place c = omega (arith, c.loop-state-test.true)
 
 pub overflow_add-at : goal.overflow_add-at
-overflow_add-at c = omega (arith, c.loop-state.invariant.0.near, c.loop-state-test.true, c.taken-took.ensures.1)
+overflow_add-at c = omega (arith, c.loop-state.invariant.0.near, c.loop-state-test.true, c.in_ok-took.ensures.narrow)
 
 pub next-state-requires : goal.next-state-requires
 next-state-requires c =
@@ -79,7 +84,7 @@ module _ (c : After-next-state) where
   further =
       let st = c.loop-state.state in
       ap (λ (s : State). s.place) c.next-state.ensures
-      ∙ next_place st c.taken-took.result.value
+      ∙ next_place st c.in_ok-took.took.value
       ∙ place_inner st.place (λ e. omega (arith, c.loop-state-test.true))
 
 pub loop-state-smaller : goal.loop-state-smaller
@@ -89,13 +94,12 @@ pub loop-state-preserved : goal.loop-state-preserved
 loop-state-preserved c =
     let l = c.loop-state in
     let h = c.loop-state-test.true in
-    let t = c.taken-took.ensures in
-    let none = c.if-number-ne0.false in
+    let t = c.in_ok-took.ensures in
     let k = c.read_field-kind in
     let en = c.next-state.ensures in (
-      turn_on l.invariant.0 h t.0 none t.1 en,
-      turn-rowed l.invariant.0 h t.0 none k.result _ l.invariant.1 (k.ensures ∙ field_by_bytes_lem _ _ _) en,
-      λ e. turn-said l.invariant.0 h t.0 none l.invariant.1 en e,
+      turn_on l.invariant.0 h t.takes refl t.narrow en,
+      turn-rowed l.invariant.0 h t.takes refl k.result _ l.invariant.1 (k.ensures ∙ field_by_bytes_lem _ _ _) en,
+      λ e. turn-said l.invariant.0 h t.takes refl l.invariant.1 en e,
     )
 
 -- all fixed fields are read: the next is an entry's first, and how many entries there are is said
@@ -142,19 +146,19 @@ module _ (c : After-behind_key-behind) where
 pub overflow_add-behind : goal.overflow_add-behind
 overflow_add-behind c = let slim = (behind-is (goal.at.overflow_add-behind c).After-behind_key-behind).1 in omega (arith, slim.badge, slim.number)
 
-pub rest_fault-number-requires : goal.rest_fault-number-requires
-rest_fault-number-requires c =
+pub rest_fault-requires : goal.rest_fault-requires
+rest_fault-requires c =
     let l = c.loop-state in
-    let b = behind-is (goal.at.rest_fault-number-requires c).After-behind_key-behind in
-    (rest-asked l.invariant.0 (ahead (goal.at.rest_fault-number-requires c).After-loop-state) (said (goal.at.rest_fault-number-requires c).After-loop-state) (many (goal.at.rest_fault-number-requires c).After-entries_in-entries) b.0 b.1, l.invariant.0.inside)
+    let b = behind-is (goal.at.rest_fault-requires c).After-behind_key-behind in
+    (rest-asked l.invariant.0 (ahead (goal.at.rest_fault-requires c).After-loop-state) (said (goal.at.rest_fault-requires c).After-loop-state) (many (goal.at.rest_fault-requires c).After-entries_in-entries) b.0 b.1, l.invariant.0.inside)
 
-pub returns-then-number-ne0-2 : goal.returns-then-number-ne0-2
-returns-then-number-ne0-2 c =
-    c.refused-then-number-ne0-2.ensures
-    ∙ ap scan_of
-    (rest-refused c.loop-state.invariant.0 (ahead (goal.at.returns-then-number-ne0-2 c).After-loop-state) (said (goal.at.returns-then-number-ne0-2 c).After-loop-state) (many (goal.at.returns-then-number-ne0-2 c).After-entries_in-entries) (behind-is (goal.at.returns-then-number-ne0-2 c).After-behind_key-behind).0
-    c.rest_fault-number.ensures
-    c.if-number-ne0-2.true)
+pub returns-in_err-rest_fault : goal.returns-in_err-rest_fault
+returns-in_err-rest_fault c =
+    let p = err_from_is_err_and c.from_residual-in_err-rest_fault.result c.from_residual-in_err-rest_fault.ensures.1 in
+    rw (p.1, p.2) (refusal-told _
+    (rest-refused c.loop-state.invariant.0 (ahead (goal.at.returns-in_err-rest_fault c).After-loop-state) (said (goal.at.returns-in_err-rest_fault c).After-loop-state) (many (goal.at.returns-in_err-rest_fault c).After-entries_in-entries) (behind-is (goal.at.returns-in_err-rest_fault c).After-behind_key-behind).0
+    c.in_err-rest_fault.ensures
+    (number-some _)))
 
 pub overflow_mul-result : goal.overflow_mul-result
 overflow_mul-result c = omega (arith, many (goal.at.overflow_mul-result c).After-entries_in-entries, said_few (said (goal.at.overflow_mul-result c).After-loop-state))
@@ -165,5 +169,5 @@ overflow_add-result c = omega (arith, many (goal.at.overflow_add-result c).After
 pub returns : goal.returns
 returns c =
     rest_read c.loop-state.invariant.0 (ahead (goal.at.returns c).After-loop-state) (said (goal.at.returns c).After-loop-state) (many (goal.at.returns c).After-entries_in-entries) (behind-is (goal.at.returns c).After-behind_key-behind).0
-    c.rest_fault-number.ensures
-    c.if-number-ne0-2.false
+    c.in_ok-rest_fault.ensures
+    refl

@@ -1,61 +1,63 @@
--- The first fault of the entries that are left is that of all, and they end where all end.
-use mathlib.Core.Path.{◌≡◌, refl, ◌∙◌}
-use Prim.Native.Nat.{◌+◌, ◌-◌, ◌*◌}
-use native.Mathlib.Omega.{arith}
+-- The first fault of the entries that are left is that of all.
+use Rattle.std.proofs.Common.{◌≡◌, ℕ, ◌+◌, ◌-◌, ◌*◌, ◌≤◌, refl, ap, ap₂, ◌∙◌, arith}
+use Rattle.std.proofs.lemmas.Result.{err_from_is_err_and}
+use native.Mathlib.Nat.{mul-le-mul, suc-mul}
+use native.Mathlib.Numerals.{add-one}
 use Rattle.frame_table.specs.Entry.{key_bits}
-use Rattle.formats.specs.Judging.{entries_stop, entries_on, entries-end, entry_more}
-use Rattle.frame_faults.proofs.entries_fault.Goals.{In-loop-left}
+use Rattle.frame_table.specs.Columns.{most_bits}
+use Rattle.formats.specs.Results.{number-some}
+use Rattle.formats.specs.Judging.{entries_fault, entries_stop, entries_on, entries-end}
+use Rattle.frame_faults.proofs.entries_fault.Goals.{In-loop-i}
 use Rattle.frame_faults.proofs.entries_fault.Goals as goal
 
-pub loop-left-init : goal.loop-left-init
-loop-left-init c = (refl, refl, omega arith)
-
 -- an entry is left, and its bits are few
-module _ (c : In-loop-left) where
-  bits_left :
-      let l = c.loop-left in
+module _ (c : In-loop-i) where
+  more :
+      let bits = key_bits + c.args.width in
+      (c.loop-i.i + 1) * bits ≡ c.loop-i.i * bits + bits
+  more = let bits = key_bits + c.args.width in ap (λ n. n * bits) (add-one c.loop-i.i) ∙ suc-mul c.loop-i.i bits
+
+  room :
       let a = c.args in
-      l.left * (key_bits + a.width) ≡ (key_bits + a.width) + (l.left - 1) * (key_bits + a.width)
-  bits_left = let l = c.loop-left in entry_more l.left c.args.width c.loop-left-test.true
+      a.first + (c.loop-i.i + 1) * (key_bits + a.width) ≤ most_bits
+  room =
+      let a = c.args in
+      let h : (c.loop-i.i + 1) * (key_bits + a.width) ≤ a.entries * (key_bits + a.width) =
+      mul-le-mul (omega (arith, c.loop-i-test.true)) (omega arith) in
+      omega (arith, h, c.requires.near)
 
-pub entry_fault-fault-requires : goal.entry_fault-fault-requires
-entry_fault-fault-requires c =
-    let l = c.loop-left in
-    let p = c.requires in (
-      omega (arith, l.invariant.1, bits_left c, p.near),
-      record {
-        near = omega (arith, l.invariant.1, bits_left c, p.near);
-        narrow = p.narrow;
-        masked = p.masked (omega (arith, l.invariant.2, c.loop-left-test.true));
-      },
-    )
+pub loop-i-init : goal.loop-i-init
+loop-i-init c = ap₂ (λ b n. entries_fault c.args.bytes.now b c.args.width c.args.least n) (omega arith) (omega arith)
 
-pub returns-then-fault-ne0 : goal.returns-then-fault-ne0
-returns-then-fault-ne0 c =
-    let l = c.loop-left in
-    let a = c.args in
-    entries_stop a.bytes.now l.at a.width a.least l.left c.loop-left-test.true c.entry_fault-fault.ensures
-    c.if-fault-ne0.true
-    ∙ l.invariant.0
-
-pub overflow_add-at-in-loop-left : goal.overflow_add-at-in-loop-left
-overflow_add-at-in-loop-left c =
+pub entry_fault-requires : goal.entry_fault-requires
+entry_fault-requires c =
     let p = c.requires in
-    omega (arith, c.loop-left.invariant.1, bits_left (goal.at.overflow_add-at-in-loop-left c).In-loop-left, p.near)
+    let r = room (goal.at.entry_fault-requires c).In-loop-i in
+    let z = more (goal.at.entry_fault-requires c).In-loop-i in
+    (omega (arith, r, z),
+    record { near = omega (arith, r, z); narrow = p.narrow; masked = p.masked (omega (arith, c.loop-i-test.true)) })
 
-pub loop-left-preserved : goal.loop-left-preserved
-loop-left-preserved c =
-    let l = c.loop-left in
-    let a = c.args in (
-      entries_on a.bytes.now l.at a.width a.least l.left c.loop-left-test.true c.entry_fault-fault.ensures
-          c.if-fault-ne0.false
-          ∙ l.invariant.0,
-      omega (arith, l.invariant.1, bits_left (goal.at.loop-left-preserved c).In-loop-left),
-      omega (arith, l.invariant.2),
-    )
+pub returns-in_err-entry_fault : goal.returns-in_err-entry_fault
+returns-in_err-entry_fault c =
+    let l = c.loop-i in
+    let a = c.args in
+    let p = err_from_is_err_and c.from_residual.result c.from_residual.ensures.1 in
+    rw (p.1, p.2)
+    (entries_stop a.bytes.now _ a.width a.least (a.entries - l.i) (omega (arith, c.loop-i-test.true)) c.in_err-entry_fault.ensures
+    (number-some _)
+    ∙ l.invariant)
+
+pub loop-i-preserved : goal.loop-i-preserved
+loop-i-preserved c =
+    let l = c.loop-i in
+    let a = c.args in
+    ap₂ (λ b n. entries_fault a.bytes.now b a.width a.least n)
+    (omega (arith, more (goal.at.loop-i-preserved c).In-loop-i)) (omega arith)
+    ∙ entries_on a.bytes.now _ a.width a.least (a.entries - l.i) (omega (arith, c.loop-i-test.true)) c.in_ok-entry_fault.ensures refl
+    ∙ l.invariant
 
 pub returns : goal.returns
 returns c =
-    let l = c.loop-left in
+    let l = c.loop-i in
     let a = c.args in
-    entries-end a.bytes.now l.at a.width a.least l.left (omega (arith, c.loop-left-test.false)) ∙ l.invariant.0
+    entries-end a.bytes.now _ a.width a.least (a.entries - l.i) (omega (arith, c.loop-i-test.false)) ∙ l.invariant

@@ -66,11 +66,5 @@ overflow_add-at-in-loop-i-2 c = omega (arith, here (goal.at.overflow_add-at-in-l
 pub overflow_add-at-in-loop-i-3 : goal.overflow_add-at-in-loop-i-3
 overflow_add-at-in-loop-i-3 c = omega (arith, here (goal.at.overflow_add-at-in-loop-i-3 c).In-loop-i, c.requires.1)
 
-pub overflow_add-i : goal.overflow_add-i
-overflow_add-i c = omega arith
-
-pub loop-i-smaller : goal.loop-i-smaller
-loop-i-smaller c = omega arith
-
 pub shape_of-badges : goal.shape_of-badges
 shape_of-badges c = c.loop-i.invariant.1.kept

@@ -107,12 +107,6 @@ overflow_add-at-in-loop-i-3 c = omega (arith, (here (goal.at.overflow_add-at-in-
 pub overflow_add-at-in-loop-i-4 : goal.overflow_add-at-in-loop-i-4
 overflow_add-at-in-loop-i-4 c = omega (arith, (here (goal.at.overflow_add-at-in-loop-i-4 c).In-loop-i).1)
 
-pub overflow_add-i : goal.overflow_add-i
-overflow_add-i c = omega arith
-
-pub loop-i-smaller : goal.loop-i-smaller
-loop-i-smaller c = omega arith
-
 pub shape_of-keys : goal.shape_of-keys
 shape_of-keys c = c.loop-i.invariant.1.kept
 
