@@ -9,7 +9,7 @@ use Rattle.formats.specs.declared.state.State.{State}
 use Rattle.formats.specs.Grammar.{good, frame}
 use Rattle.formats.specs.Format.{width_of, field_of, within, allowed, next_of, format}
 use Rattle.formats.specs.FormatLaws.{Rowed, rowed-next}
-use Rattle.format_writing.specs.declared.Wrote.{Wrote}
+use Rattle.format_writing.specs.Wrote.{Wrote}
 
 -- ---- definitions
 

@@ -12,11 +12,13 @@ ghost use Rattle.formats.specs.Entries.{values_by};
 ghost use Rattle.frame_table.specs.Columns.{most_bits, Packable};
 ghost use Rattle.frame_table.specs.Entry.{badge_width, Slim, entry_bits};
 ghost use Rattle.format_writing.specs.Writing.{wrote_of, bytes_after};
+ghost use Rattle.format_writing.specs.Results.{wrote_by};
 ghost use Rattle.formats.specs.Walk.{first_bit};
 ghost use Rattle.format_writing.specs.Laying.{Layable};
 ghost use Rattle.format_writing.specs.Packing.{right_at, key_right, number_right, badge_of, entries_right, laid_to};
 ghost use Rattle.format_writing.specs.Packing.{entry_laid, entries_laid, FixedIn, Beside, EntriesIn};
 
+use causes::Refusal;
 use formats::state;
 use formats::state::State;
 use frame_table::{
@@ -66,8 +68,7 @@ fn fixed_right(row: &[u8; PLACES], fixed: &[u32; FIXED_FIELDS]) -> bool
     ensures { result ≡ all_below (right_at fixed.now) fixed_fields }
 {
     let mut state = state::first();
-    while state.place < FIXED_FIELDS {
-        let place = state.place;
+    for place in 0..FIXED_FIELDS {
         let sort = row[place];
         let value = fixed[place];
         if !may_have(sort, state, value) {
@@ -129,8 +130,7 @@ fn entries_right(
     requires { Beside behind entries (length keys.now) (length badges.now) (length numbers.now) }
     ensures { result ≡ entries_right behind keys.now badges.now numbers.now 0 entries }
 {
-    let mut i: usize = 0;
-    while i < entries {
+    for i in 0..entries {
         if !key_right(keys[i]) {
             return false;
         }
@@ -140,7 +140,6 @@ fn entries_right(
         if !number_right(numbers[i], behind.width, behind.least) {
             return false;
         }
-        i += 1;
     }
     true
 }
@@ -168,16 +167,6 @@ fn writable(
     entries_right(behind, keys, badges, numbers, entries)
 }
 
-fn clear(bytes: &mut [u8])
-    ensures { bytes.new ≡ zeros (length bytes.old) }
-{
-    let mut i: usize = 0;
-    while i < bytes.len() {
-        bytes[i] = 0;
-        i += 1;
-    }
-}
-
 // A value in the field at a bit: how many bits that has; `sort` is what it holds. One that the kind lacks has none.
 fn lay_field(sort: u8, at: usize, value: u32, bytes: &mut [u8]) -> usize
     requires { (sort < sorts) × (at + bits_of sort ≤ 8 * length bytes.old) }
@@ -198,11 +187,9 @@ fn lay_fixed(row: &[u8; PLACES], fixed: &[u32; FIXED_FIELDS], bytes: &mut [u8]) 
     ensures { (result ≡ first_bit fixed.now fixed_fields)
         × (bytes.new ≡ laid_to fixed.now bytes.old fixed_fields) }
 {
-    let mut at: usize = 0;
-    let mut place: usize = 0;
-    while place < FIXED_FIELDS {
+    let mut at = 0;
+    for place in 0..FIXED_FIELDS {
         at += lay_field(row[place], at, fixed[place], bytes);
-        place += 1;
     }
     at
 }
@@ -254,11 +241,9 @@ fn lay_entries(
         ≡ entries_laid behind keys.now badges.now numbers.now 0 entries bytes.old first }
 {
     let mut at = first;
-    let mut i: usize = 0;
-    while i < entries {
+    for i in 0..entries {
         lay_entry(at, behind, keys[i], badges, i, numbers[i], bytes);
         at += KEY_BITS + behind.badge + behind.width;
-        i += 1;
     }
 }
 
@@ -277,17 +262,10 @@ fn fill(
         ≡ lay format (values_by fixed.now keys.now badges.now numbers.now entries)
         (zeros (length bytes.old)) 0 }
 {
-    clear(bytes);
+    bytes.fill(0);
     let first = lay_fixed(row, fixed, bytes);
     let behind = frame_table::behind_key(row[ENTRY_BADGE], row[NUMBER]);
     lay_entries(first, behind, keys, badges, numbers, entries, bytes);
-}
-
-// What writing did: the number that refuses it, or 0 and the frame's length in bytes.
-#[derive(Clone, Copy)]
-pub struct Wrote {
-    pub fault: u8,
-    pub length: usize,
 }
 
 // The frame of the fixed values and of so many entries at the front of the bytes: 11 where they are no frame's values, then 12 where
@@ -299,9 +277,9 @@ pub fn write_values(
     numbers: &[u32],
     entries: usize,
     bytes: &mut [u8],
-) -> Wrote
+) -> Result<usize, Refusal>
     requires { Packable fixed.now keys.now badges.now numbers.now entries }
-    ensures { (result
+    ensures { (wrote_by result
         ≡ wrote_of (values_by fixed.now keys.now badges.now numbers.now entries)
         bytes.old)
         × (bytes.new
@@ -310,25 +288,16 @@ pub fn write_values(
 {
     let kind = fixed[0];
     if LAST_KIND < kind {
-        return Wrote {
-            fault: 11,
-            length: 0,
-        };
+        return Err(Refusal::Malformed);
     }
     let shape = frame_table::shape_of(kind);
     let row = frame_table::row_of(kind, frame_table::target_of(shape));
     if !writable(&row, fixed, keys, badges, numbers, entries) {
-        return Wrote {
-            fault: 11,
-            length: 0,
-        };
+        return Err(Refusal::Malformed);
     }
     let length = frame_table::frame_length(shape, entries);
     if bytes.len() < length {
-        return Wrote {
-            fault: 12,
-            length: 0,
-        };
+        return Err(Refusal::NoRoom);
     }
     fill(
         &row,
@@ -339,8 +308,5 @@ pub fn write_values(
         entries,
         &mut bytes[..length],
     );
-    Wrote {
-        fault: 0,
-        length: length,
-    }
+    Ok(length)
 }

@@ -7,7 +7,7 @@ use Rattle.ranges.specs.Tests.{by-test, both_right}
 use Rattle.ranges.specs.Laid.{laid}
 use Rattle.ranges.specs.LaidLaws.{built-same, laid_none}
 use Rattle.formats.specs.Scan.{Scan}
-use Rattle.format_writing.specs.declared.Wrote.{Wrote}
+use Rattle.format_writing.specs.Wrote.{Wrote}
 use Rattle.formats.specs.Grammar.{Outcome, got, fault, good, frame}
 use Rattle.formats.specs.RoundTrip.{read-good}
 use Rattle.frame_table.specs.Table.{most_entries, fixed_fields, entries_said, has_badges}

@@ -6,6 +6,3 @@ use Rattle.format_writing.proofs.entries_right.Given as goal
 
 abbrev pub invariant-loop-i : goal.invariant-loop-i
 invariant-loop-i l = (l.i ≤ l.entries) × (entries_right l.behind l.keys l.badges l.numbers l.i (l.entries - l.i) ≡ entries_right l.behind l.keys l.badges l.numbers 0 l.entries)
-
-abbrev pub decreases-loop-i : goal.decreases-loop-i
-decreases-loop-i l = l.entries - l.i

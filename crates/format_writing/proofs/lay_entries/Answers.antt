@@ -100,9 +100,3 @@ returns c =
     laid_none a.behind a.keys.now a.badges.now a.numbers.now l.i (a.entries - l.i) l.at
     (omega (arith, c.loop-i-test.false))
     ∙ l.invariant.3
-
-pub overflow_add-i : goal.overflow_add-i
-overflow_add-i c = omega arith
-
-pub loop-i-smaller : goal.loop-i-smaller
-loop-i-smaller c = omega arith

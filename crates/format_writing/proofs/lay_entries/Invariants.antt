@@ -13,6 +13,3 @@ invariant-loop-i l = (l.i ≤ l.entries)
     × (l.at + (l.entries - l.i) * entry_bits l.behind ≡ l.first + l.entries * entry_bits l.behind)
     × (entries_laid l.behind l.keys l.badges l.numbers l.i (l.entries - l.i) l.bytes l.at ≡ entries_laid l.behind l.keys l.badges l.numbers 0 l.entries l.initial.bytes l.first)
     × (entries_right l.behind l.keys l.badges l.numbers l.i (l.entries - l.i) ≡ true)
-
-abbrev pub decreases-loop-i : goal.decreases-loop-i
-decreases-loop-i l = l.entries - l.i
