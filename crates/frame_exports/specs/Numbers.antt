@@ -3,10 +3,10 @@ use Rattle.std.specs.Prelude.{ℕ, ◌+◌, ◌*◌, ◌-◌, ◌≡◌}
 use Rattle.std.proofs.Common.{◌∙◌}
 use Rattle.frames.specs.declared.Message.{Message}
 use Rattle.frames.specs.declared.Message.TheVariants.{Set, SetDone, Enter, Entered, WhichKeys, Keys, Get, Got, GetAll, All, GetLog, Log}
-use Rattle.frames.specs.declared.Reading.{Reading}
-use Rattle.frames.specs.declared.Reading.TheVariants as reading
-use Rattle.frames.specs.declared.Written.{Written}
-use Rattle.frames.specs.declared.Written.TheVariants as written
+use Rattle.frames.specs.Reading.{Reading}
+use Rattle.frames.specs.Reading as reading
+use Rattle.frames.specs.Written.{Written}
+use Rattle.frames.specs.Written as written
 use Rattle.frame_exports.specs.declared.Parts.{Parts}
 
 -- 2^64 - 1 less the number of the refusal

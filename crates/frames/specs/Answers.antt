@@ -1,11 +1,15 @@
 -- What the code computes on the way, and that it comes to what the definitions say.
-use Rattle.std.specs.Prelude.{ℕ, ◌≤◌, ◌<◌, ◌≡◌, refl, Bool, true, false, not, ◌||◌, List, ◌++◌, eqb, leb, length, get_or, drop}
+use Rattle.std.specs.Prelude.{ℕ, ◌≤◌, ◌<◌, ◌≡◌, refl, Bool, true, false, not, ◌||◌, List, ◌++◌, eqb, leb, length, get_or, drop, Result, Ok, Err}
 use Rattle.std.proofs.Math.Path.{sym, ap, ap₂}
 use Rattle.std.proofs.Common.{◌∙◌, arith, get_or-take, le-leb, eq-eqb, ne_eqb}
 use Rattle.std.proofs.Math.Bool.{cond}
 use Rattle.ranges.specs.Tests.{by-test, both_right}
 use Rattle.ranges.specs.Laid.{laid}
 use Rattle.ranges.specs.LaidLaws.{built-same, laid_none}
+use Rattle.causes.specs.declared.Refusal.{Refusal}
+use Rattle.causes.specs.Numbers.{number_of}
+use Rattle.formats.specs.Results.{number-some}
+use Rattle.format_writing.specs.Results.{wrote_by}
 use Rattle.formats.specs.Scan.{Scan}
 use Rattle.format_writing.specs.Wrote.{Wrote}
 use Rattle.formats.specs.Grammar.{Outcome, got, fault, good, frame}
@@ -21,10 +25,11 @@ use Rattle.formats.specs.Walk.{entries_few}
 use Rattle.formats.specs.Found.{entries_bit, key_at, badge_at, number_at, key-found, badge-found, number-found, found_keyed}
 use Rattle.formats.specs.Found.{found_unpackable}
 use Rattle.frames.specs.declared.Message.{Message}
-use Rattle.frames.specs.declared.Reading.{Reading}
-use Rattle.frames.specs.declared.Reading.TheVariants as reading
-use Rattle.frames.specs.declared.Written.{Written}
-use Rattle.frames.specs.declared.Written.TheVariants.{Length, Refused}
+use Rattle.frames.specs.Reading.{Reading}
+use Rattle.frames.specs.Reading as reading
+use Rattle.frames.specs.Written.{Written}
+use Rattle.frames.specs.Written.{Length, Refused}
+use Rattle.frames.specs.Results.{length_by}
 use Rattle.frames.specs.Messages.{entries_of, fixed_of, message_of}
 use Rattle.frames.specs.MessageLaws.{Narrow, message_by}
 use Rattle.frames.specs.Entries.{values_of}
@@ -222,12 +227,10 @@ pub scan-found :
     → Got (found bytes) scan.fields scan.fixed
 scan-found bytes {scan} e z = scan-got (found bytes) scan (fault-some format bytes 0) e z
 
--- the cases of the writer's enum
-pub written-fault : (w : Wrote) → (w.fault ≡ 0 → ⊥) → Refused w.fault ≡ written_by w
-written-fault w d = rw (ne_eqb w.fault 0 d)
-
-pub written-length : (w : Wrote) → w.fault ≡ 0 → Length w.length ≡ written_by w
-written-length w e = rw (eq-eqb w.fault 0 e)
+-- what the writer of values returns, as an answer
+pub wrote-length : (r : Result ℕ Refusal) → length_by r ≡ written_by (wrote_by r)
+wrote-length (Ok n) = refl
+wrote-length (Err r) = sym (rw (ne_eqb (number_of r) 0 (number-some r)))
 
 -- a message's own fixed values and number of entries, as the code has them
 module _ (m : Message) (keys badges numbers : List ℕ) {fixed : List ℕ} {n : ℕ} (ef : fixed ≡ fixed_of m) (en : n ≡ entries_of m) where

@@ -5,10 +5,10 @@ use Rattle.frame_table.specs.Table.{has_badges}
 use Rattle.formats.specs.Format.{format}
 use Rattle.formats.specs.Entries.{key_in, badge_in, number_in, enough}
 use Rattle.frames.specs.declared.Message.{Message}
-use Rattle.frames.specs.declared.Reading.{Reading}
-use Rattle.frames.specs.declared.Reading.TheVariants as reading
-use Rattle.frames.specs.declared.Written.{Written}
-use Rattle.frames.specs.declared.Written.TheVariants as written
+use Rattle.frames.specs.Reading.{Reading}
+use Rattle.frames.specs.Reading as reading
+use Rattle.frames.specs.Written.{Written}
+use Rattle.frames.specs.Written as written
 use Rattle.ranges.specs.Laid.{laid}
 use Rattle.frames.specs.Messages.{entries_of, message_of}
 use Rattle.frames.specs.Entries.{kind_of, values_of}

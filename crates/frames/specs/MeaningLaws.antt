@@ -6,10 +6,10 @@ use Rattle.formats.specs.Grammar.{got, fault}
 use Rattle.frames.specs.declared.Message.{Message}
 use Rattle.frames.specs.declared.Message.TheVariants.{Set, SetDone, Enter, Entered, WhichKeys, Keys, Get, Got, GetAll, All, GetLog, Log}
 use Rattle.frames.specs.declared.Fixed.{Fixed}
-use Rattle.frames.specs.declared.Reading.{Reading}
-use Rattle.frames.specs.declared.Reading.TheVariants as reading
-use Rattle.frames.specs.declared.Written.{Written}
-use Rattle.frames.specs.declared.Written.TheVariants as written
+use Rattle.frames.specs.Reading.{Reading}
+use Rattle.frames.specs.Reading as reading
+use Rattle.frames.specs.Written.{Written}
+use Rattle.frames.specs.Written as written
 use Rattle.frames.specs.Messages.{message_at, message_of}
 use Rattle.frames.specs.Frames.{has_places, writable, frame_of, fits, written_of, reading_of}
 use Rattle.frames.specs.Meanings.{Meaning, accepted, refused_by, written_meaning, message_values, reading_meaning}

@@ -1,10 +1,10 @@
 -- What the answers of the reader and the writer mean: document 01's number where they refuse, else their values.
 use Rattle.std.specs.Prelude.{ℕ, List, [], ◌∷◌}
 use Rattle.frames.specs.declared.Message.{Message}
-use Rattle.frames.specs.declared.Reading.{Reading}
-use Rattle.frames.specs.declared.Reading.TheVariants as reading
-use Rattle.frames.specs.declared.Written.{Written}
-use Rattle.frames.specs.declared.Written.TheVariants as written
+use Rattle.frames.specs.Reading.{Reading}
+use Rattle.frames.specs.Reading as reading
+use Rattle.frames.specs.Written.{Written}
+use Rattle.frames.specs.Written as written
 use Rattle.frames.specs.Messages.{entries_of, fixed_of}
 
 -- the number of the refusal, 0 where there is none, and the values

@@ -19,7 +19,7 @@ use Rattle.frame_table.specs.Columns.{Places}
 use Rattle.formats.specs.Walk.{values_length}
 use Rattle.frames.specs.declared.Message.{Message}
 use Rattle.frames.specs.declared.Message.TheVariants.{Set, SetDone, Enter, Entered, WhichKeys, Keys, Get, Got, GetAll, All, GetLog, Log}
-use Rattle.frames.specs.declared.Reading.TheVariants.{Read, Refused}
+use Rattle.frames.specs.Reading.{Read, Refused}
 use Rattle.ranges.specs.Laid.{built, laid}
 use Rattle.ranges.specs.LaidLaws.{built-length, built_at, built-same, built-take, laid-length, laid_at}
 use Rattle.frames.specs.Messages.{entries_of, fixed_of, message_at, message_of}

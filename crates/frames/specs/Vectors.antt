@@ -9,8 +9,8 @@ use Rattle.formats.specs.Format.{field_of, within, left_after, place_after, next
 use Rattle.keys.specs.Keys.{key_of}
 use Rattle.frames.specs.declared.Message.{Message}
 use Rattle.frames.specs.declared.Message.TheVariants.{Set, Keys, Got, All}
-use Rattle.frames.specs.declared.Reading.{Reading}
-use Rattle.frames.specs.declared.Reading.TheVariants.{Read, Refused}
+use Rattle.frames.specs.Reading.{Reading}
+use Rattle.frames.specs.Reading.{Read, Refused}
 use Rattle.ranges.specs.Laid.{built}
 use Rattle.frames.specs.Messages.{message_at, message_of}
 use Rattle.formats.specs.Entries.{entry_value}

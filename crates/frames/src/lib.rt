@@ -4,15 +4,13 @@
 #![tactic(auto)]
 
 ghost use Rattle.std.specs.Prelude.{◌≡◌, ◌-◌};
-ghost use Rattle.formats.specs.Entries.{values_by};
-ghost use Rattle.frame_table.specs.Columns.{Packable};
 ghost use Rattle.formats.specs.Reading.{Got};
-ghost use Rattle.format_writing.specs.Writing.{wrote_of, bytes_after};
 ghost use Rattle.frames.specs.Frames.{reading_of, keys_read, badges_read, numbers_read, found, written_of, bytes_written};
-ghost use Rattle.frames.specs.Answers.{written_by};
+ghost use Rattle.frames.specs.Results.{reading_by, length_by};
 ghost use Rattle.frames.specs.Messages.{entries_of, fixed_of, message_at};
 ghost use Rattle.frames.specs.MessageLaws.{Narrow, fixed_by, message_by};
 
+use causes::Refusal;
 use frame_table::{ENTRY_FIELDS, FIXED_FIELDS, MOST_ENTRIES};
 use keys::Key;
 
@@ -75,20 +73,6 @@ pub enum Message {
         client: u8,
         entries: u32,
     },
-}
-
-// What reading gives: the message, or the number that refuses the bytes.
-#[derive(Clone, Copy)]
-pub enum Reading {
-    Read(Message),
-    Refused(u8),
-}
-
-// What writing gives: the frame's length in bytes, or the number that refuses the message.
-#[derive(Clone, Copy)]
-pub enum Written {
-    Length(usize),
-    Refused(u8),
 }
 
 // How many entries stand beside a message.
@@ -247,13 +231,13 @@ fn fixed_at(fixed: &[u32; FIXED_FIELDS], fields: usize) -> Fixed
     let badge = fixed[6] as u16;
     let entries = ((fields - FIXED_FIELDS) / ENTRY_FIELDS) as u32;
     Fixed {
-        client: client,
-        server: server,
-        tag: tag,
-        key: key,
-        badge: badge,
+        client,
+        server,
+        tag,
+        key,
+        badge,
         number: fixed[7],
-        entries: entries,
+        entries,
     }
 }
 
@@ -270,55 +254,55 @@ pub fn message_at(kind: u32, fixed: Fixed) -> Message
     let entries = fixed.entries;
     match kind {
         1 => Message::Set {
-            client: client,
-            server: server,
-            key: key,
-            badge: badge,
+            client,
+            server,
+            key,
+            badge,
             setpoint: number,
         },
         2 => Message::SetDone {
-            client: client,
-            server: server,
+            client,
+            server,
         },
         3 => Message::Enter {
-            client: client,
-            key: key,
+            client,
+            key,
             mask: number,
         },
         4 => Message::Entered {
-            client: client,
-            tag: tag,
+            client,
+            tag,
         },
-        5 => Message::WhichKeys { client: client },
+        5 => Message::WhichKeys { client },
         6 => Message::Keys {
-            client: client,
-            tag: tag,
-            entries: entries,
+            client,
+            tag,
+            entries,
         },
         7 => Message::Get {
-            client: client,
-            server: server,
-            key: key,
+            client,
+            server,
+            key,
         },
         8 => Message::Got {
-            client: client,
-            server: server,
-            badge: badge,
+            client,
+            server,
+            badge,
             setpoint: number,
         },
         9 => Message::GetAll {
-            client: client,
-            server: server,
+            client,
+            server,
         },
         10 => Message::All {
-            client: client,
-            server: server,
-            entries: entries,
+            client,
+            server,
+            entries,
         },
-        11 => Message::GetLog { client: client },
+        11 => Message::GetLog { client },
         _ => Message::Log {
-            client: client,
-            entries: entries,
+            client,
+            entries,
         },
     }
 }
@@ -339,9 +323,9 @@ fn deliver(
     keys: &mut [u32],
     badges: &mut [u32],
     numbers: &mut [u32],
-) -> Reading
+) -> Result<Message, Refusal>
     requires { Got (found bytes.now) fields fixed.now }
-    ensures { (result ≡ reading_of (found bytes.now) keys.old badges.old numbers.old)
+    ensures { (reading_by result ≡ reading_of (found bytes.now) keys.old badges.old numbers.old)
         × (keys.new ≡ keys_read (found bytes.now) keys.old badges.old numbers.old)
         × (badges.new ≡ badges_read (found bytes.now) keys.old badges.old numbers.old)
         × (numbers.new
@@ -350,14 +334,14 @@ fn deliver(
     let message = message_of(fixed, fields);
     let entries = entries_of(message) as usize;
     if entries == 0 {
-        return Reading::Read(message);
+        return Ok(message);
     }
     let kind = fixed[0];
     if !frame_entries::enough_places(kind, entries, keys.len(), badges.len(), numbers.len()) {
-        return Reading::Refused(12);
+        return Err(Refusal::NoRoom);
     }
     frame_entries::store(kind, bytes, keys, badges, numbers, entries);
-    Reading::Read(message)
+    Ok(message)
 }
 
 // Reads a frame: the message, and its entries at the front of the three lent slices; that of badges is left alone by kinds that have none.
@@ -367,47 +351,15 @@ pub fn read_frame(
     keys: &mut [u32],
     badges: &mut [u32],
     numbers: &mut [u32],
-) -> Reading
-    ensures { (result ≡ reading_of (found bytes.now) keys.old badges.old numbers.old)
+) -> Result<Message, Refusal>
+    ensures { (reading_by result ≡ reading_of (found bytes.now) keys.old badges.old numbers.old)
         × (keys.new ≡ keys_read (found bytes.now) keys.old badges.old numbers.old)
         × (badges.new ≡ badges_read (found bytes.now) keys.old badges.old numbers.old)
         × (numbers.new
         ≡ numbers_read (found bytes.now) keys.old badges.old numbers.old) }
 {
-    let scan = format_reading::scan_frame(bytes);
-    let fault = scan.fault;
-    let fields = scan.fields;
-    let fixed = scan.fixed;
-    if fault != 0 {
-        return Reading::Refused(fault);
-    }
-    deliver(bytes, &fixed, fields, keys, badges, numbers)
-}
-
-// The frame of a message whose entries are there, with the answer as an enum.
-fn send(
-    fixed: &[u32; FIXED_FIELDS],
-    keys: &[u32],
-    badges: &[u32],
-    numbers: &[u32],
-    entries: usize,
-    bytes: &mut [u8],
-) -> Written
-    requires { Packable fixed.now keys.now badges.now numbers.now entries }
-    ensures { (result
-        ≡ written_by (wrote_of (values_by fixed.now keys.now badges.now numbers.now entries)
-        bytes.old))
-        × (bytes.new
-        ≡ bytes_after (values_by fixed.now keys.now badges.now numbers.now entries)
-        bytes.old) }
-{
-    let wrote = format_writing::write_values(fixed, keys, badges, numbers, entries, bytes);
-    let refusal = wrote.fault;
-    let length = wrote.length;
-    if refusal != 0 {
-        return Written::Refused(refusal);
-    }
-    Written::Length(length)
+    let scan = format_reading::scan_frame(bytes)?;
+    deliver(bytes, &scan.fixed, scan.fields, keys, badges, numbers)
 }
 
 // Writes a message with its entries, the first of the three slices: the frame stands at the front of the lent bytes.
@@ -418,8 +370,8 @@ pub fn write_frame(
     badges: &[u32],
     numbers: &[u32],
     bytes: &mut [u8],
-) -> Written
-    ensures { (result ≡ written_of message keys.now badges.now numbers.now bytes.old)
+) -> Result<usize, Refusal>
+    ensures { (length_by result ≡ written_of message keys.now badges.now numbers.now bytes.old)
         × (bytes.new
         ≡ bytes_written message keys.now badges.now numbers.now bytes.old) }
 {
@@ -427,14 +379,14 @@ pub fn write_frame(
     let fixed = fixed_of(message);
     // No entries need no places.
     if entries == 0 {
-        return send(&fixed, keys, badges, numbers, entries, bytes);
+        return format_writing::write_values(&fixed, keys, badges, numbers, entries, bytes);
     }
     let kind = fixed[0];
     if !frame_entries::enough_places(kind, entries, keys.len(), badges.len(), numbers.len()) {
-        return Written::Refused(11);
+        return Err(Refusal::Malformed);
     }
     if MOST_ENTRIES < entries {
-        return Written::Refused(11);
+        return Err(Refusal::Malformed);
     }
-    send(&fixed, keys, badges, numbers, entries, bytes)
+    format_writing::write_values(&fixed, keys, badges, numbers, entries, bytes)
 }

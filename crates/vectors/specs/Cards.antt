@@ -9,7 +9,7 @@ use Rattle.rules.specs.declared.Delivered.{Delivered}
 use Rattle.rules.specs.Choice.{chosen_tag}
 use Rattle.refusals.specs.Steps.{open', begin_write, begin_read, deliver_reply}
 use Rattle.frames.specs.declared.Message.TheVariants.{Set}
-use Rattle.frames.specs.declared.Reading.TheVariants.{Read, Refused}
+use Rattle.frames.specs.Reading.{Read, Refused}
 use Rattle.frames.specs.Frames.{frame_of}
 use Rattle.frames.specs.Vectors as frame
 use Rattle.vectors.specs.Presses.{blank, opening_setpoints, setpoints_a, badge_a, badge_b, opened, after, busy, overtaken, swapped}

@@ -15,7 +15,7 @@ use Rattle.rules.specs.Common.{writing, entering, asking_keys, asking_setpoints,
 use Rattle.refusals.specs.Refusals.{is_target}
 use Rattle.frames.specs.declared.Message.{Message}
 use Rattle.frames.specs.declared.Message.TheVariants.{Set, SetDone, Enter, Entered, WhichKeys, Keys, Get, Got, GetAll, GetLog}
-use Rattle.frames.specs.declared.Written.{Written}
+use Rattle.frames.specs.Written.{Written}
 use Rattle.frames.specs.Frames.{written_of, bytes_written}
 use Rattle.ranges.specs.Laid.{built}
 use Rattle.ranges.specs.LaidLaws.{built-same, built-take}

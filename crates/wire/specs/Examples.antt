@@ -20,7 +20,7 @@ use Rattle.rules.specs.Request.{on_new_set, on_set, on_new_enter, on_enter, on_w
 use Rattle.rules.specs.Reply.{on_set_done, on_entered, on_keys, on_got, on_all, on_reply_in, reply_delivered}
 use Rattle.rules.specs.Loss.{link_lost}
 use Rattle.frames.specs.declared.Message.TheVariants.{Set, SetDone, Enter, Entered, WhichKeys, Keys, Get, Got, GetAll, All, GetLog, Log}
-use Rattle.frames.specs.declared.Written.TheVariants.{Length, Refused}
+use Rattle.frames.specs.Written.{Length, Refused}
 use Rattle.ranges.specs.Laid.{built}
 use Rattle.formats.specs.Entries.{entry_value}
 use Rattle.frames.specs.Entries.{values_of}

@@ -3,8 +3,8 @@ use Rattle.std.specs.Prelude.{ℕ, Bool, cond, not, ◌||◌, List, ◌++◌, le
 use Rattle.tables.specs.Tables.{Tables, clients_of}
 use Rattle.soundness.specs.Sound.{sound}
 use Rattle.refusals.specs.Refusals.{is_target}
-use Rattle.frames.specs.declared.Written.{Written}
-use Rattle.frames.specs.declared.Written.TheVariants.{Length, Refused}
+use Rattle.frames.specs.Written.{Written}
+use Rattle.frames.specs.Written.{Length, Refused}
 use Rattle.frames.specs.Meanings.{Meaning, written_meaning}
 use Rattle.frames.specs.Frames.{frame_of, fits}
 use Rattle.wire.specs.OnLink.{OnLink, empty, carries, on_link}

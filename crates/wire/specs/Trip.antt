@@ -19,8 +19,8 @@ use Rattle.tables.specs.declared.links.Content.{Content}
 use Rattle.tables.specs.declared.links.Content.TheVariants.{Nothing, Request, Reply, Lost}
 use Rattle.soundness.specs.Facts.{Sound, facts-sound}
 use Rattle.frames.specs.declared.Message.{Message}
-use Rattle.frames.specs.declared.Reading.TheVariants.{Read}
-use Rattle.frames.specs.declared.Written.TheVariants.{Length, Refused}
+use Rattle.frames.specs.Reading.{Read}
+use Rattle.frames.specs.Written.{Length, Refused}
 use Rattle.ranges.specs.LaidLaws.{built-length, built-same}
 use Rattle.frames.specs.Messages.{entries_of, fixed_of}
 use Rattle.formats.specs.Entries.{entry_value}

@@ -1,7 +1,7 @@
 -- A number that is the answer's, beside what the lent slice holds, is what the call leaves in numbers.
 use Rattle.std.specs.Prelude.{ℕ, ◌≡◌, List}
 use Rattle.std.proofs.Common.{◌∙◌, ap}
-use Rattle.frames.specs.declared.Written.{Written}
+use Rattle.frames.specs.Written.{Written}
 use Rattle.listing.specs.Listed.{Listed}
 use Rattle.listing.specs.Register.{Listing, listing}
 use Rattle.wire.specs.Sending.{Sent, sent}

@@ -1,7 +1,7 @@
 -- Answers as the numbers by which they cross to other languages.
 use Rattle.std.specs.Prelude.{ℕ, ◌-◌, List}
-use Rattle.frames.specs.declared.Written.{Written}
-use Rattle.frames.specs.declared.Written.TheVariants as written
+use Rattle.frames.specs.Written.{Written}
+use Rattle.frames.specs.Written as written
 use Rattle.listing.specs.Listed.{Listed}
 use Rattle.listing.specs.Listed as listed
 use Rattle.listing.specs.Register.{Listing}
