@@ -2,7 +2,7 @@
 #![tactic(auto)]
 
 ghost use Rattle.std.specs.Prelude.{◌≡◌, ◌+◌, ◌≤◌, length};
-ghost use Rattle.tables.specs.Tables.{tables_of};
+ghost use Rattle.tables.specs.Lent.{tables_in, SameLent};
 ghost use Rattle.schedule.specs.Steps.{setpoints_most, step_of, stored};
 ghost use Rattle.printing.specs.Printed.{Printed};
 ghost use Rattle.printing.specs.Sizes.{answer_most};
@@ -11,41 +11,18 @@ ghost use Rattle.playing.specs.Playable.{Playable};
 
 use playing::Shown;
 use printing::Servers;
+use tables::lent::Press;
 
 // One line of a schedule: the step that it names. The place that is lent for its setpoints holds them then.
-fn play_named(
-    counts: &mut [u32],
-    clients: &mut [u32],
-    links: &mut [u32],
-    keys: &mut [u32],
-    values: &mut [u32],
-    log: &mut [u32],
-    writes: &mut [u32],
-    reads: &mut [u32],
-    line: &[u8],
-    setpoints: &mut [u32],
-) -> Shown
-    requires playable { Playable (tables_of counts.old clients.old links.old keys.old values.old log.old writes.old reads.old) }
+fn play_named(press: &mut Press, line: &[u8], setpoints: &mut [u32]) -> Shown
+    requires playable { Playable (tables_in press.old) }
     requires setpoints_most_in_bounds { setpoints_most ≤ length setpoints.old }
-    ensures reads_after { showing result (tables_of counts.new clients.new links.new keys.new values.new log.new writes.new reads.new)
-        ≡ played_line line.now (tables_of counts.old clients.old links.old keys.old values.old log.old writes.old reads.old) }
+    ensures same { SameLent press.old press.new }
+    ensures reads_after { showing result (tables_in press.new) ≡ played_line line.now (tables_in press.old) }
     ensures setpoints_after { setpoints.new ≡ stored (step_of line.now).setpoints setpoints.old }
 {
     let reading = step_reading::read_step(line, setpoints);
-    let step = reading.step;
-    let given = reading.setpoints;
-    step_playing::play_step(
-        counts,
-        clients,
-        links,
-        keys,
-        values,
-        log,
-        writes,
-        reads,
-        step,
-        &setpoints[..given],
-    )
+    step_playing::play_step(press, reading.step, &setpoints[..reading.setpoints])
 }
 
 // The answer of a line, in print. Only where servers are shown are their rows looked at.
@@ -69,28 +46,20 @@ fn print_shown(number: u64, shown: Shown, out: &mut [u8], at: usize) -> usize
 // One line of a schedule: its step, and its answer behind what is printed so far. It answers where the print ends then. The place that is
 // lent for the line's setpoints holds them then; what it held before is of no account.
 pub fn play_line(
-    counts: &mut [u32],
-    clients: &mut [u32],
-    links: &mut [u32],
-    keys: &mut [u32],
-    values: &mut [u32],
-    log: &mut [u32],
-    writes: &mut [u32],
-    reads: &mut [u32],
+    press: &mut Press,
     number: u64,
     line: &[u8],
     setpoints: &mut [u32],
     out: &mut [u8],
     at: usize,
 ) -> usize
-    requires playable { Playable (tables_of counts.old clients.old links.old keys.old values.old log.old writes.old reads.old) }
+    requires playable { Playable (tables_in press.old) }
     requires setpoints_most_in_bounds { setpoints_most ≤ length setpoints.old }
     requires answer_most_in_bounds { at + answer_most ≤ length out.old }
-    ensures line_played { LinePlayed number line.now (tables_of counts.old clients.old links.old keys.old values.old log.old writes.old reads.old) out.old at result out.new (tables_of counts.new clients.new links.new keys.new values.new log.new writes.new reads.new) }
+    ensures same { SameLent press.old press.new }
+    ensures line_played { LinePlayed number line.now (tables_in press.old) out.old at result out.new (tables_in press.new) }
     ensures setpoints_after { setpoints.new ≡ stored (step_of line.now).setpoints setpoints.old }
 {
-    let shown = play_named(
-        counts, clients, links, keys, values, log, writes, reads, line, setpoints,
-    );
+    let shown = play_named(press, line, setpoints);
     print_shown(number, shown, out, at)
 }

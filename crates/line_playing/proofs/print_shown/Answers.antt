@@ -15,21 +15,3 @@ returns-then-not-shows_servers c =
       rw (← answer_plain a.number s.word s.mask s.setpoints s.tags s.badges plain) printed.0,
       printed.1,
     )
-
-pub slice_bounds-print_answer-end : goal.slice_bounds-print_answer-end
-slice_bounds-print_answer-end c = search rules
-
-pub slice_bounds-print_answer-end-2 : goal.slice_bounds-print_answer-end-2
-slice_bounds-print_answer-end-2 c = search rules
-
-pub slice_bounds-print_answer-end-3 : goal.slice_bounds-print_answer-end-3
-slice_bounds-print_answer-end-3 c = search rules
-
-pub shape_of-out-then-not-shows_servers : goal.shape_of-out-then-not-shows_servers
-shape_of-out-then-not-shows_servers c = search
-
-pub shape_of-out : goal.shape_of-out
-shape_of-out c = search
-
-pub returns : goal.returns
-returns c = search
