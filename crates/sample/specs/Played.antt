@@ -3,7 +3,7 @@
 use Rattle.std.specs.Prelude.{ℕ, ◌≤◌, ◌≡◌, List, ◌++◌, length, drop}
 use Rattle.std.proofs.Common.{le-leb}
 use Rattle.schedule.specs.Lines.{lines_of}
-use Rattle.texts.specs.declared.TextPlayed.TheVariants.{Printed}
+use Rattle.texts.specs.TextPlayed.TextPlayed.{Printed}
 use Rattle.texts.specs.Text.{left_by_lines, playable, room_for, text_left, play_text}
 use Rattle.sample.specs.Sample.{text, answers, lines, zeros}
 use Rattle.sample.specs.Printed.{sample_printed}

@@ -7,7 +7,7 @@ use Rattle.schedule.specs.Decimal.{digits}
 use Rattle.schedule.specs.Steps.{step_of}
 use Rattle.register_text.specs.Text.{register_most, register_printed}
 use Rattle.playing.specs.Played.{played, answers_from}
-use Rattle.texts.specs.declared.TextPlayed.TheVariants.{Printed, Refused}
+use Rattle.texts.specs.TextPlayed.TextPlayed.{Printed, Refused}
 use Rattle.texts.specs.Text.{left_by_lines, print_of, playable, text_left, play_text}
 
 -- tables of no words, and tables that no opening can be accepted on

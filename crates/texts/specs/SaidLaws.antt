@@ -2,8 +2,8 @@
 use Rattle.std.specs.Prelude.{ℕ, ◌≡◌, refl}
 use Rattle.rules.specs.Answers.{Word, ok, wait, next, write, read, no'}
 use Rattle.rules.specs.AnswersLaws.{said-once, said_number}
-use Rattle.texts.specs.declared.TextPlayed.{TextPlayed}
-use Rattle.texts.specs.declared.TextPlayed.TheVariants.{Printed, Refused}
+use Rattle.texts.specs.TextPlayed.{TextPlayed}
+use Rattle.texts.specs.TextPlayed.TextPlayed.{Printed, Refused}
 use Rattle.texts.specs.Text.{text_said}
 
 abbrev answer_of : Word → ℕ → TextPlayed

@@ -8,8 +8,8 @@ use Rattle.schedule.specs.Lines.{lines_of}
 use Rattle.printing.specs.Sizes.{answer_most}
 use Rattle.register_text.specs.Text.{register_most, register_printed}
 use Rattle.playing.specs.Played.{played_line, answers_from}
-use Rattle.texts.specs.declared.TextPlayed.{TextPlayed}
-use Rattle.texts.specs.declared.TextPlayed.TheVariants.{Printed, Refused}
+use Rattle.texts.specs.TextPlayed.{TextPlayed}
+use Rattle.texts.specs.TextPlayed.TextPlayed.{Printed, Refused}
 
 -- the tables that some lines leave
 unfoldable pub left_by_lines : List (List ℕ) → Tables → Tables

@@ -21,7 +21,7 @@ use Rattle.register_text.specs.Text.{register_text, register_most, register_prin
 use Rattle.playing.specs.Played.{played_line, shown_text, LinePlayed, answers_from}
 use Rattle.playing.specs.Playable.{Playable}
 use Rattle.playing.specs.PlayableLaws.{step-playable}
-use Rattle.texts.specs.declared.TextPlayed.TheVariants as played
+use Rattle.texts.specs.TextPlayed as played
 use Rattle.texts.specs.Text.{left_by_lines, print_of, playable, room_for, text_left, play_text}
 
 -- whether tables may be played on, as the code finds it

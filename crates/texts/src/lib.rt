@@ -3,22 +3,15 @@
 #![tactic(auto)]
 
 ghost use Rattle.std.specs.Prelude.{◌≡◌, ◌+◌, ◌≤◌, length, leb};
-ghost use Rattle.tables.specs.Tables.{tables_of};
+ghost use Rattle.tables.specs.Lent.{tables_lent};
 ghost use Rattle.schedule.specs.Lines.{lines_of};
 ghost use Rattle.printing.specs.Printed.{Printed};
 ghost use Rattle.register_text.specs.Text.{register_most, register_printed};
 ghost use Rattle.playing.specs.Playable.{Playable};
 ghost use Rattle.texts.specs.Text.{playable, room_for};
 
-use tables::counts::METHOD;
-
-// What playing a text answers.
-#[derive(Clone, Copy)]
-pub enum TextPlayed {
-    // how many bytes are printed at the front of the lent space
-    Printed(usize),
-    Refused(u8),
-}
+use tables::counts;
+use tables::lent::Lent;
 
 // How many lines a text has.
 pub fn count_lines(text: &[u8]) -> usize
@@ -26,6 +19,7 @@ pub fn count_lines(text: &[u8]) -> usize
 {
     let mut start = 0;
     let mut lines = 0;
+    // Kept: (d) the walk goes from the end of a line to the next, so that no index is counted by hand.
     while start < text.len() {
         start = line_reading::line_end(text, start) + 1;
         lines += 1;
@@ -44,51 +38,26 @@ pub fn has_room(lines: usize, size: usize) -> bool
 }
 
 // Whether a text may be played on the tables, whatever they hold and however short they are.
-pub fn may_play(
-    counts: &[u32],
-    clients: &[u32],
-    links: &[u32],
-    keys: &[u32],
-    values: &[u32],
-    log: &[u32],
-    writes: &[u32],
-    reads: &[u32],
-) -> bool
-    ensures { result ≡ playable (tables_of counts.now clients.now links.now
-        keys.now values.now log.now writes.now reads.now) }
+pub fn may_play(t: &Lent) -> bool
+    ensures { result ≡ playable (tables_lent t.now) }
 {
-    if counts.len() < tables::counts::WORDS {
+    if t.counts.len() < counts::WORDS {
         return false;
     }
-    if tables::counts::count_at(counts, METHOD) == 0 {
+    if counts::count_at(t.counts, counts::METHOD) == 0 {
         return true;
     }
-    sound_tables::sound(counts, clients, links, keys, values, log, writes, reads)
+    sound_tables::sound(t)
 }
 
 // The register of the last opening, from a place on; before any opening there is none. It answers where the print ends.
-pub fn print_end(
-    counts: &[u32],
-    clients: &[u32],
-    links: &[u32],
-    keys: &[u32],
-    values: &[u32],
-    log: &[u32],
-    writes: &[u32],
-    reads: &[u32],
-    out: &mut [u8],
-    at: usize,
-) -> usize
-    requires playable { Playable (tables_of counts.now clients.now links.now keys.now values.now log.now writes.now reads.now) }
+pub fn print_end(t: &Lent, out: &mut [u8], at: usize) -> usize
+    requires playable { Playable (tables_lent t.now) }
     requires register_most_in_bounds { at + register_most ≤ length out.old }
-    ensures { Printed out.old at (register_printed (tables_of counts.now clients.now
-        links.now keys.now values.now log.now writes.now reads.now))
-        result out.new × (result ≤ at + register_most) }
+    ensures { Printed out.old at (register_printed (tables_lent t.now)) result out.new × (result ≤ at + register_most) }
 {
-    if tables::counts::count_at(counts, METHOD) == 0 {
+    if counts::count_at(t.counts, counts::METHOD) == 0 {
         return at;
     }
-    register_text::print_register(
-        counts, clients, links, keys, values, log, writes, reads, out, at,
-    )
+    register_text::print_register(t, out, at)
 }
