@@ -5,84 +5,69 @@
 ghost use Rattle.std.specs.Prelude.{◌≡◌};
 ghost use Rattle.recordings.specs.Recording.{frames_of};
 ghost use Rattle.recordings.specs.Comparing.{difference_on, from_link, links, compared};
+ghost use Rattle.recordings.specs.Results.{place_by, agreement_by, compared_by};
 ghost use Rattle.recordings.specs.Whole.{Paired};
 
-use recordings::{Compared, LINKS, Place, TARGETS};
+use causes::Refusal;
+use recordings::{Cursor, Difference, LINKS, Recording, TARGETS};
 
 // The place of the first difference on a link: two cursors go from frame to frame of it, each in its recording.
-fn difference_on(
-    lengths: &[u32],
-    bytes: &[u8],
-    lengths2: &[u32],
-    bytes2: &[u8],
-    client: u8,
-    target: u8,
-) -> Place
-    requires { Paired lengths.now bytes.now lengths2.now bytes2.now }
-    ensures { result ≡ difference_on client target (frames_of lengths.now bytes.now)
-        (frames_of lengths2.now bytes2.now) }
+fn difference_on(one: &Recording, other: &Recording, client: u8, target: u8) -> Option<u32>
+    requires { Paired one.now.lengths.now one.now.bytes.now other.now.lengths.now other.now.bytes.now }
+    ensures { place_by result ≡ difference_on client target (frames_of one.now.lengths.now one.now.bytes.now)
+        (frames_of other.now.lengths.now other.now.bytes.now) }
 {
-    let first = recorded_frames::next_on(lengths, bytes, client, target, 0, 0);
-    let first2 = recorded_frames::next_on(lengths2, bytes2, client, target, 0, 0);
-    let mut i = first.frame;
-    let mut at = first.at;
-    let mut i2 = first2.frame;
-    let mut at2 = first2.at;
+    let start = Cursor { frame: 0, at: 0 };
+    let mut here = recorded_frames::next_on(one, client, target, start);
+    let mut there = recorded_frames::next_on(other, client, target, start);
     let mut place: u32 = 0;
-    while i < lengths.len() {
-        if lengths2.len() <= i2 {
-            return Place::At(place);
+    while here.frame < one.lengths.len() {
+        if other.lengths.len() <= there.frame {
+            return Some(place);
         }
-        if !recorded_frames::is_same_frame(lengths, bytes, i, at, lengths2, bytes2, i2, at2) {
-            return Place::At(place);
+        if !recorded_frames::is_same_frame(one, here, other, there) {
+            return Some(place);
         }
-        let next = recorded_frames::next_behind(lengths, bytes, client, target, i, at);
-        let next2 = recorded_frames::next_behind(lengths2, bytes2, client, target, i2, at2);
-        i = next.frame;
-        at = next.at;
-        i2 = next2.frame;
-        at2 = next2.at;
+        here = recorded_frames::next_behind(one, client, target, here);
+        there = recorded_frames::next_behind(other, client, target, there);
         place += 1;
     }
-    if i2 < lengths2.len() {
-        return Place::At(place);
+    if there.frame < other.lengths.len() {
+        return Some(place);
     }
-    Place::Nowhere
+    None
 }
 
 // The first link that has a difference, by client, then by target.
-fn first_difference(lengths: &[u32], bytes: &[u8], lengths2: &[u32], bytes2: &[u8]) -> Compared
-    requires { Paired lengths.now bytes.now lengths2.now bytes2.now }
-    ensures { result ≡ from_link (frames_of lengths.now bytes.now)
-        (frames_of lengths2.now bytes2.now) links 0 }
+fn first_difference(one: &Recording, other: &Recording) -> Option<Difference>
+    requires { Paired one.now.lengths.now one.now.bytes.now other.now.lengths.now other.now.bytes.now }
+    ensures { agreement_by result ≡ from_link (frames_of one.now.lengths.now one.now.bytes.now)
+        (frames_of other.now.lengths.now other.now.bytes.now) links 0 }
 {
-    let mut link: u32 = 0;
-    while link < LINKS {
+    for link in 0..LINKS {
         let client = (link / TARGETS) as u8;
         let target = (link % TARGETS) as u8;
-        let found = difference_on(lengths, bytes, lengths2, bytes2, client, target);
-        match found {
-            Place::At(place) => {
-                return Compared::Differ(client, target, place);
-            }
-            Place::Nowhere => {
-                link += 1;
-            }
+        if let Some(place) = difference_on(one, other, client, target) {
+            return Some(Difference {
+                client,
+                target,
+                place,
+            });
         }
     }
-    Compared::Agree
+    None
 }
 
-// Two recordings compared. Nothing is written.
-pub fn compare(lengths: &[u32], bytes: &[u8], lengths2: &[u32], bytes2: &[u8]) -> Compared
-    ensures { result ≡ compared lengths.now bytes.now
-        lengths2.now bytes2.now }
+// Two recordings compared: their first difference, if they have one. Nothing is written.
+pub fn compare(one: &Recording, other: &Recording) -> Result<Option<Difference>, Refusal>
+    ensures { compared_by result ≡ compared one.now.lengths.now one.now.bytes.now
+        other.now.lengths.now other.now.bytes.now }
 {
-    if !recorded_frames::is_well_made(lengths, bytes) {
-        return Compared::Refused(16);
+    if !recorded_frames::is_well_made(one) {
+        return Err(Refusal::IllMade);
     }
-    if !recorded_frames::is_well_made(lengths2, bytes2) {
-        return Compared::Refused(16);
+    if !recorded_frames::is_well_made(other) {
+        return Err(Refusal::IllMade);
     }
-    first_difference(lengths, bytes, lengths2, bytes2)
+    Ok(first_difference(one, other))
 }

@@ -5,17 +5,20 @@
 
 ghost use Rattle.std.specs.Prelude.{◌≡◌, ◌-◌};
 ghost use Rattle.frames.specs.Frames.{reading_of, keys_read, badges_read, numbers_read, found};
+ghost use Rattle.causes.specs.Numbers.{number_of};
+ghost use Rattle.frames.specs.Results.{reading_by, length_by};
 ghost use Rattle.frame_exports.specs.Numbers.{digits_of, pair_of, head_of, tail_of, parts_of, refused_number, written_number};
 ghost use Rattle.frame_exports.specs.Writing.{fixed_from, is_kind, frame_answer, frame_left};
 
-use frames::{Fixed, Message, Reading, Written};
+use causes::Refusal;
+use frames::{Fixed, Message};
 use keys::Key;
 
 // A refusal as a number.
-fn refused(number: u8) -> u64
-    ensures { result ≡ refused_number number }
+fn refused(refusal: Refusal) -> u64
+    ensures { result ≡ refused_number (number_of refusal) }
 {
-    18446744073709551615 - number as u64
+    u64::MAX - refusal.number() as u64
 }
 
 // The fixed parts of a head, as digits to the base 256, and the badge behind them.
@@ -100,26 +103,26 @@ fn both_parts(head: u64, tail: u64) -> Parts
     ensures { result ≡ record { head = head; tail = tail } }
 {
     Parts {
-        head: head,
-        tail: tail,
+        head,
+        tail,
     }
 }
 
-fn parts_of(reading: Reading) -> Parts
-    ensures { result ≡ parts_of reading }
+fn parts_of(reading: Result<Message, Refusal>) -> Parts
+    ensures { result ≡ parts_of (reading_by reading) }
 {
     match reading {
-        Reading::Read(message) => both_parts(head_of(message), tail_of(message)),
-        Reading::Refused(number) => both_parts(refused(number), refused(number)),
+        Ok(message) => both_parts(head_of(message), tail_of(message)),
+        Err(refusal) => both_parts(refused(refusal), refused(refusal)),
     }
 }
 
-fn written_number(written: Written) -> u64
-    ensures { result ≡ written_number written }
+fn written_number(written: Result<usize, Refusal>) -> u64
+    ensures { result ≡ written_number (length_by written) }
 {
     match written {
-        Written::Length(length) => length as u64,
-        Written::Refused(number) => refused(number),
+        Ok(length) => length as u64,
+        Err(refusal) => refused(refusal),
     }
 }
 
@@ -156,13 +159,13 @@ fn fixed_from(
 {
     let key = Key::new(count, owner);
     Fixed {
-        client: client,
-        server: server,
-        tag: tag,
-        key: key,
-        badge: badge,
-        number: number,
-        entries: entries,
+        client,
+        server,
+        tag,
+        key,
+        badge,
+        number,
+        entries,
     }
 }
 
@@ -201,7 +204,7 @@ pub extern "C" fn frame_write(
         numbers.now bytes.old) }
 {
     if !is_kind(kind) {
-        return refused(11);
+        return refused(Refusal::Malformed);
     }
     let fixed = fixed_from(client, server, tag, count, owner, badge, number, entries);
     let message = frames::message_at(kind, fixed);

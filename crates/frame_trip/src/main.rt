@@ -3,21 +3,14 @@
 // again as the same bytes, and the bytes themselves of a frame of up to 44.
 #![tactic(auto)]
 
-ghost use Rattle.std.specs.Prelude.{◌≤◌};
-
-use frames::{Message, Reading, Written};
+use causes::Refusal;
+use frames::Message;
 use keys::Key;
 use std::io;
 
-fn wide(byte: u8) -> u64 {
-    byte as u64
-}
-
 fn print_bytes(rt: &impl Print, bytes: &[u8]) -> io::Result<()> {
-    let mut i: usize = 0;
-    while i < bytes.len() {
-        print!(rt; "{:02x}", wide(bytes[i]))?;
-        i += 1;
+    for byte in bytes {
+        print!(rt; "{byte:02x}")?;
     }
     Ok(())
 }
@@ -81,44 +74,27 @@ fn sample(kind: u32) -> Message {
 
 // Entries: the opening's key, then counts rising, clients in turn; badges from 65,535 down; numbers from 1.
 fn fill(keys: &mut [u32; 256], badges: &mut [u32; 256], numbers: &mut [u32; 256]) {
-    let mut i: usize = 0;
-    while i < 256 {
+    for i in 0..256 {
         keys[i] = (i * 256 + i % 16) as u32;
         badges[i] = (65535 - i) as u32;
         numbers[i] = (i + 1) as u32;
-        i += 1;
     }
 }
 
-fn length_of(written: Written) -> usize {
-    match written {
-        Written::Length(n) => n,
-        Written::Refused(_) => 0,
-    }
-}
-
-// 1 where the bytes give 10, else 0.
-fn is_cut(bytes: &[u8]) -> usize
-    ensures { result ≤ 1 }
-{
+// Whether the bytes give 10.
+fn is_cut(bytes: &[u8]) -> bool {
     let mut keys = [0u32; 256];
     let mut badges = [0u32; 256];
     let mut numbers = [0u32; 256];
     match frames::read_frame(bytes, &mut keys, &mut badges, &mut numbers) {
-        Reading::Read(_) => 0,
-        Reading::Refused(number) => if number == 10 { 1 } else { 0 },
+        Ok(_) => false,
+        Err(refusal) => refusal == Refusal::CutShort,
     }
 }
 
 // How many proper prefixes give 10.
 fn cut(bytes: &[u8]) -> usize {
-    let mut count: usize = 0;
-    let mut i: usize = 0;
-    while i < bytes.len() {
-        count += is_cut(&bytes[..i]);
-        i += 1;
-    }
-    count
+    (0..bytes.len()).filter(|i| is_cut(&bytes[..*i])).count()
 }
 
 // 1 where a message with its entries is written as these bytes, else 0.
@@ -130,11 +106,11 @@ fn is_frame(
     bytes: &[u8],
 ) -> usize {
     let mut copy = [0u8; 1923];
-    let n = length_of(frames::write_frame(message, keys, badges, numbers, &mut copy));
+    let n = frames::write_frame(message, keys, badges, numbers, &mut copy).unwrap_or(0);
     if 1923 < n {
         return 0;
     }
-    if check::same(&copy[..n], bytes) { 1 } else { 0 }
+    if &copy[..n] == bytes { 1 } else { 0 }
 }
 
 // 1 where the bytes are read as a message that is written as the same bytes, else 0.
@@ -143,8 +119,8 @@ fn again(bytes: &[u8]) -> usize {
     let mut badges = [0u32; 256];
     let mut numbers = [0u32; 256];
     match frames::read_frame(bytes, &mut keys, &mut badges, &mut numbers) {
-        Reading::Read(message) => is_frame(message, &keys, &badges, &numbers, bytes),
-        Reading::Refused(_) => 0,
+        Ok(message) => is_frame(message, &keys, &badges, &numbers, bytes),
+        Err(_) => 0,
     }
 }
 
@@ -165,7 +141,7 @@ fn trip(
     numbers: &[u32; 256],
 ) -> io::Result<()> {
     let mut bytes = [0u8; 1923];
-    let n = length_of(frames::write_frame(sample(kind), keys, badges, numbers, &mut bytes));
+    let n = frames::write_frame(sample(kind), keys, badges, numbers, &mut bytes).unwrap_or(0);
     if 1923 < n {
         return Ok(());
     }
@@ -177,10 +153,8 @@ fn main(rt: HostRuntime) -> io::Result<()> {
     let mut badges = [0u32; 256];
     let mut numbers = [0u32; 256];
     fill(&mut keys, &mut badges, &mut numbers);
-    let mut kind: u32 = 1;
-    while kind <= 12 {
+    for kind in 1..13 {
         trip(&rt, kind, &keys, &badges, &numbers)?;
-        kind += 1;
     }
     Ok(())
 }

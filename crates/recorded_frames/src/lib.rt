@@ -8,34 +8,26 @@ ghost use Rattle.recordings.specs.Comparing.{same};
 ghost use Rattle.recordings.specs.ReadableLaws.{on_bytes};
 ghost use Rattle.recordings.specs.Whole.{whole, frame_at, Standing, Reached, Here};
 
-use formats::reading::Scan;
-use recordings::Cursor;
+use recordings::{Cursor, Recording};
 
 // "up to 4,096 frames"
 pub const MOST_FRAMES: usize = 4096;
-
-fn wide(n: u32) -> usize
-    ensures { result ≡ n }
-{
-    n as usize
-}
 
 // A frame that the reader takes.
 fn is_readable(bytes: &[u8]) -> bool
     ensures { result ≡ readable bytes.now }
 {
-    let scan: Scan = format_reading::scan_frame(bytes);
-    scan.fault == 0
+    format_reading::scan_frame(bytes).is_ok()
 }
 
 // The lengths are used up by the bytes, and each frame is readable.
-fn is_whole(lengths: &[u32], bytes: &[u8]) -> bool
-    ensures { result ≡ whole lengths.now bytes.now }
+fn is_whole(recording: &Recording) -> bool
+    ensures { result ≡ whole recording.now.lengths.now recording.now.bytes.now }
 {
-    let mut i: usize = 0;
+    let bytes = recording.bytes;
     let mut at: usize = 0;
-    while i < lengths.len() {
-        let n = wide(lengths[i]);
+    for length in recording.lengths {
+        let n = *length as usize;
         if bytes.len() - at < n {
             return false;
         }
@@ -44,18 +36,17 @@ fn is_whole(lengths: &[u32], bytes: &[u8]) -> bool
             return false;
         }
         at = end;
-        i += 1;
     }
     at == bytes.len()
 }
 
-pub fn is_well_made(lengths: &[u32], bytes: &[u8]) -> bool
-    ensures { result ≡ well_made lengths.now bytes.now }
+pub fn is_well_made(recording: &Recording) -> bool
+    ensures { result ≡ well_made recording.now.lengths.now recording.now.bytes.now }
 {
-    if MOST_FRAMES < lengths.len() {
+    if MOST_FRAMES < recording.lengths.len() {
         return false;
     }
-    is_whole(lengths, bytes)
+    is_whole(recording)
 }
 
 // Whether the frame that begins at a byte is of a link, by its header.
@@ -70,85 +61,51 @@ fn is_on(bytes: &[u8], at: usize, client: u8, target: u8) -> bool
 }
 
 // The next frame of a link, from a cursor on, or the recording's end.
-pub fn next_on(
-    lengths: &[u32],
-    bytes: &[u8],
-    client: u8,
-    target: u8,
-    frame: usize,
-    at: usize,
-) -> Cursor
-    requires { Standing lengths.now bytes.now frame at }
-    ensures { Reached lengths.now bytes.now client target frame at result }
+pub fn next_on(recording: &Recording, client: u8, target: u8, from: Cursor) -> Cursor
+    requires { Standing recording.now.lengths.now recording.now.bytes.now from.frame from.at }
+    ensures { Reached recording.now.lengths.now recording.now.bytes.now client target from.frame from.at result }
 {
-    let mut i = frame;
-    let mut place = at;
-    while i < lengths.len() {
-        if is_on(bytes, place, client, target) {
-            return Cursor {
-                frame: i,
-                at: place,
-            };
+    let lengths = recording.lengths;
+    let mut at = from.at;
+    for frame in from.frame..lengths.len() {
+        if is_on(recording.bytes, at, client, target) {
+            return Cursor { frame, at };
         }
-        place += wide(lengths[i]);
-        i += 1;
+        at += lengths[frame] as usize;
     }
     Cursor {
-        frame: i,
-        at: place,
+        frame: lengths.len(),
+        at,
     }
 }
 
-// Equal bytes.
-fn is_same(a: &[u8], b: &[u8]) -> bool
-    ensures { result ≡ same a.now b.now }
+// The bytes of the frame at a cursor.
+fn frame_bytes<'a>(recording: &Recording<'a>, cursor: Cursor) -> &'a [u8]
+    requires { Here recording.now.lengths.now recording.now.bytes.now cursor.frame cursor.at }
+    ensures { result.now ≡ frame_at recording.now.lengths.now recording.now.bytes.now cursor.frame cursor.at }
 {
-    if a.len() != b.len() {
-        return false;
-    }
-    let mut i: usize = 0;
-    while i < a.len() {
-        if a[i] != b[i] {
-            return false;
-        }
-        i += 1;
-    }
-    true
+    let end = cursor.at + recording.lengths[cursor.frame] as usize;
+    &recording.bytes[cursor.at..end]
 }
 
 // The frames at two cursors are equal.
-pub fn is_same_frame(
-    lengths: &[u32],
-    bytes: &[u8],
-    i: usize,
-    at: usize,
-    lengths2: &[u32],
-    bytes2: &[u8],
-    i2: usize,
-    at2: usize,
-) -> bool
-    requires { Here lengths.now bytes.now i at × Here lengths2.now bytes2.now i2 at2 }
-    ensures { result ≡ same (frame_at lengths.now bytes.now i at)
-        (frame_at lengths2.now bytes2.now i2 at2) }
+pub fn is_same_frame(one: &Recording, here: Cursor, other: &Recording, there: Cursor) -> bool
+    requires { Here one.now.lengths.now one.now.bytes.now here.frame here.at × Here other.now.lengths.now other.now.bytes.now there.frame there.at }
+    ensures { result ≡ same (frame_at one.now.lengths.now one.now.bytes.now here.frame here.at)
+        (frame_at other.now.lengths.now other.now.bytes.now there.frame there.at) }
 {
-    let end = at + wide(lengths[i]);
-    let end2 = at2 + wide(lengths2[i2]);
-    is_same(&bytes[at..end], &bytes2[at2..end2])
+    frame_bytes(one, here) == frame_bytes(other, there)
 }
 
 // The next frame of a link behind the one at a cursor.
-pub fn next_behind(
-    lengths: &[u32],
-    bytes: &[u8],
-    client: u8,
-    target: u8,
-    i: usize,
-    at: usize,
-) -> Cursor
-    requires { Here lengths.now bytes.now i at }
-    ensures { Reached lengths.now bytes.now client target (i + 1)
-        (at + get_or lengths.now i 0) result }
+pub fn next_behind(recording: &Recording, client: u8, target: u8, cursor: Cursor) -> Cursor
+    requires { Here recording.now.lengths.now recording.now.bytes.now cursor.frame cursor.at }
+    ensures { Reached recording.now.lengths.now recording.now.bytes.now client target (cursor.frame + 1)
+        (cursor.at + get_or recording.now.lengths.now cursor.frame 0) result }
 {
-    let end = at + wide(lengths[i]);
-    next_on(lengths, bytes, client, target, i + 1, end)
+    let behind = Cursor {
+        frame: cursor.frame + 1,
+        at: cursor.at + recording.lengths[cursor.frame] as usize,
+    };
+    next_on(recording, client, target, behind)
 }

@@ -3,8 +3,8 @@ use Rattle.std.specs.Prelude.{◌≡◌, refl, ℕ, suc, ◌+◌, ◌*◌, ◌/�
 use Rattle.std.proofs.Common.{sym, ap, ◌∙◌, arith, ltb-true, ltb-false}
 use Rattle.std.proofs.Math.Arith.{digits_div, digits_mod}
 use Rattle.ranges.specs.Tests.{by-test, both_left, both_right}
-use Rattle.recordings.specs.declared.Compared.{Compared}
-use Rattle.recordings.specs.declared.Compared.TheVariants.{Agree, Differ, Refused}
+use Rattle.recordings.specs.Compared.{Compared}
+use Rattle.recordings.specs.Compared.{Agree, Differ, Refused}
 use Rattle.recordings.specs.Recording.{frames_of, most_frames, well_made, is_on}
 use Rattle.recordings.specs.Comparing.{frames_on, compared}
 use Rattle.recordings.specs.Claim.{Right, Claim}

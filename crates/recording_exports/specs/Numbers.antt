@@ -1,7 +1,7 @@
 -- What comparing answers, as the number by which it crosses to other languages.
 use Rattle.std.specs.Prelude.{ℕ, ◌+◌, ◌*◌}
-use Rattle.recordings.specs.declared.Compared.{Compared}
-use Rattle.recordings.specs.declared.Compared.TheVariants.{Agree, Differ, Refused}
+use Rattle.recordings.specs.Compared.{Compared}
+use Rattle.recordings.specs.Compared.{Agree, Differ, Refused}
 
 -- a difference: 2^32, and below it panel and target as digits to the base 256, the place behind them in 16 bits
 abbrev pub differ_number : ℕ → ℕ → ℕ → ℕ

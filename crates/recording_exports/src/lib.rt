@@ -3,9 +3,11 @@
 
 ghost use Rattle.std.specs.Prelude.{◌≡◌};
 ghost use Rattle.recordings.specs.Comparing.{compared};
+ghost use Rattle.recordings.specs.Results.{compared_by};
 ghost use Rattle.recording_exports.specs.Numbers.{differ_number, compared_number};
 
-use recordings::Compared;
+use causes::Refusal;
+use recordings::{Difference, Recording};
 
 // A difference as a number.
 fn differ_number(client: u8, target: u8, place: u32) -> u64
@@ -15,13 +17,17 @@ fn differ_number(client: u8, target: u8, place: u32) -> u64
     4294967296 + link * 65536 + place as u64
 }
 
-fn compared_number(answer: Compared) -> u64
-    ensures { result ≡ compared_number answer }
+fn compared_number(answer: Result<Option<Difference>, Refusal>) -> u64
+    ensures { result ≡ compared_number (compared_by answer) }
 {
     match answer {
-        Compared::Agree => 0,
-        Compared::Differ(client, target, place) => differ_number(client, target, place),
-        Compared::Refused(number) => number as u64,
+        Ok(None) => 0,
+        Ok(Some(difference)) => differ_number(
+            difference.client,
+            difference.target,
+            difference.place,
+        ),
+        Err(refusal) => refusal.number() as u64,
     }
 }
 
@@ -37,5 +43,10 @@ pub extern "C" fn recordings_compare(
     ensures { result ≡ compared_number (compared lengths.now bytes.now
         lengths2.now bytes2.now) }
 {
-    compared_number(comparing::compare(lengths, bytes, lengths2, bytes2))
+    let one = Recording { lengths, bytes };
+    let other = Recording {
+        lengths: lengths2,
+        bytes: bytes2,
+    };
+    compared_number(comparing::compare(&one, &other))
 }

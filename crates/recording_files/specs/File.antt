@@ -4,8 +4,8 @@ use Rattle.std.specs.Prelude.{ℕ, ◌+◌, ◌*◌, List, [], ◌∷◌, ◌++�
 use Rattle.ranges.specs.Laid.{built}
 use Rattle.printing.specs.Texts.{spaced}
 use Rattle.printing.specs.StepTexts.{refusal_text}
-use Rattle.recordings.specs.declared.Compared.{Compared}
-use Rattle.recordings.specs.declared.Compared.TheVariants.{Agree, Differ, Refused}
+use Rattle.recordings.specs.Compared.{Compared}
+use Rattle.recordings.specs.Compared.{Agree, Differ, Refused}
 use Rattle.recordings.specs.Comparing.{compared}
 
 -- the number in the four bytes from a place on; behind the end of the file bytes are 0

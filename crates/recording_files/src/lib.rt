@@ -2,15 +2,17 @@
 // them compared, and what the program prints of that. No file is opened here.
 #![tactic(auto)]
 
-ghost use Rattle.std.specs.Prelude.{◌≡◌, true, [], ◌∷◌, ◌+◌, ◌*◌, ◌≤◌, ◌<◌, min, length, get_or};
+ghost use Rattle.std.specs.Prelude.{◌≡◌, true, [], ◌∷◌, ◌+◌, ◌*◌, ◌≤◌, ◌<◌, length, get_or};
 ghost use Rattle.ranges.specs.Laid.{laid};
 ghost use Rattle.printing.specs.Texts.{spaced};
 ghost use Rattle.printing.specs.Printed.{Printed};
 ghost use Rattle.printing.specs.Sizes.{marked_most};
+ghost use Rattle.recordings.specs.Results.{compared_by};
 ghost use Rattle.recording_files.specs.File.{word_at, frames_in, is_file, length_at, compared_files, differ_text, compared_text, text_most};
 ghost use Rattle.recording_files.specs.FileLaws.{Lengths, LengthsRead, Place, Counts};
 
-use recordings::Compared;
+use causes::Refusal;
+use recordings::{Difference, Recording};
 
 // One length more than a recording may have: a file that says more frames is refused whatever they are.
 const MOST_READ: usize = 4097;
@@ -72,10 +74,8 @@ fn store_lengths(file: &[u8], lengths: &mut [u32], n: usize)
     requires { Lengths file.now n (length lengths.old) }
     ensures { lengths.new ≡ laid (length_at file.now) n lengths.old }
 {
-    let mut i: usize = 0;
-    while i < n {
+    for i in 0..n {
         lengths[i] = word_at(file, 4 + 4 * i);
-        i += 1;
     }
 }
 
@@ -84,21 +84,15 @@ fn read_lengths(file: &[u8], lengths: &mut [u32]) -> usize
     requires { (is_file file.now ≡ true) × (length lengths.old ≡ 4097) }
     ensures { LengthsRead file.now lengths.old lengths.new result }
 {
-    let n = least(frames_in(file), MOST_READ);
+    let n = frames_in(file).min(MOST_READ);
     store_lengths(file, lengths, n);
     n
 }
 
-fn least(a: usize, b: usize) -> usize
-    ensures { result ≡ min a b }
-{
-    if a < b { a } else { b }
-}
-
 // Two files compared.
-pub fn compare_files(file: &[u8], file2: &[u8]) -> Compared
+pub fn compare_files(file: &[u8], file2: &[u8]) -> Result<Option<Difference>, Refusal>
     requires { (is_file file.now ≡ true) × (is_file file2.now ≡ true) }
-    ensures { result ≡ compared_files file.now file2.now }
+    ensures { compared_by result ≡ compared_files file.now file2.now }
 {
     let mut lengths = [0u32; MOST_READ];
     let mut lengths2 = [0u32; MOST_READ];
@@ -106,7 +100,15 @@ pub fn compare_files(file: &[u8], file2: &[u8]) -> Compared
     let n2 = read_lengths(file2, &mut lengths2);
     let at = bytes_place(file);
     let at2 = bytes_place(file2);
-    comparing::compare(&lengths[..n], &file[at..], &lengths2[..n2], &file2[at2..])
+    let one = Recording {
+        lengths: &lengths[..n],
+        bytes: &file[at..],
+    };
+    let other = Recording {
+        lengths: &lengths2[..n2],
+        bytes: &file2[at2..],
+    };
+    comparing::compare(&one, &other)
 }
 
 // One byte of print.
@@ -124,10 +126,8 @@ fn print_bytes(text: &[u8], out: &mut [u8], at: usize) -> usize
     ensures { Printed out.old at text.now result out.new }
 {
     let mut next = at;
-    let mut i = 0;
-    while i < text.len() {
-        next = put_byte(text[i], out, next);
-        i += 1;
+    for byte in text {
+        next = put_byte(*byte, out, next);
     }
     next
 }
@@ -142,26 +142,26 @@ fn print_spaced(number: u32, out: &mut [u8], at: usize) -> usize
 }
 
 // A difference.
-fn print_difference(client: u8, target: u8, place: u32, out: &mut [u8]) -> usize
+fn print_difference(difference: Difference, out: &mut [u8]) -> usize
     requires { text_most ≤ length out.old }
-    ensures { Printed out.old 0 (differ_text client target place) result out.new × (result ≤ text_most) }
+    ensures { Printed out.old 0 (differ_text difference.client difference.target difference.place) result out.new × (result ≤ text_most) }
 {
     let word = print_bytes(b"differ", out, 0);
-    let panel = print_spaced(client as u32, out, word);
-    let end = print_spaced(target as u32, out, panel);
-    let last = print_spaced(place, out, end);
+    let panel = print_spaced(difference.client as u32, out, word);
+    let end = print_spaced(difference.target as u32, out, panel);
+    let last = print_spaced(difference.place, out, end);
     put_byte(b'\n', out, last)
 }
 
 // What is printed of an answer.
-pub fn print_compared(answer: Compared, out: &mut [u8]) -> usize
+pub fn print_compared(answer: Result<Option<Difference>, Refusal>, out: &mut [u8]) -> usize
     requires { text_most ≤ length out.old }
-    ensures { Printed out.old 0 (compared_text answer) result out.new × (result ≤ text_most) }
+    ensures { Printed out.old 0 (compared_text (compared_by answer)) result out.new × (result ≤ text_most) }
 {
     match answer {
-        Compared::Agree => print_bytes(b"agree\n", out, 0),
-        Compared::Differ(client, target, place) => print_difference(client, target, place, out),
-        Compared::Refused(number) => answer_text::print_refusal(number as u32, out, 0),
+        Ok(None) => print_bytes(b"agree\n", out, 0),
+        Ok(Some(difference)) => print_difference(difference, out),
+        Err(refusal) => answer_text::print_refusal(refusal.number() as u32, out, 0),
     }
 }
 

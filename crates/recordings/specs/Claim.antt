@@ -1,7 +1,7 @@
 -- What E8 says of comparing, without the way it is computed.
 use Rattle.std.specs.Prelude.{ℕ, ◌≤◌, ◌<◌, ◌≡◌, List, [], true, false, ◌&&◌, length, get_or}
-use Rattle.recordings.specs.declared.Compared.{Compared}
-use Rattle.recordings.specs.declared.Compared.TheVariants.{Agree, Differ, Refused}
+use Rattle.recordings.specs.Compared.{Compared}
+use Rattle.recordings.specs.Compared.{Agree, Differ, Refused}
 use Rattle.recordings.specs.Recording.{frames_of, well_made}
 use Rattle.recordings.specs.Comparing.{frames_on}
 

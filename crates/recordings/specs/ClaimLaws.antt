@@ -6,10 +6,10 @@ use Prim.Native.Nat.{ℕ, zero, suc, ◌+◌, ◌*◌, ◌≤◌, ◌<◌}
 use native.Mathlib.Omega.{arith}
 use Rattle.std.proofs.Math.Bool.{cond}
 use Rattle.ranges.specs.Tests.{by-test, by_equal}
-use Rattle.recordings.specs.declared.Place.{Place}
-use Rattle.recordings.specs.declared.Place.TheVariants.{Nowhere, At}
-use Rattle.recordings.specs.declared.Compared.{Compared}
-use Rattle.recordings.specs.declared.Compared.TheVariants.{Agree, Differ, Refused}
+use Rattle.recordings.specs.Place.{Place}
+use Rattle.recordings.specs.Place.{Nowhere, At}
+use Rattle.recordings.specs.Compared.{Compared}
+use Rattle.recordings.specs.Compared.{Agree, Differ, Refused}
 use Rattle.recordings.specs.Recording.{frames_of, well_made}
 use Rattle.recordings.specs.Comparing.{frames_on, same, further, first_difference, links, client_at, target_at, difference_on}
 use Rattle.recordings.specs.Comparing.{or_else, from_link, compared}

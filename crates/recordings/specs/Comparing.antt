@@ -1,10 +1,10 @@
 -- Two recordings compared: "Two recordings agree exactly when, for every panel and target, the frames of that link are equal in both and in
 -- equal order; frames of different links may have crossed."
 use Rattle.std.specs.Prelude.{ℕ, zero, suc, ◌/◌, ◌%◌, List, [], ◌∷◌, Bool, true, false, cond, ◌&&◌, eqb}
-use Rattle.recordings.specs.declared.Place.{Place}
-use Rattle.recordings.specs.declared.Place.TheVariants.{Nowhere, At}
-use Rattle.recordings.specs.declared.Compared.{Compared}
-use Rattle.recordings.specs.declared.Compared.TheVariants.{Agree, Differ, Refused}
+use Rattle.recordings.specs.Place.{Place}
+use Rattle.recordings.specs.Place.{Nowhere, At}
+use Rattle.recordings.specs.Compared.{Compared}
+use Rattle.recordings.specs.Compared.{Agree, Differ, Refused}
 use Rattle.recordings.specs.Recording.{frames_of, well_made, is_on}
 
 -- "the frames of that link", in order

@@ -1,7 +1,7 @@
 -- Recordings compared by hand. Frames of two bytes: kind, panel; target and three zero bits. A station's *set done* is kind 2, a *get all*
 -- kind 9; *which keys* to the head is kind 5, a *get log* 11.
 use Rattle.std.specs.Prelude.{◌≡◌, refl, ℕ, List, [], ◌∷◌}
-use Rattle.recordings.specs.declared.Compared.TheVariants.{Agree, Differ, Refused}
+use Rattle.recordings.specs.Compared.{Agree, Differ, Refused}
 use Rattle.fields.specs.Bits.{bit_of, bit_at, field_at}
 use Rattle.formats.specs.Grammar.{ahead, judged, ended, read}
 use Rattle.frame_table.specs.Table.{sort_at, bits_of, least_of, most_of, entries_in}

@@ -3,8 +3,8 @@ use Rattle.std.specs.Prelude.{◌≡◌, refl, ℕ, ◌+◌, ◌≤◌, ◌<◌,
 use Rattle.std.proofs.Common.{sym, ◌∙◌, arith}
 use Rattle.std.proofs.Math.Path.{ap, ap₂}
 use Rattle.recordings.specs.declared.Cursor.{Cursor}
-use Rattle.recordings.specs.declared.Place.{Place}
-use Rattle.recordings.specs.declared.Place.TheVariants.{Nowhere, At}
+use Rattle.recordings.specs.Place.{Place}
+use Rattle.recordings.specs.Place.{Nowhere, At}
 use Rattle.recordings.specs.Recording.{frames_of, is_on}
 use Rattle.recordings.specs.Comparing.{frames_on, same, further, first_difference, difference_on}
 use Rattle.recordings.specs.ReadableLaws.{on_bytes, on_bytes_lem}

@@ -4,9 +4,9 @@ use Rattle.std.proofs.Math.Path.{sym, ap, ap₂}
 use Rattle.std.proofs.Common.{◌∙◌, add-one}
 use Prim.Native.Nat.{ℕ, suc, ◌+◌, ◌-◌, ◌≤◌, ◌<◌}
 use native.Mathlib.Omega.{arith}
-use Rattle.recordings.specs.declared.Place.{Place}
-use Rattle.recordings.specs.declared.Place.TheVariants.{Nowhere, At}
-use Rattle.recordings.specs.declared.Compared.TheVariants.{Agree, Differ, Refused}
+use Rattle.recordings.specs.Place.{Place}
+use Rattle.recordings.specs.Place.{Nowhere, At}
+use Rattle.recordings.specs.Compared.{Agree, Differ, Refused}
 use Rattle.recordings.specs.Recording.{frames_of, well_made}
 use Rattle.recordings.specs.Comparing.{links, client_at, target_at, difference_on, or_else, from_link, compared}
 use Rattle.recordings.specs.Whole.{Paired, well-made-least, well-made_stands}

@@ -5,6 +5,12 @@ use Rattle.ranges.specs.Tests.{by-test}
 use Rattle.fields.specs.Bits.{field_at}
 use Rattle.fields.specs.Parts.{part_at, field_by_bytes}
 use Rattle.fields.specs.ByBytes.{field_by_bytes_lem}
+use Rattle.std.specs.Prelude.{Result, Ok, Err}
+use Rattle.std.specs.Result.{is_ok}
+use Rattle.causes.specs.declared.Refusal.{Refusal}
+use Rattle.causes.specs.Numbers.{number_of}
+use Rattle.formats.specs.declared.reading.Scan.{Scan as Scanned}
+use Rattle.formats.specs.Results.{scan_by, number-some}
 use Rattle.formats.specs.Scan.{Scan}
 use Rattle.formats.specs.Grammar.{Grammar, end, field, Outcome, got, fault, ahead, judged, ended, read}
 use Rattle.formats.specs.Format.{format}
@@ -70,6 +76,10 @@ scan-fault (fault n) k =
 
 pub scan-readable : (frame : List ℕ) {scan : Scan} → scan ≡ scan_of (found frame) → eqb scan.fault 0 ≡ readable frame
 scan-readable frame e = ap (λ (s : Scan). eqb s.fault 0) e ∙ scan-fault (found frame) (fault_known format frame 0)
+
+pub taken-readable : (frame : List ℕ) (r : Result Scanned Refusal) → scan_by r ≡ scan_of (found frame) → is_ok r ≡ readable frame
+taken-readable frame (Ok s) e = scan-readable frame e
+taken-readable frame (Err r) e = sym (ne_eqb (number_of r) 0 (number-some r)) ∙ scan-readable frame e
 
 -- ---- the header
 

@@ -3,6 +3,7 @@ use Rattle.std.specs.Prelude.{◌≡◌, refl, ℕ, ◌+◌, ◌≤◌, ◌<◌,
 use Rattle.std.proofs.Common.{sym, ◌∙◌, arith, add-one, true≢false, drop_of_length-le, drop-cons, eqb-true, eq-eqb, ne_eqb}
 use Rattle.std.proofs.Math.Path.{ap, ap₂}
 use Rattle.std.proofs.Math.Dec.{eqb}
+use lib.Pointwise.{pointwise}
 use Rattle.ranges.specs.Tests.{by-test, both_left, both_right}
 use Rattle.recordings.specs.Comparing.{same}
 
@@ -27,26 +28,10 @@ same-swapped xs ys =
     (λ d. absurd (true≢false (sym (ap (λ (l : List ℕ). same xs l) (same-equal ys xs d) ∙ same_self xs) ∙ e)))
     (λ d. e ∙ sym d))
 
--- bytes that are not equal are not the same
-pub same_not : (xs ys : List ℕ) → (xs ≡ ys → ⊥) → false ≡ same xs ys
-same_not xs ys d = by-test (same xs ys) (λ e. absurd (d (same-equal xs ys e))) sym
-
--- as they are compared, byte by byte
-module _ (xs ys : List ℕ) (i : ℕ) (h : i < length xs) (k : i < length ys) where
-  cut : same (drop i xs) (drop i ys) ≡ (eqb (get_or xs i 0) (get_or ys i 0) && same (drop (i + 1) xs) (drop (i + 1) ys))
-  unfolding same
-  cut =
-      ap₂ same (drop-cons xs i 0 h) (drop-cons ys i 0 k)
-      ∙ ap (λ (m : ℕ). eqb (get_or xs i 0) (get_or ys i 0) && same (drop m xs) (drop m ys)) (sym (add-one i))
-
-  pub same_on : get_or xs i 0 ≡ get_or ys i 0 → same (drop (i + 1) xs) (drop (i + 1) ys) ≡ same (drop i xs) (drop i ys)
-  same_on e = sym (cut ∙ rw (eq-eqb (get_or xs i 0) (get_or ys i 0) e))
-
-  pub same_stops : (get_or xs i 0 ≡ get_or ys i 0 → ⊥) → false ≡ same (drop i xs) (drop i ys)
-  same_stops d = sym (cut ∙ rw (ne_eqb (get_or xs i 0) (get_or ys i 0) d))
-
-pub same_end : (xs ys : List ℕ) (i : ℕ) → length xs ≤ i → length xs ≡ length ys → true ≡ same (drop i xs) (drop i ys)
+-- the same is what the library's comparing of two slices finds
+pub pointwise-same : (xs ys : List ℕ) → pointwise eqb xs ys ≡ same xs ys
 unfolding same
-same_end xs ys i h e =
-    let k : length ys ≤ i = omega arith in
-    sym (ap₂ same (drop_of_length-le xs h) (drop_of_length-le ys k))
+pointwise-same [] [] = refl
+pointwise-same [] (y ∷ ys) = refl
+pointwise-same (x ∷ xs) [] = refl
+pointwise-same (x ∷ xs) (y ∷ ys) = ap (λ b. eqb x y && b) (pointwise-same xs ys)

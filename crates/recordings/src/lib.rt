@@ -7,20 +7,19 @@ pub const TARGETS: u32 = 17;
 // Sixteen panels, each with its targets.
 pub const LINKS: u32 = 272;
 
-// What comparing gives: the recordings agree; or the client, the target and the place on that link of the first difference; or the number
-// that refuses them.
+// A recording: the lengths of its frames, and their bytes end to end.
 #[derive(Clone, Copy)]
-pub enum Compared {
-    Agree,
-    Differ(u8, u8, u32),
-    Refused(u8),
+pub struct Recording<'a> {
+    pub lengths: &'a [u32],
+    pub bytes: &'a [u8],
 }
 
-// The place of the first difference on a link.
+// The first difference of two recordings: the client, the target, and the place on that link.
 #[derive(Clone, Copy)]
-pub enum Place {
-    Nowhere,
-    At(u32),
+pub struct Difference {
+    pub client: u8,
+    pub target: u8,
+    pub place: u32,
 }
 
 // Where a recording is followed: its next frame, and where that begins.

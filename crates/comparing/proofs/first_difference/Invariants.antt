@@ -6,7 +6,4 @@ use Rattle.recordings.specs.LinkLaws.{Linked}
 use Rattle.comparing.proofs.first_difference.Given as goal
 
 abbrev pub invariant-loop-link : goal.invariant-loop-link
-invariant-loop-link l = Linked (frames_of l.lengths l.bytes) (frames_of l.lengths2 l.bytes2) l.link
-
-abbrev pub decreases-loop-link : goal.decreases-loop-link
-decreases-loop-link l = links - l.link
+invariant-loop-link l = Linked (frames_of l.one.lengths.now l.one.bytes.now) (frames_of l.other.lengths.now l.other.bytes.now) l.link

@@ -1,7 +1,8 @@
 -- A refusal keeps its number.
-use mathlib.Core.Path.{sym, ap, ◌∙◌}
+use Rattle.std.proofs.Common.{sym, ap, ◌∙◌}
+use Rattle.frames.specs.Results.{length_by}
 use Rattle.frame_exports.specs.Numbers.{written_number}
 use Rattle.frame_exports.proofs.written_number.Goals as goal
 
-pub returns-in-Refused : goal.returns-in-Refused
-returns-in-Refused c = c.refused.ensures ∙ sym (ap written_number c.in-Refused.is)
+pub returns-in-Err : goal.returns-in-Err
+returns-in-Err c = c.refused.ensures ∙ sym (ap (λ r. written_number (length_by r)) c.in-Err.is)

@@ -3,8 +3,8 @@ use mathlib.Core.Path.{◌∙◌}
 use Rattle.recordings.specs.Whole.{well-made_few, well-made_many}
 use Rattle.recorded_frames.proofs.is_well_made.Goals as goal
 
-pub returns-then-lengths-gt-MOST_FRAMES : goal.returns-then-lengths-gt-MOST_FRAMES
-returns-then-lengths-gt-MOST_FRAMES c = well-made_many _ _ c.if-lengths-gt-MOST_FRAMES.true
+pub returns-then-recording-gt-MOST_FRAMES : goal.returns-then-recording-gt-MOST_FRAMES
+returns-then-recording-gt-MOST_FRAMES c = well-made_many _ _ c.if-recording-gt-MOST_FRAMES.true
 
 pub returns : goal.returns
-returns c = c.is_whole.ensures ∙ well-made_few _ _ c.if-lengths-gt-MOST_FRAMES.false
+returns c = c.is_whole.ensures ∙ well-made_few _ _ c.if-recording-gt-MOST_FRAMES.false

@@ -1,31 +1,22 @@
 -- The loop's invariant: the bytes passed are printed.
-use mathlib.Core.Path.{◌∙◌}
-use Prim.Native.Nat.{◌-◌}
-use native.Mathlib.Omega.{arith}
-use lib.Seq.{take_all}
-use borrow.Author.Rules.{rules}
+use Rattle.std.proofs.Common.{arith, take_all, ◌∙◌}
 use Rattle.printing.specs.PrintedLaws.{printed-none, printed-more, copied_to}
 use Rattle.recording_files.proofs.print_bytes.Goals as goal
 
-pub loop-i-init : goal.loop-i-init
-loop-i-init c = (printed-none c.args.out.now c.args.at (omega arith), search rules)
+pub loop-byte-init : goal.loop-byte-init
+loop-byte-init c = printed-none c.args.out.now c.args.at (omega arith)
 
 pub put_byte-next-requires : goal.put_byte-next-requires
 put_byte-next-requires c =
-    let p = c.loop-i in
-    let n = copied_to c.args.out.now
-    c.args.text.now c.args.at p.i
-    p.invariant.1.0 p.invariant.0 in
+    let p = c.loop-byte in
+    let n = copied_to c.args.out.now c.args.text.now c.args.at p.byte-index (omega arith) p.invariant in
     omega arith
 
-pub loop-i-preserved : goal.loop-i-preserved
-loop-i-preserved c =
-    let p = c.loop-i in
-    let a = c.args in (
-      printed-more a.out.now a.text.now a.at p.i (omega arith) c.loop-i-test.true p.invariant.0
-          c.put_byte-next.ensures,
-      (search rules, c.put_byte-next.auto.out ∙ p.invariant.1.1),
-    )
+pub loop-byte-preserved : goal.loop-byte-preserved
+loop-byte-preserved c =
+    let p = c.loop-byte in
+    let a = c.args in
+    printed-more a.out.now a.text.now a.at p.byte-index (omega arith) c.loop-byte-test.true p.invariant c.put_byte-next.ensures
 
 pub returns : goal.returns
-returns c = let p = c.loop-i in rw (take_all p.i c.args.text.now c.loop-i-test.false) at p.invariant.0
+returns c = let p = c.loop-byte in rw (take_all p.byte-index c.args.text.now c.loop-byte-test.false) at p.invariant

@@ -1,21 +1,22 @@
 -- In each arm the answer is its variant, and the text is the definition's clause.
-use native.Mathlib.Omega.{arith}
+use Rattle.std.proofs.Common.{rules, arith}
+use Rattle.recordings.specs.Results.{compared_by}
 use Rattle.recording_files.proofs.print_compared.Goals as goal
 
-pub returns-in-Agree : goal.returns-in-Agree
-returns-in-Agree c = (
-  rw c.in-Agree.is c.print_bytes.ensures,
+pub returns-in-Ok-None : goal.returns-in-Ok-None
+returns-in-Ok-None c = (
+  search rules,
   omega (arith, c.print_bytes.ensures.end),
 )
 
-pub returns-in-Differ : goal.returns-in-Differ
-returns-in-Differ c = (
-  rw c.in-Differ.is c.print_difference.ensures.0,
+pub returns-in-Ok-Some : goal.returns-in-Ok-Some
+returns-in-Ok-Some c = (
+  search rules,
   c.print_difference.ensures.1,
 )
 
-pub returns-in-Refused : goal.returns-in-Refused
-returns-in-Refused c = (
-  rw c.in-Refused.is c.print_refusal.ensures.0,
+pub returns-in-Err : goal.returns-in-Err
+returns-in-Err c = (
+  rw (c.in-Err.is, ← c.number.ensures) c.print_refusal.ensures.0,
   omega (arith, c.print_refusal.ensures.1),
 )

@@ -5,5 +5,5 @@ use Rattle.recording_files.proofs.read_lengths.Goals as goal
 
 pub store_lengths-requires : goal.store_lengths-requires
 store_lengths-requires c =
-    let l = lengths_held c.args.file.now c.requires.0 c.frames_in.ensures c.least-n.ensures in
+    let l = lengths_held c.args.file.now c.requires.0 c.frames_in.ensures c.min-n.ensures in
     record { held = l.held; fits = omega (arith, l.fits, c.requires.1) }

@@ -1,11 +1,7 @@
 -- The first i lengths are stored.
-use Prim.Native.Nat.{◌-◌}
 use Rattle.ranges.specs.LaidLaws.{Laying}
 use Rattle.recording_files.specs.File.{length_at}
 use Rattle.recording_files.proofs.store_lengths.Given as goal
 
 abbrev pub invariant-loop-i : goal.invariant-loop-i
 invariant-loop-i l = Laying (length_at l.file) l.n l.initial.lengths l.i l.lengths
-
-abbrev pub decreases-loop-i : goal.decreases-loop-i
-decreases-loop-i l = l.n - l.i

@@ -1,9 +1,0 @@
--- The count is at most the number of turns.
-use Rattle.std.proofs.Common.{length, ◌-◌, ◌≤◌}
-use Rattle.frame_trip.proofs.cut.Given as goal
-
-abbrev pub invariant-loop-i : goal.invariant-loop-i
-invariant-loop-i l = (l.count ≤ l.i) × (l.i ≤ length l.bytes)
-
-abbrev pub decreases-loop-i : goal.decreases-loop-i
-decreases-loop-i l = length l.bytes - l.i
