@@ -102,10 +102,7 @@ pub struct Parts {
 fn both_parts(head: u64, tail: u64) -> Parts
     ensures { result ≡ record { head = head; tail = tail } }
 {
-    Parts {
-        head,
-        tail,
-    }
+    Parts { head, tail }
 }
 
 fn parts_of(reading: Result<Message, Refusal>) -> Parts

@@ -72,7 +72,13 @@ fn entry_fault(bytes: &[u8], at: usize, width: usize, least: u32) -> Result<(), 
 }
 
 // The first fault of so many entries from a bit on.
-fn entries_fault(bytes: &[u8], first: usize, width: usize, least: u32, entries: usize) -> Result<(), Refusal>
+fn entries_fault(
+    bytes: &[u8],
+    first: usize,
+    width: usize,
+    least: u32,
+    entries: usize,
+) -> Result<(), Refusal>
     requires { EntriesAt first width least entries }
     ensures { fault_of result ≡ entries_fault bytes.now first width least entries }
 {
@@ -83,7 +89,13 @@ fn entries_fault(bytes: &[u8], first: usize, width: usize, least: u32, entries: 
 }
 
 // The first fault behind the fixed fields: of the entries, or of what stands behind them.
-pub fn rest_fault(bytes: &[u8], at: usize, width: usize, least: u32, entries: usize) -> Result<(), Refusal>
+pub fn rest_fault(
+    bytes: &[u8],
+    at: usize,
+    width: usize,
+    least: u32,
+    entries: usize,
+) -> Result<(), Refusal>
     requires { EntriesAt at width least entries × (at ≤ 8 * length bytes.now) }
     ensures { fault_of result ≡ rest_fault bytes.now at width least entries }
 {

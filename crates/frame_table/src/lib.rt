@@ -197,11 +197,7 @@ pub struct Field {
 fn limits(width: usize, least: u32, most: u32) -> Field
     ensures { result ≡ record { width = width; least = least; most = most } }
 {
-    Field {
-        width,
-        least,
-        most,
-    }
+    Field { width, least, most }
 }
 
 // The table of sorts: by what a field holds its bits, its least value, its greatest; the last row is of LESS.

@@ -260,19 +260,13 @@ pub fn message_at(kind: u32, fixed: Fixed) -> Message
             badge,
             setpoint: number,
         },
-        2 => Message::SetDone {
-            client,
-            server,
-        },
+        2 => Message::SetDone { client, server },
         3 => Message::Enter {
             client,
             key,
             mask: number,
         },
-        4 => Message::Entered {
-            client,
-            tag,
-        },
+        4 => Message::Entered { client, tag },
         5 => Message::WhichKeys { client },
         6 => Message::Keys {
             client,
@@ -290,20 +284,14 @@ pub fn message_at(kind: u32, fixed: Fixed) -> Message
             badge,
             setpoint: number,
         },
-        9 => Message::GetAll {
-            client,
-            server,
-        },
+        9 => Message::GetAll { client, server },
         10 => Message::All {
             client,
             server,
             entries,
         },
         11 => Message::GetLog { client },
-        _ => Message::Log {
-            client,
-            entries,
-        },
+        _ => Message::Log { client, entries },
     }
 }
 

@@ -4,35 +4,31 @@
 
 ghost use Rattle.std.specs.Prelude.{◌≡◌};
 ghost use Rattle.tables.specs.Tables.{tables_of};
+ghost use Rattle.causes.specs.Numbers.{number_of};
+ghost use Rattle.frames.specs.Results.{length_by};
+ghost use Rattle.listing.specs.Listed.{listed_by};
 ghost use Rattle.listing.specs.Register.{list_register};
 ghost use Rattle.wire.specs.Sending.{link_frame};
 ghost use Rattle.wire_exports.specs.Numbers.{refused_number, written_number, listed_number, numbered, frame_numbered, list_numbered};
 
-use frames::Written;
-use listing::Listed;
+use causes::Refusal;
+use tables::lent::Lent;
 
 // A refusal as a number.
-fn refused(number: u8) -> u64
-    ensures { result ≡ refused_number number }
+fn refused(refusal: Refusal) -> u64
+    ensures { result ≡ refused_number (number_of refusal) }
 {
-    18446744073709551615 - number as u64
+    u64::MAX - refusal.number() as u64
 }
 
-fn written_number(written: Written) -> u64
-    ensures { result ≡ written_number written }
+// A count, or the refusal, as a number.
+fn counted_number(counted: Result<usize, Refusal>) -> u64
+    ensures written { result ≡ written_number (length_by counted) }
+    ensures listed { result ≡ listed_number (listed_by counted) }
 {
-    match written {
-        Written::Length(length) => length as u64,
-        Written::Refused(number) => refused(number),
-    }
-}
-
-fn listed_number(listed: Listed) -> u64
-    ensures { result ≡ listed_number listed }
-{
-    match listed {
-        Listed::Rows(rows) => rows as u64,
-        Listed::Refused(number) => refused(number),
+    match counted {
+        Ok(count) => count as u64,
+        Err(refusal) => refused(refusal),
     }
 }
 
@@ -57,10 +53,17 @@ pub extern "C" fn wire_write_link_frame(
         log.now writes.now reads.now)
         bytes.old) }
 {
-    let written = link_frames::write_link_frame(
-        counts, clients, links, keys, values, log, writes, reads, client, target, bytes,
-    );
-    written_number(written)
+    let t = Lent {
+        counts,
+        clients,
+        links,
+        keys,
+        values,
+        log,
+        writes,
+        reads,
+    };
+    counted_number(link_frames::write_link_frame(&t, client, target, bytes))
 }
 
 // Lists the register: its rows at the front of the lent list.
@@ -82,8 +85,15 @@ pub extern "C" fn wire_list_register(
         log.now writes.now reads.now)
         list.old) }
 {
-    let listed = register_listing::list_register(
-        counts, clients, links, keys, values, log, writes, reads, list,
-    );
-    listed_number(listed)
+    let t = Lent {
+        counts,
+        clients,
+        links,
+        keys,
+        values,
+        log,
+        writes,
+        reads,
+    };
+    counted_number(register_listing::list_register(&t, list))
 }

@@ -33,9 +33,10 @@ pub entry_fault-requires : goal.entry_fault-requires
 entry_fault-requires c =
     let p = c.requires in
     let r = room (goal.at.entry_fault-requires c).In-loop-i in
-    let z = more (goal.at.entry_fault-requires c).In-loop-i in
-    (omega (arith, r, z),
-    record { near = omega (arith, r, z); narrow = p.narrow; masked = p.masked (omega (arith, c.loop-i-test.true)) })
+    let z = more (goal.at.entry_fault-requires c).In-loop-i in (
+      omega (arith, r, z),
+      record { near = omega (arith, r, z); narrow = p.narrow; masked = p.masked (omega (arith, c.loop-i-test.true)) },
+    )
 
 pub returns-in_err-entry_fault : goal.returns-in_err-entry_fault
 returns-in_err-entry_fault c =

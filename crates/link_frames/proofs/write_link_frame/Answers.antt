@@ -2,7 +2,7 @@
 use mathlib.Core.Bool.{not}
 use mathlib.Core.Path.{ap}
 use Rattle.ranges.specs.Tests.{holds}
-use Rattle.tables.specs.Tables.{tables_of}
+use Rattle.tables.specs.Lent.{tables_lent}
 use Rattle.soundness.specs.Facts.{sound_facts}
 use Rattle.wire.specs.Answers.{frame_unsound}
 use Rattle.link_frames.proofs.write_link_frame.Goals as goal
@@ -11,13 +11,13 @@ pub returns-then-not-sound : goal.returns-then-not-sound
 returns-then-not-sound c =
     let a = c.args in
     frame_unsound a.client a.target
-    (tables_of a.counts.now a.clients.now a.links.now a.keys.now a.values.now a.log.now a.writes.now a.reads.now) a.bytes.now
+    (tables_lent a.t.now) a.bytes.now
     c.sound.ensures (ap not c.if-not-sound.true)
 
 pub write_link_frame_sound-requires : goal.write_link_frame_sound-requires
 write_link_frame_sound-requires c =
     let a = c.args in
-    sound_facts (tables_of a.counts.now a.clients.now a.links.now a.keys.now a.values.now a.log.now a.writes.now a.reads.now)
+    sound_facts (tables_lent a.t.now)
     (holds c.sound.ensures (ap not c.if-not-sound.false))
 
 pub returns : goal.returns

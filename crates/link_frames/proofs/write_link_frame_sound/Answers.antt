@@ -1,6 +1,6 @@
 -- `link_frames::write_link_frame_sound` meets its contract: number 3, or what the link holds, which can always be written.
 use native.Mathlib.Omega.{arith}
-use Rattle.tables.specs.Tables.{tables_of}
+use Rattle.tables.specs.Lent.{tables_lent}
 use Rattle.wire.specs.Always.{Words}
 use Rattle.wire.specs.Answers.{frame_absent, is_present, link-ready}
 use Rattle.wire.proofs.Answers.{frame-written}
@@ -10,27 +10,23 @@ pub returns-then-is_absent : goal.returns-then-is_absent
 returns-then-is_absent c =
     let a = c.args in
     frame_absent a.client a.target
-    (tables_of a.counts.now a.clients.now a.links.now a.keys.now a.values.now a.log.now a.writes.now a.reads.now) c.requires a.bytes.now
-    (c.is_absent.ensures a.clients.now a.links.now a.keys.now a.values.now a.log.now a.writes.now a.reads.now) c.if-is_absent.true
+    (tables_lent a.t.now) c.requires a.bytes.now
+    c.is_absent.ensures c.if-is_absent.true
 
 pub write_link-requires : goal.write_link-requires
 write_link-requires c =
     let a = c.args in
     link-ready a.client a.target
-    (tables_of a.counts.now a.clients.now a.links.now a.keys.now a.values.now a.log.now a.writes.now a.reads.now) c.requires
+    (tables_lent a.t.now) c.requires
     (is_present a.client a.target
-    (tables_of a.counts.now a.clients.now a.links.now a.keys.now a.values.now a.log.now a.writes.now a.reads.now) c.requires a.bytes.now
-    (c.is_absent.ensures a.clients.now a.links.now a.keys.now a.values.now a.log.now a.writes.now a.reads.now) c.if-is_absent.false)
+    (tables_lent a.t.now) c.requires a.bytes.now
+    c.is_absent.ensures c.if-is_absent.false)
+    a.t.now.writes.now a.t.now.reads.now
 
 pub returns : goal.returns
 returns c =
     let a = c.args in
-    let w : Words a.links.now a.values.now =
-    record {
-      link = λ j. omega (arith, c.shared_slice_known-3-1.given j);
-      value = λ j. omega (arith, c.shared_slice_known-5-1.given j);
-    } in
     frame-written a.client a.target
-    (tables_of a.counts.now a.clients.now a.links.now a.keys.now a.values.now a.log.now a.writes.now a.reads.now) c.requires a.bytes.now
-    (c.is_absent.ensures a.clients.now a.links.now a.keys.now a.values.now a.log.now a.writes.now a.reads.now) c.if-is_absent.false w
-    (c.write_link.ensures a.writes.now a.reads.now)
+    (tables_lent a.t.now) c.requires a.bytes.now
+    c.is_absent.ensures c.if-is_absent.false c.have_words.ensures
+    c.write_link.ensures

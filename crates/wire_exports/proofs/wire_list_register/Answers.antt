@@ -3,4 +3,4 @@ use Rattle.wire_exports.specs.NumberLaws.{listed_so}
 use Rattle.wire_exports.proofs.wire_list_register.Goals as goal
 
 pub returns : goal.returns
-returns c = listed_so c.listed_number.ensures c.list_register-listed.ensures
+returns c = listed_so c.counted_number.ensures.listed c.list_register.ensures

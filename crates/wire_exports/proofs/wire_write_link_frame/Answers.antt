@@ -3,4 +3,4 @@ use Rattle.wire_exports.specs.NumberLaws.{framed}
 use Rattle.wire_exports.proofs.wire_write_link_frame.Goals as goal
 
 pub returns : goal.returns
-returns c = framed c.written_number.ensures c.write_link_frame-written.ensures
+returns c = framed c.counted_number.ensures.written c.write_link_frame.ensures
