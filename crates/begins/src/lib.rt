@@ -95,6 +95,7 @@ fn start_write(
 }
 
 // Begins a WRITE: the next count, a request to each masked server, the record.
+// Kept: (a) four tables for themselves, here and below: a Press would ask for those that a begin leaves as they are.
 #[tactic(auto, unfolding(rules::specs::Begin::begun_write))]
 pub fn begin_write(
     counts: &mut [u32],

@@ -38,7 +38,7 @@ struct Found {
 impl<'a> Choice<'a> {
     // Found are the setpoints and the badges of the masked servers at a tag, and the tags that they come from, if all of them were received.
     // The answer is whether they were: the first server that lacks its key ends the search. The row of tags is lent with zeros.
-    // Kept: (d) a bool beside the lent rows: the second call is known to find all, and an Option of two rows of 16 would be copied out.
+    // Kept: (d) a bool beside the lent rows: of the second try the answer is known, so that an Option of them would only be unwrapped there.
     fn values_at(&self, tag: usize, found: &mut Found, tags: &mut [u32; 16]) -> bool
         requires there { HasEntry self.now.log.now tag }
         requires zeros { tags.old ≡ replicate 16 0 }
@@ -109,6 +109,7 @@ fn forget_received(clients: &mut [u32], client: usize)
 
 // The client's row at the end of a READ under C: setpoints and badges at the tag that is chosen among the first entries of the log, the n
 // forgotten, the tag. A row of 16 gets the tags that they come from. The answer is the tag.
+// Kept: (a) the tables for themselves: the clients are changed, and a Receipts would hold them lent to be read.
 pub fn conclude<'x>(
     clients: &mut [u32],
     keys: &'x [u32],

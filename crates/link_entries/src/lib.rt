@@ -21,6 +21,7 @@ pub fn log_entries(log: &[u32], entries: usize, words: &mut [u32], masks: &mut [
 }
 
 // The first versions of a server: their badges, and their setpoints.
+// Kept: (d) beside log_entries: one loop for both would take a closure that answers a pair, for two lines each.
 pub fn version_entries(
     values: &[u32],
     server: usize,
