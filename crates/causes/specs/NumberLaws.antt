@@ -1,6 +1,6 @@
 -- Causes of one number are one cause: nothing is lost where a promise goes by numbers.
 use Rattle.std.specs.Prelude.{ℕ, ◌-◌, ◌≡◌, List, [], ◌∷◌, refl, get_or}
-use Rattle.std.proofs.Common.{sym, ap, ◌∙◌}
+use Rattle.std.proofs.Common.{sym, ap, ◌∙◌, arith}
 use Rattle.causes.specs.declared.Refusal.{Refusal}
 use Rattle.causes.specs.declared.Refusal.TheVariants as refusal
 use Rattle.causes.specs.Numbers.{number_of}
@@ -49,3 +49,10 @@ cause_back refusal.IllMade = refl
 
 pub same-number : (r s : Refusal) → number_of r ≡ number_of s → r ≡ s
 same-number r s e = sym (cause_back r) ∙ ap cause_at e ∙ cause_back s
+
+-- and a cause's number is not that of an accepted call
+pub some-number : (r : Refusal) → number_of r ≡ 0 → ⊥
+some-number r e =
+    let first : refusal.NoSuchPress ≡ r = ap cause_at (sym e) ∙ cause_back r in
+    let one : 1 ≡ number_of r = ap number_of first in
+    omega arith

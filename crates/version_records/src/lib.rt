@@ -2,6 +2,7 @@
 // the functions stand in the crate versions.
 #![tactic(auto)]
 
+use causes::Refusal;
 use keys::Key;
 
 // A version: the key of the WRITE that it came with, its badge, and its setpoint.
@@ -12,10 +13,9 @@ pub struct Version {
     pub setpoint: u32,
 }
 
-// The setpoint of a key and the badge that came with it, with number 0. Number 8 where no version held bears the key.
+// What is read of a key: the badge that came with it, and its setpoint.
 #[derive(Clone, Copy)]
 pub struct Reading {
-    pub number: u8,
     pub badge: u16,
     pub setpoint: u32,
 }
@@ -23,8 +23,8 @@ pub struct Reading {
 // What a trial found: what the append answered, how many can be read then, where the key stands, and what is read of it.
 #[derive(Clone, Copy)]
 pub struct Trial {
-    pub number: u8,
+    pub appended: Result<(), Refusal>,
     pub readable: usize,
     pub place: usize,
-    pub reading: Reading,
+    pub reading: Result<Reading, Refusal>,
 }

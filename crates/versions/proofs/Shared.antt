@@ -29,14 +29,11 @@ use Rattle.keys.specs.declared.Key.{Key}
 use Rattle.keys.specs.contracts.Key as K
 use Rattle.keys.proofs.Key.TheLaws as K'
 use Rattle.version_records.specs.declared.Version.{Version}
-use Rattle.version_records.specs.Table.{readable, first_bearing, reading_of}
+use Rattle.version_records.specs.Table.{readable, first_bearing}
 use Rattle.versions.proofs.Steps.{Answers, has}
 use Rattle.version_records.specs.contracts.Version as T
-use Rattle.version_records.specs.contracts.Reading as R
-use Rattle.version_records.proofs.Reading.TheLaws as R'
 use Rattle.versions.specs.contracts.held_now as held-now
 use Rattle.versions.specs.contracts.find as find
-use Rattle.versions.specs.contracts.setpoint_of as setpoint-of
 
 module _ {M : Type 1} {𝓤 : Ura M} (𝓛 : Logic 𝓤) (mem : Memory → SProp 𝓤) (run : Routine → Fun 𝓤) where
   abbrev pub Now : Contract 𝓤
@@ -44,9 +41,6 @@ module _ {M : Type 1} {𝓤 : Ura M} (𝓛 : Logic 𝓤) (mem : Memory → SProp
 
   abbrev pub Find : Contract 𝓤
   Find = triple_of 𝓛 find.signature (find.spec 𝓛 mem run)
-
-  abbrev pub Setpoint : Contract 𝓤
-  Setpoint = triple_of 𝓛 setpoint-of.signature (setpoint-of.spec 𝓛 mem run)
 
   module _ (κ : Lft) (q : Share) (b o : ℕ) (γ : GName) (ys : List Version) (held : ℕ) (gh : held < 2 ^ 64) where
     abbrev pub x : Bor (List Version)
@@ -81,13 +75,4 @@ module _ {M : Type 1} {𝓤 : Ura M} (𝓛 : Logic 𝓤) (mem : Memory → SProp
         ends = lasts find.ended (κ, tt) (x, (held, (k, tt)));
         gives = λ u. id⊢ 𝓤 _;
         tells = λ u is. ap only is.0;
-      }
-
-      pub setpoint-answers : Answers 𝓛 (token ⊛ ‵ Own) token Setpoint (((κ, tt), (q, tt), tt, (x, (held, (k, tt))), (s ∷ [], (vint w64 held ∷ [], (key-mach ∷ [], tt)))), tt) R.the_row (reading_of ys held k) (LL.val R.the_type R'.the_laws (reading_of ys held k))
-      setpoint-answers = record {
-        asks = qed 𝓛 ((token ⊛ ‵ Own) ∷ []) ∵ split ! $ nothing ! $ has ! K.the_row (LL.makes K.the_type K'.the_plain 𝓛) k _ gk $ has ! usize (uint_Makes 𝓛 w64) held _ (refl, gh) $ move ! (2 ∷ 0 ∷ []) $ fjoin ! $ move ! (1 ∷ 0 ∷ []) $ join ! $ frame ! $ done !;
-        Ends = Lasts setpoint-of.ended (κ, tt) (x, (held, (k, tt)));
-        ends = lasts setpoint-of.ended (κ, tt) (x, (held, (k, tt)));
-        gives = λ u. id⊢ 𝓤 _;
-        tells = λ u is. ap only (LL.tells R.the_type R'.the_laws (reading_of ys held k) (u ∷ []) is);
       }

@@ -4,35 +4,34 @@
 #![tactic(auto)]
 
 ghost use Rattle.std.specs.Prelude.{◌≡◌, length};
-ghost use Rattle.version_records.specs.Table.{readable, append_number, append_table, first_bearing, reading_of, held_after_lem, trial_made, trial_of};
+ghost use Rattle.causes.specs.Numbers.{fault_of};
+ghost use Rattle.version_records.specs.Table.{readable, append_number, append_table, first_bearing, reading_of, held_after_lem, trial_of};
+ghost use Rattle.version_records.specs.Table.{reading_by, trial_by};
 
+use causes::Refusal;
 use keys::Key;
 use tables::versions::PLACES;
 use version_records::{Reading, Trial, Version};
 
-// Appends a version behind those held, and answers 0. Where the lent table has fewer than 256 places it answers 2, then where 256 are held 8,
-// and nothing changes. Where a version held bears the key already, as when a request was sent again, none is appended: `find` tells that
-// first.
-pub fn append(versions: &mut [Version], held: usize, version: Version) -> u8
-    ensures { (result ≡ append_number held (length versions.old)) × (versions.new ≡ append_table versions.old held version) }
+// Appends a version behind those held. Refused by 2 or 8: by 2 where the lent table has fewer than 256 places, then by 8 where 256 are held, and
+// nothing changes. Where a version held bears the key already, as when a request was sent again, none is appended: `find` tells that first.
+pub fn append(versions: &mut [Version], held: usize, version: Version) -> Result<(), Refusal>
+    ensures { (fault_of result ≡ append_number held (length versions.old)) × (versions.new ≡ append_table versions.old held version) }
 {
-    let number = version_decisions::append_number(held, versions.len());
-    if number == 0 {
-        versions[held] = version;
-    }
-    number
+    version_decisions::may_append(held, versions.len())?;
+    versions[held] = version;
+    Ok(())
 }
 
-// How many are held after an append that answered a number.
-pub fn held_after(held: usize, number: u8) -> usize
-    ensures { result ≡ held_after_lem held number }
+// How many are held after an append that ended so.
+#[tactic(auto, unfolding(version_records::specs::Table::held_after_lem))]
+pub fn held_after(held: usize, appended: Result<(), Refusal>) -> usize
+    ensures { result ≡ held_after_lem held (fault_of appended) }
 {
-    if number == 0 {
-        if held < PLACES {
-            return held + 1;
-        }
+    match appended {
+        Ok(()) if held < PLACES => held + 1,
+        _ => held,
     }
-    held
 }
 
 // How many are held at this moment and can be read.
@@ -46,51 +45,40 @@ pub fn held_now(versions: &[Version], held: usize) -> usize
 pub fn find(versions: &[Version], held: usize, key: Key) -> usize
     ensures { result ≡ first_bearing versions.now held key }
 {
-    let readable = version_decisions::readable_of(held, versions.len());
-    let mut place = 0;
-    while place < readable {
+    let readable = held_now(versions, held);
+    for place in 0..readable {
         if version_decisions::bears_key(versions[place], key) {
             return place;
         }
-        place += 1;
     }
     readable
 }
 
-// The setpoint of a key, with its badge: those of the first version held that bears it.
-pub fn setpoint_of(versions: &[Version], held: usize, key: Key) -> Reading
-    ensures { result ≡ reading_of versions.now held key }
+// The setpoint of a key, with its badge: those of the first version held that bears it. Refused by 8 where none does.
+pub fn setpoint_of(versions: &[Version], held: usize, key: Key) -> Result<Reading, Refusal>
+    ensures { reading_by result ≡ reading_of versions.now held key }
 {
     let place = find(versions, held, key);
-    if place < version_decisions::readable_of(held, versions.len()) {
-        return version_decisions::reading_found(versions[place]);
-    }
-    version_decisions::reading_missing()
-}
-
-// What a trial found, as one value.
-fn trial_of(number: u8, readable: usize, place: usize, reading: Reading) -> Trial
-    ensures { result ≡ trial_made number readable place reading }
-{
-    Trial {
-        number: number,
-        readable: readable,
-        place: place,
-        reading: reading,
+    if place < held_now(versions, held) {
+        Ok(version_decisions::reading_found(versions[place]))
+    } else {
+        Err(Refusal::Unanswerable)
     }
 }
 
 // A table of one's own, filled with a version, takes another behind those held; then a key is looked up in it.
 // The parameters are plain values, so that a caller lends no table.
 pub fn append_and_read(blank: Version, held: usize, version: Version, key: Key) -> Trial
-    ensures { result ≡ trial_of blank held version key }
+    ensures { trial_by result ≡ trial_of blank held version key }
 {
     let mut table = [blank; 4096];
-    let number = append(&mut table, held, version);
-    let after = held_after(held, number);
+    let appended = append(&mut table, held, version);
+    let after = held_after(held, appended);
     let lent: &[Version] = &table;
-    let readable = held_now(lent, after);
-    let place = find(lent, after, key);
-    let reading = setpoint_of(lent, after, key);
-    trial_of(number, readable, place, reading)
+    Trial {
+        appended,
+        readable: held_now(lent, after),
+        place: find(lent, after, key),
+        reading: setpoint_of(lent, after, key),
+    }
 }

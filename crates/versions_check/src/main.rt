@@ -5,7 +5,7 @@
 
 ghost use Rattle.std.specs.Prelude.{◌≡◌};
 ghost use Rattle.keys.specs.Keys.{key_of};
-ghost use Rattle.version_records.specs.Table.{trial_of};
+ghost use Rattle.version_records.specs.Table.{trial_of, trial_by};
 ghost use Rattle.version_records.specs.Core.{version_of};
 
 use keys::Key;
@@ -17,23 +17,30 @@ fn version_of(count: u8, client: u8, badge: u16, setpoint: u32) -> Version
 {
     Version {
         key: Key::new(count, client),
-        badge: badge,
-        setpoint: setpoint,
+        badge,
+        setpoint,
     }
 }
 
 fn print(rt: &impl Print, trial: Trial) -> io::Result<()> {
-    let reading = trial.reading;
+    let appended = match trial.appended {
+        Ok(()) => 0,
+        Err(refusal) => refusal.number(),
+    };
+    let (read, badge, setpoint) = match trial.reading {
+        Ok(reading) => (0, reading.badge, reading.setpoint),
+        Err(refusal) => (refusal.number(), 0, 0),
+    };
     println!(rt;
         "{} {} {} {} {} {}",
-        trial.number, trial.readable, trial.place, reading.number, reading.badge, reading.setpoint
+        appended, trial.readable, trial.place, read, badge, setpoint
     )
 }
 
 // A table that is full of key (1, 0) with badge 7 at 30 takes a version of a key with badge 65,535 at 45, behind those held; then a key is
 // looked up.
 fn tried(held: usize, count: u8, client: u8, sought: Key) -> Trial
-    ensures { result ≡ trial_of (version_of (key_of 1 0) 7 30) held (version_of (key_of count client) 65535 45) sought }
+    ensures { trial_by result ≡ trial_of (version_of (key_of 1 0) 7 30) held (version_of (key_of count client) 65535 45) sought }
 {
     let blank = version_of(1, 0, 7, 30);
     let version = version_of(count, client, 65535, 45);

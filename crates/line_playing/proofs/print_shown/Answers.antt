@@ -1,9 +1,7 @@
 -- An answer takes at most `answer_most` bytes. One that shows no servers is the same whatever stands in the rows.
-use mathlib.Core.Bool.{not}
-use mathlib.Core.Path.{ap}
+use Rattle.std.proofs.Common.{ap, not}
 use Rattle.printing.specs.PlainLaws.{answer_plain}
-use borrow.Author.Rules.{rules}
-use Rattle.ranges.specs.Tests.{at_most, fails}
+use Rattle.ranges.specs.Tests.{fails}
 use Rattle.line_playing.proofs.print_shown.Goals as goal
 
 pub returns-then-not-shows_servers : goal.returns-then-not-shows_servers

@@ -1,4 +1,4 @@
--- `versions::append_and_read` meets its contract: what the calls answer, one after another, is a trial in the table filled with one version.
+-- What the calls answer, one after another, is a trial in the table filled with one version.
 use Rattle.std.proofs.Common.{refl, ◌∙◌, List, replicate}
 use Rattle.version_records.specs.declared.Version.{Version}
 use Rattle.version_records.specs.Cases.{trial_is, trial-filled}
@@ -8,12 +8,11 @@ pub returns : goal.returns
 returns c =
     let table : List Version = replicate 4096 c.args.blank in
     rw (
-      c.trial_of.ensures,
-      c.setpoint_of-reading.ensures,
-      c.find-place.ensures,
-      c.held_now-readable.ensures,
+      c.setpoint_of.ensures,
+      c.find.ensures,
+      c.held_now.ensures,
       c.held_after-after.ensures,
-      c.append-number.ensures.1,
-      c.append-number.ensures.0,
+      c.append-appended.ensures.1,
+      c.append-appended.ensures.0,
     )
     (trial_is table c.args.held c.args.version c.args.key ∙ trial-filled table c.args.held c.args.version c.args.key c.args.blank refl)
