@@ -50,5 +50,7 @@ pub fn first_equal(words: &[u32], start: usize, n: usize, word: u32) -> usize
 {
     let wide = passed(0, n, 16, |at| has_equal(words, start + at, 16, word));
     let narrow = passed(wide, n, 4, |at| has_equal(words, start + at, 4, word));
-    (narrow..n).find(|at| words[start + *at] == word).unwrap_or(n)
+    (narrow..n)
+        .find(|at| words[start + *at] == word)
+        .unwrap_or(n)
 }

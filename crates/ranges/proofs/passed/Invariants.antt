@@ -8,7 +8,7 @@ abbrev pub invariant-loop-at : goal.invariant-loop-at
 invariant-loop-at g l = record {
   within : l.at ≤ l.n;
   passed : (p : ℕ → Bool) → Sought p l.n l.fn.from →
-      ((at : ℕ) → at + l.many ≤ l.n → goal.F-post g l.seen at false → any_below (λ i. p (at + i)) l.many ≡ false) → Sought p l.n l.at
+      ((at : ℕ) → at + l.many ≤ l.n → goal.F-post g l.seen at false → any_below (λ i. p (at + i)) l.many ≡ false) → Sought p l.n l.at;
 }
 
 abbrev pub decreases-loop-at : goal.decreases-loop-at
