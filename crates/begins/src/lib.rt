@@ -95,7 +95,6 @@ fn start_write(
 }
 
 // Begins a WRITE: the next count, a request to each masked server, the record.
-// Kept: (a) four tables for themselves, here and below: a Press would ask for those that a begin leaves as they are.
 #[tactic(auto, unfolding(rules::specs::Begin::begun_write))]
 pub fn begin_write(
     counts: &mut [u32],
@@ -113,6 +112,7 @@ pub fn begin_write(
         ≡ begun_write client mask badge setpoints.now
         (tables_of counts.old clients.old links.old keys values log writes.old reads) }
 {
+    // Kept: (a) four tables for themselves, here and below: a Press would ask for those that a begin leaves as they are.
     let count = clients::client_word(clients, client, clients::COUNT) + 1;
     let place = counts::count_at(counts, counts::WRITES);
     start_write(clients, client, mask, place, count, badge, setpoints);

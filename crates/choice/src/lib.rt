@@ -109,7 +109,6 @@ fn forget_received(clients: &mut [u32], client: usize)
 
 // The client's row at the end of a READ under C: setpoints and badges at the tag that is chosen among the first entries of the log, the n
 // forgotten, the tag. A row of 16 gets the tags that they come from. The answer is the tag.
-// Kept: (a) the tables for themselves: the clients are changed, and a Receipts would hold them lent to be read.
 pub fn conclude<'x>(
     clients: &mut [u32],
     keys: &'x [u32],
@@ -134,6 +133,7 @@ pub fn conclude<'x>(
     ensures tags { tags.new
         ≡ laid_over (has_server mask) (latest_tag_at log.now result) servers tags.old }
 {
+    // Kept: (a) the tables for themselves: the clients are changed, and a Receipts would hold them lent to be read.
     let choice = Choice {
         receipts: Receipts {
             clients: &*clients,

@@ -21,7 +21,6 @@ pub fn log_entries(log: &[u32], entries: usize, words: &mut [u32], masks: &mut [
 }
 
 // The first versions of a server: their badges, and their setpoints.
-// Kept: (d) beside log_entries: one loop for both would take a closure that answers a pair, for two lines each.
 pub fn version_entries(
     values: &[u32],
     server: usize,
@@ -34,6 +33,7 @@ pub fn version_entries(
     ensures { (badges.new ≡ laid (version_badge values.now server) entries badges.old)
         × (setpoints.new ≡ laid (version_setpoint values.now server) entries setpoints.old) }
 {
+    // Kept: (d) beside log_entries: one loop for both would take a closure that answers a pair, for two lines each.
     for place in 0..entries {
         badges[place] = versions::version_badge(values, server, place);
         setpoints[place] = versions::version_setpoint(values, server, place);

@@ -57,7 +57,6 @@ fn open_counts(counts: &mut [u32], method: u32, servers: u32, clients: u32)
 
 // Opens the store on tables that are long enough: the opening's version at each server, its entry at tag 0.
 // The number of clients is called panels here, since clients are their rows.
-// Kept: (a) six tables for themselves: a Press would ask for writes and reads too, which an opening leaves as they are.
 pub fn open(
     counts: &mut [u32],
     clients: &mut [u32],
@@ -75,6 +74,7 @@ pub fn open(
         tables_of counts.new clients.new links.new keys.new values.new log.new writes reads
         ≡ opened method servers panels setpoints.now (tables_of counts.old clients.old links.old keys.old values.old log.old writes reads) }
 {
+    // Kept: (a) six tables for themselves: a Press would ask for writes and reads too, which an opening leaves as they are.
     open_counts(counts, method, servers, panels);
     clients.fill(0);
     links.fill(0);

@@ -85,11 +85,11 @@ pub fn send_sets(
 }
 
 // A request that carries nothing to each masked server.
-// Kept: (d) beside send_sets: a loop for both would take a closure, and clauses that say of it what each loop says by itself.
 pub fn send_asks(links: &mut [u32], client: usize, mask: u32, servers: usize)
     requires { (HasLinks links.old client) × (servers ≤ 16) }
     ensures { links.new ≡ sent_asks client mask servers links.old }
 {
+    // Kept: (d) beside send_sets: a loop for both would take a closure, and clauses that say of it what each loop says by itself.
     for server in 0..servers {
         send_masked(links, client, mask, Key::OPENING, 0, 0, server);
     }
