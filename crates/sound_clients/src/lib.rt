@@ -102,12 +102,10 @@ fn all_kept_sound(counts: &[u32], clients: &[u32], client: usize) -> bool
         result ≡ all_below (kept_sound u client) (servers_of u) }
 {
     let servers = counts::count_at(counts, counts::SERVERS) as usize;
-    let mut server = 0;
-    while server < servers {
+    for server in 0..servers {
         if !kept_sound(counts, clients, client, server) {
             return false;
         }
-        server += 1;
     }
     true
 }
@@ -161,12 +159,5 @@ pub fn clients_sound(counts: &[u32], clients: &[u32], links: &[u32]) -> bool
     ensures { (t : Tables) → let u = with_links links.now (with_clients clients.now (with_counts counts.now t)) in result ≡ all_below (client_sound u) (clients_of u) }
 {
     let rows = counts::count_at(counts, counts::CLIENTS) as usize;
-    let mut client = 0;
-    while client < rows {
-        if !client_sound(counts, clients, links, client) {
-            return false;
-        }
-        client += 1;
-    }
-    true
+    (0..rows).all(|client| client_sound(counts, clients, links, client))
 }

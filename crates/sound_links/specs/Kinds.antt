@@ -1,7 +1,7 @@
 -- Whether a link is sound, by the word of its kind, as the code meets it.
 use Rattle.std.specs.Prelude.{ℕ, ◌<◌, ◌≡◌, Bool, true, false, ◌&&◌, eqb}
 use Rattle.std.proofs.Common.{arith}
-use borrow.Author.Tests.{lt-leb, eq-eqb, ne_eqb}
+use borrow.Author.Tests.{lt-leb, ne_eqb}
 use Rattle.ranges.specs.Tests.{by_equal}
 use Rattle.tables.specs.Rows.{word_at}
 use Rattle.tables.specs.Links.{link_width, link_row, link_at}

@@ -72,14 +72,7 @@ pub fn links_sound(counts: &[u32], clients: &[u32], links: &[u32], client: usize
     requires client_there { ClientThere clients.now links.now client }
     ensures { (t : Tables) → result ≡ all_below (link_sound (with_links links.now (with_clients clients.now (with_counts counts.now t))) client) targets }
 {
-    let mut target = 0;
-    while target < links::TARGETS {
-        if !link_sound(counts, clients, links, client, target) {
-            return false;
-        }
-        target += 1;
-    }
-    true
+    (0..links::TARGETS).all(|target| link_sound(counts, clients, links, client, target))
 }
 
 // Whether something must have been received: the client asks all, this target among them, and its link is empty.
@@ -121,12 +114,5 @@ pub fn all_received_sound(counts: &[u32], clients: &[u32], links: &[u32], client
     requires client_there { ClientThere clients.now links.now client }
     ensures { (t : Tables) → result ≡ all_below (received_sound (with_links links.now (with_clients clients.now (with_counts counts.now t))) client) targets }
 {
-    let mut target = 0;
-    while target < links::TARGETS {
-        if !received_sound(counts, clients, links, client, target) {
-            return false;
-        }
-        target += 1;
-    }
-    true
+    (0..links::TARGETS).all(|target| received_sound(counts, clients, links, client, target))
 }

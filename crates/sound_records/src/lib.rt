@@ -44,14 +44,7 @@ fn writes_sound(counts: &[u32], writes: &[u32]) -> bool
     ensures { (t : Tables) → let u = with_writes writes.now (with_counts counts.now t) in result ≡ all_below (write_sound u) (writes_of u) }
 {
     let begun = counts::count_at(counts, counts::WRITES) as usize;
-    let mut place = 0;
-    while place < begun {
-        if !write_sound(counts, writes, place) {
-            return false;
-        }
-        place += 1;
-    }
-    true
+    (0..begun).all(|place| write_sound(counts, writes, place))
 }
 
 fn read_sound(counts: &[u32], reads: &[u32], place: usize) -> bool
@@ -79,14 +72,7 @@ fn reads_sound(counts: &[u32], reads: &[u32]) -> bool
     ensures { (t : Tables) → let u = with_reads reads.now (with_counts counts.now t) in result ≡ all_below (read_sound u) (reads_of u) }
 {
     let begun = counts::count_at(counts, counts::READS) as usize;
-    let mut place = 0;
-    while place < begun {
-        if !read_sound(counts, reads, place) {
-            return false;
-        }
-        place += 1;
-    }
-    true
+    (0..begun).all(|place| read_sound(counts, reads, place))
 }
 
 // Whether a record is of a client and has no end.
@@ -123,10 +109,8 @@ fn open_counts(records: &[u32], begun: usize) -> [u32; 16]
     ensures { OpenCounts records.now begun result }
 {
     let mut found = [0u32; 16];
-    let mut place = 0;
-    while place < begun {
+    for place in 0..begun {
         count_open(records, place, &mut found);
-        place += 1;
     }
     found
 }
@@ -205,9 +189,8 @@ fn all_records_sound(counts: &[u32], clients: &[u32], writes: &[u32], reads: &[u
     let writing = open_counts(writes, counts::count_at(counts, counts::WRITES) as usize);
     let reading = open_counts(reads, counts::count_at(counts, counts::READS) as usize);
     let rows = counts::count_at(counts, counts::CLIENTS) as usize;
-    let mut client = 0;
-    while client < rows {
-        if !records_sound(
+    (0..rows).all(|client| {
+        records_sound(
             counts,
             clients,
             writes,
@@ -215,12 +198,8 @@ fn all_records_sound(counts: &[u32], clients: &[u32], writes: &[u32], reads: &[u
             client,
             writing[client],
             reading[client],
-        ) {
-            return false;
-        }
-        client += 1;
-    }
-    true
+        )
+    })
 }
 
 // All counts together. Each is below 2^32, so that sixteen of them fit.
@@ -229,10 +208,8 @@ fn counts_together(clients: &[u32], rows: usize) -> u64
     ensures { (t : Tables) → result ≡ sum_below (count_of (with_clients clients.now t)) rows }
 {
     let mut total: u64 = 0;
-    let mut client = 0;
-    while client < rows {
+    for client in 0..rows {
         total += clients::client_word(clients, client, clients::COUNT) as u64;
-        client += 1;
     }
     total
 }

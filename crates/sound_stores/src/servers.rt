@@ -1,5 +1,5 @@
 // The versions of each server: the first bears the opening's key, and every key and badge is in its range.
-ghost use Rattle.std.specs.Prelude.{◌≡◌, ◌≤◌, ◌<◌};
+ghost use Rattle.std.specs.Prelude.{ℕ, Bool, ◌≡◌, ◌≤◌, ◌<◌};
 ghost use Rattle.ranges.specs.All.{all_below};
 ghost use Rattle.tables.specs.Rows.{HasRow};
 ghost use Rattle.tables.specs.Layout.{server_places, version_word, version_badge, HasValues};
@@ -11,21 +11,30 @@ ghost use Rattle.soundness.specs.Asked.{Counted, VersionsThere};
 use sound_numbers::scalars;
 use tables::{counts, versions};
 
+// Whether each number below n passes a test. All are looked at, so that the compiler makes several of a test of one comparison at once.
+fn all_seen<F: Fn(usize) -> bool>(n: usize, test: F) -> bool
+    requires { (i : ℕ) → i < n → F.pre test i }
+    ensures { (p : ℕ → Bool) → ((i : ℕ) (b : Bool) → F.post test i b → b ≡ p i) → result ≡ all_below p n }
+{
+    let mut all = true;
+    for i in 0..n {
+        if !test(i) {
+            all = false;
+        }
+    }
+    all
+}
+
 // The keys of the first versions of a server, one comparison of each a loop. All are looked at, so that the compiler compares several at
 // once; it does not where a key has more than one comparison. Whether they have counts, but for the opening's:
 fn keys_counted(keys: &[u32], server: usize, held: usize) -> bool
     requires { (held ≤ server_places) × HasRow server_places keys.now server }
     ensures { result ≡ all_below (λ place. key_counted (version_word keys.now server place)) held }
 {
-    let mut counted = true;
-    let mut place = 0;
-    while place < held {
-        if !scalars::key_counted(versions::key_word(keys, server, place)) {
-            counted = false;
-        }
-        place += 1;
-    }
-    counted
+    all_seen(
+        held,
+        |place| scalars::key_counted(versions::key_word(keys, server, place)),
+    )
 }
 
 // Whether they have 16 bits, and are of clients up to the last.
@@ -33,15 +42,10 @@ fn keys_owned(keys: &[u32], server: usize, held: usize, last: u32) -> bool
     requires { (held ≤ server_places) × HasRow server_places keys.now server }
     ensures { result ≡ all_below (λ place. key_owned last (version_word keys.now server place)) held }
 {
-    let mut owned = true;
-    let mut place = 0;
-    while place < held {
-        if !scalars::key_owned(last, versions::key_word(keys, server, place)) {
-            owned = false;
-        }
-        place += 1;
-    }
-    owned
+    all_seen(
+        held,
+        |place| scalars::key_owned(last, versions::key_word(keys, server, place)),
+    )
 }
 
 fn keys_in_range(keys: &[u32], server: usize, held: usize, clients: u32) -> bool
@@ -60,15 +64,10 @@ fn badges_fit(values: &[u32], server: usize, held: usize) -> bool
     requires { (held ≤ server_places) × HasValues values.now server }
     ensures { result ≡ all_below (λ place. badge_fits (version_badge values.now server place)) held }
 {
-    let mut fit = true;
-    let mut place = 0;
-    while place < held {
-        if !scalars::badge_fits(versions::version_badge(values, server, place)) {
-            fit = false;
-        }
-        place += 1;
-    }
-    fit
+    all_seen(
+        held,
+        |place| scalars::badge_fits(versions::version_badge(values, server, place)),
+    )
 }
 
 fn server_sound(counts: &[u32], keys: &[u32], values: &[u32], server: usize) -> bool
@@ -98,12 +97,5 @@ pub fn servers_sound(counts: &[u32], keys: &[u32], values: &[u32]) -> bool
         result ≡ all_below (server_sound u) (servers_of u) }
 {
     let servers = counts::count_at(counts, counts::SERVERS) as usize;
-    let mut server = 0;
-    while server < servers {
-        if !server_sound(counts, keys, values, server) {
-            return false;
-        }
-        server += 1;
-    }
-    true
+    (0..servers).all(|server| server_sound(counts, keys, values, server))
 }

@@ -1,9 +1,7 @@
 -- `sound_clients::all_kept_sound` meets its contract: what is kept for the servers before `server` are sound.
 use mathlib.Core.Bool.{not}
 use mathlib.Core.Path.{ap}
-use Prim.Native.Nat.{◌-◌}
 use Rattle.soundness.specs.Loops.{passed_none, passed-more, passed_stop, passed-end}
-use Rattle.soundness.specs.Sound.{kept_sound}
 use Rattle.sound_clients.proofs.all_kept_sound.Goals as goal
 
 pub loop-server-init : goal.loop-server-init

@@ -1,6 +1,5 @@
 -- `sound_records::counts_together` meets its contract: `total` is the sum of the counts passed, each below 2^32.
 use mathlib.Core.Path.{sym, ◌≡◌}
-use Prim.Native.Nat.{◌-◌}
 use native.Mathlib.Omega.{arith}
 use Rattle.ranges.specs.SumLaws.{sum-none, sum_more}
 use Rattle.tables.specs.Tables.{with_clients, count_of}

@@ -1,6 +1,5 @@
 -- `sound_records::open_counts` meets its contract: the records before `place` are counted.
 use mathlib.Core.Path.{◌≡◌}
-use Prim.Native.Nat.{◌-◌}
 use native.Mathlib.Omega.{arith}
 use Rattle.sound_records.specs.Opens.{opens-none}
 use borrow.Author.Rules.{rules}

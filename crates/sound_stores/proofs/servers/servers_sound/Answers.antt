@@ -1,19 +1,7 @@
--- `sound_stores::servers::servers_sound` meets its contract: the servers before `server` are sound.
-use mathlib.Core.Bool.{not}
-use mathlib.Core.Path.{ap}
-use Prim.Native.Nat.{◌-◌}
-use Rattle.soundness.specs.Loops.{passed_none, passed-more, passed_stop, passed-end}
-use Rattle.soundness.specs.Sound.{server_sound}
+-- `sound_stores::servers::servers_sound` meets its contract: the chain over the servers is the definition's fold.
+use Rattle.std.proofs.Common.{rules, tests, refl}
+use Rattle.ranges.specs.Chains.{all_ran}
 use Rattle.sound_stores.proofs.servers.servers_sound.Goals as goal
 
-pub loop-server-init : goal.loop-server-init
-loop-server-init c = passed_none
-
-pub returns-then-not-server_sound : goal.returns-then-not-server_sound
-returns-then-not-server_sound c = passed_stop c.loop-server.invariant c.count_at-servers.ensures c.loop-server-test.true c.server_sound.ensures (ap not c.if-not-server_sound.true)
-
-pub loop-server-preserved : goal.loop-server-preserved
-loop-server-preserved c = passed-more c.loop-server.invariant c.loop-server-test.true c.server_sound.ensures (ap not c.if-not-server_sound.false)
-
 pub returns : goal.returns
-returns c = passed-end c.loop-server.invariant c.count_at-servers.ensures c.loop-server-test.false
+returns c = λ t. all_ran _ _ _ _ _ c.all.result c.all.ensures.ran refl c.count_at-servers.ensures (λ x b q k. search (rules, tests))
