@@ -2,6 +2,7 @@
 // `_unchecked`, since nothing checks a caller in another language. `step_numbers` and `crossings` make the numbers of their answers.
 // They stand in a library of their own. Beside the public steps each step of `store` would have two callers, so that the compiler would leave
 // it a call, with each slice handed over by the address of a copy; here it has one, and is inlined.
+// Kept: six functions of eight slices each, since their names and signatures are the C interface.
 #![tactic(auto)]
 
 ghost use Rattle.std.specs.Prelude.{◌≡◌};

@@ -45,19 +45,21 @@ pub struct Crossing {
 }
 
 // The answer as it crosses.
-pub fn to_cross(delivered: Delivered) -> Crossing
-    ensures { result ≡ crossing_of delivered }
-{
-    let Delivered {
-        arrival,
-        setpoints,
-        tags,
-        badges,
-    } = delivered;
-    Crossing {
-        number: arrival_number(arrival),
-        setpoints,
-        tags,
-        badges,
+impl From<Delivered> for Crossing {
+    fn from(delivered: Delivered) -> Crossing
+        ensures { result ≡ crossing_of delivered }
+    {
+        let Delivered {
+            arrival,
+            setpoints,
+            tags,
+            badges,
+        } = delivered;
+        Crossing {
+            number: arrival_number(arrival),
+            setpoints,
+            tags,
+            badges,
+        }
     }
 }

@@ -1,5 +1,6 @@
 // What other languages call, on numbers and slices: the check of tables, and the seven public steps. `sound_exports` has six of them on
 // tables known to be sound, and `step_numbers` makes the numbers.
+// Kept: eight functions of eight slices each, since their names and signatures are the C interface.
 #![tactic(auto)]
 
 ghost use Rattle.std.specs.Prelude.{◌≡◌};
@@ -147,7 +148,7 @@ pub extern "C" fn store_deliver_reply(
     ensures { crossed result (tables_of counts.new clients.new links.new keys.now values.now log.now writes.new reads.new)
         ≡ in_crossing (deliver_reply client target (tables_of counts.old clients.old links.old keys.now values.now log.now writes.old reads.old)) }
 {
-    step_numbers::to_cross(store::deliver_reply(
+    Crossing::from(store::deliver_reply(
         counts, clients, links, keys, values, log, writes, reads, client, target,
     ))
 }
