@@ -3,7 +3,8 @@
 
 ghost use Rattle.std.specs.Prelude.{◌≡◌, ◌-◌, ◌≤◌, length, drop};
 ghost use Rattle.schedule.specs.Lines.{line_of, end_of};
-ghost use Rattle.schedule.specs.Numbers.{digit_of, digit_read, number_of, spaced_of, numbers_of, count_of, number_by, numbers_by};
+ghost use Rattle.schedule.specs.Numbers.{digit_of, number_of, spaced_of, numbers_of, count_of};
+ghost use Rattle.schedule.specs.Number.{digit_read, number_by, numbers_by};
 ghost use Rattle.schedule.specs.Steps.{line_most, numbers_most, stored};
 
 use schedule::Numeral;

@@ -3,10 +3,10 @@ use Rattle.std.specs.Prelude.{ℕ, ◌+◌, ◌-◌, ◌≤◌, ◌<◌, ◌≡�
 use Rattle.std.proofs.Common.{sym, subst, ◌∙◌, arith, length-drop, take_all, eq-eqb, ne_eqb, le-leb}
 use Rattle.std.proofs.Math.ListN.{get_or-append}
 use Rattle.std.proofs.lemmas.Bool.{lt-leb}
-use Rattle.schedule.specs.Numbers.{Number}
-use Rattle.schedule.specs.Numbers.{Value, Not}
-use Rattle.schedule.specs.Numbers.{Numbers}
-use Rattle.schedule.specs.Numbers.{Broken, All}
+use Rattle.schedule.specs.Number.{Number}
+use Rattle.schedule.specs.Number.{Value, Not}
+use Rattle.schedule.specs.Number.{Numbers}
+use Rattle.schedule.specs.Number.{Broken, All}
 use Rattle.schedule.specs.Numbers.{number_of, spaced_of, Read, read_then, numbers_behind, numbers_of, count_of}
 use Rattle.schedule.specs.NumberLaws.{before, Sized, number_sized, skipped}
 use Rattle.schedule.specs.Steps.{line_most, stored}

@@ -4,6 +4,7 @@ pub mod Lines
 pub mod LineLaws
 pub mod Decimal
 pub mod DecimalLaws
+pub mod Number
 pub mod Numbers
 pub mod NumberLaws
 pub mod Steps

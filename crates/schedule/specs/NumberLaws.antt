@@ -8,10 +8,10 @@ use Rattle.std.proofs.Math.ListN.{length, drop, length-drop}
 use Rattle.std.proofs.Math.Seq.{drop-cons}
 use borrow.Author.Tests.{eq-eqb, ne_eqb, le-leb, lt-leb, lt-ltb, le-ltb, ltb-true, ltb-false, leb-true}
 use Rattle.ranges.specs.Tests.{by-test, both_right}
-use Rattle.schedule.specs.Numbers.{Number}
-use Rattle.schedule.specs.Numbers.{Value, Not}
-use Rattle.schedule.specs.Numbers.{Broken, All}
-use Rattle.schedule.specs.Numbers.{digit_of, digit_read, digit_head, may_follow, read_on, number_of, spaced_of, Read, read_then, numbers_behind, numbers_of, count_of}
+use Rattle.schedule.specs.Number.{Number, digit_read}
+use Rattle.schedule.specs.Number.{Value, Not}
+use Rattle.schedule.specs.Number.{Broken, All}
+use Rattle.schedule.specs.Numbers.{digit_of, digit_head, may_follow, read_on, number_of, spaced_of, Read, read_then, numbers_behind, numbers_of, count_of}
 use Rattle.schedule.specs.Steps.{line_most, numbers_most, stored}
 
 -- what a byte is read as

@@ -1,33 +1,10 @@
 -- "Decimal to 4,294,967,295, no leading zero but 0 itself, one space between": the numbers that a part of a line holds.
-use Rattle.std.specs.Prelude.{ℕ, zero, suc, ◌+◌, ◌*◌, ◌-◌, Bool, true, false, cond, ◌&&◌, Option, Some, None, List, [], ◌∷◌, eqb, leb, ltb, length}
-use Rattle.schedule.specs.declared.Numeral.{Numeral}
-
--- A number at the front of a part of a line: its value, and how many bytes it takes.
-pub data Number : Type 0 where
-  Not : Number
-  Value : ℕ → ℕ → Number
-
--- How many numbers a part of a line holds, where it holds nothing else.
-pub data Numbers : Type 0 where
-  Broken : Numbers
-  All : ℕ → Numbers
-
--- what the readers return, in these words
-abbrev pub number_by : Option Numeral → Number
-number_by None = Not
-number_by (Some n) = Value n.value n.size
-
-abbrev pub numbers_by : Option ℕ → Numbers
-numbers_by None = Broken
-numbers_by (Some count) = All count
+use Rattle.std.specs.Prelude.{ℕ, zero, suc, ◌+◌, ◌*◌, ◌-◌, Bool, true, false, cond, ◌&&◌, List, [], ◌∷◌, eqb, leb, ltb, length}
+use Rattle.schedule.specs.Number.{Number, Not, Value, Numbers, Broken, All}
 
 -- a digit's worth, 10 for any other byte
 unfoldable pub digit_of : ℕ → ℕ
 digit_of byte = cond (leb 48 byte) (cond (leb byte 57) (byte - 48) 10) 10
-
--- what is read of a byte: its worth, or that it is no digit
-abbrev pub digit_read : ℕ → Option ℕ
-digit_read worth = cond (ltb worth 10) (Some worth) None
 
 -- what is read at a place: the digit there, 10 where the text ends
 unfoldable pub digit_head : List ℕ → ℕ

@@ -4,8 +4,8 @@ use Rattle.std.proofs.Common.{sym, ◌∙◌, true≢false, length-drop, eq-eqb,
 use native.Mathlib.Omega.{arith}
 use Rattle.std.proofs.Math.ListN.{length, drop_of_length-le}
 use Rattle.ranges.specs.Tests.{either, by-test}
-use Rattle.schedule.specs.Numbers.{Number}
-use Rattle.schedule.specs.Numbers.{Value, Not}
+use Rattle.schedule.specs.Number.{Number}
+use Rattle.schedule.specs.Number.{Value, Not}
 use Rattle.schedule.specs.Numbers.{spaced_of, Read, read_then, numbers_behind, numbers_of}
 use Rattle.schedule.specs.NumberLaws.{skipped}
 use Rattle.schedule.specs.declared.Reading.{Reading}

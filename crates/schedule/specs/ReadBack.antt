@@ -4,8 +4,8 @@ use Rattle.std.proofs.Common.{ap, sym, ◌∙◌, true≢false, inl, inr, append
 use Rattle.std.proofs.Math.Nat.{pow-succ'}
 use Rattle.std.proofs.Math.Seq.{drop-append_seam, drop-nil, append_snoc}
 use Rattle.ranges.specs.Tests.{either, by-test, both_left, both_right}
-use Rattle.schedule.specs.Numbers.{Number}
-use Rattle.schedule.specs.Numbers.{Value, Not}
+use Rattle.schedule.specs.Number.{Number}
+use Rattle.schedule.specs.Number.{Value, Not}
 use Rattle.schedule.specs.Lines.{lines_of}
 use Rattle.schedule.specs.Decimal.{glyph, digits, decimal, spaced_all}
 use Rattle.schedule.specs.DecimalLaws.{decimal-one, decimal-more}

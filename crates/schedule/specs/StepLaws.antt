@@ -3,8 +3,8 @@ use Rattle.std.specs.Prelude.{ℕ, suc, ◌-◌, ◌≤◌, ◌<◌, ◌≡◌, 
 use Rattle.std.proofs.Common.{ap, sym, ◌∙◌, arith, length-append, length-take, length-drop, length-take-le, take_all, take_at, drop-cons, eq-eqb, ne_eqb, le-leb}
 use Rattle.std.proofs.Math.Seq.{take-length}
 use Rattle.ranges.specs.Tests.{either, by-test}
-use Rattle.schedule.specs.Numbers.{Numbers}
-use Rattle.schedule.specs.Numbers.{Broken, All}
+use Rattle.schedule.specs.Number.{Numbers}
+use Rattle.schedule.specs.Number.{Broken, All}
 use Rattle.schedule.specs.declared.Reading.{Reading}
 use Rattle.std.proofs.lemmas.Bool.{lt-leb}
 use Rattle.schedule.specs.declared.Step.TheVariants.{Open, BeginWrite}

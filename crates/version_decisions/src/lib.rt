@@ -3,7 +3,8 @@
 
 ghost use Rattle.std.specs.Prelude.{◌≡◌, Ok};
 ghost use Rattle.causes.specs.Numbers.{fault_of};
-ghost use Rattle.version_records.specs.Table.{readable, append_number, bears, found_at, reading_by};
+ghost use Rattle.version_records.specs.Table.{readable, append_number, bears, found_at};
+ghost use Rattle.version_records.specs.Reading.{reading_by};
 
 use causes::Refusal;
 use keys::Key;

@@ -6,7 +6,7 @@ use Rattle.keys.specs.Keys.{key_word, FitsByte}
 use Rattle.tables.specs.Layout.{server_places, version_word, version_badge, version_setpoint}
 use Rattle.server.specs.Held as held
 use Rattle.version_records.specs.declared.Version.{Version}
-use Rattle.version_records.specs.Table.{Reading}
+use Rattle.version_records.specs.Reading.{Reading}
 use Rattle.version_records.specs.Table.{version_at, not_held}
 
 -- The 256 places of server i hold, in the two slices, the words of the first 256 records of the table: the key as one word, the badge and

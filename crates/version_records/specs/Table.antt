@@ -1,36 +1,12 @@
 -- "A station's versions are lent as a table of records (key, setpoint) in order of arrival, at most 256"; document 02: "Version records
 -- hold it after the key", the badge. How many are held is a number beside the table.
-use Rattle.std.specs.Prelude.{ℕ, ◌+◌, Bool, cond, ◌&&◌, Result, Ok, Err, List, length, set, get_or, replicate, ltb, leb, eqb}
-use Rattle.causes.specs.declared.Refusal.{Refusal}
-use Rattle.causes.specs.Numbers.{number_of, fault_of}
+use Rattle.std.specs.Prelude.{ℕ, ◌+◌, Bool, cond, ◌&&◌, List, length, set, get_or, replicate, ltb, leb, eqb}
 use Rattle.ranges.specs.First.{first_below}
 use Rattle.keys.specs.declared.Key.{Key}
 use Rattle.keys.specs.Keys.{opening, same_key}
 use Rattle.tables.specs.Layout.{server_places}
 use Rattle.version_records.specs.declared.Version.{Version}
-use Rattle.version_records.specs.declared.Reading.{Reading as Told}
-use Rattle.version_records.specs.declared.Trial.{Trial as Tried}
-
--- The setpoint of a key and the badge that came with it, with number 0. Number 8 where no version held bears the key.
-pub record Reading : Type 0 where
-  pub number : ℕ
-  pub badge : ℕ
-  pub setpoint : ℕ
-
--- What a trial found: what the append answered, how many can be read then, where the key stands, and what is read of it.
-pub record Trial : Type 0 where
-  pub number : ℕ
-  pub readable : ℕ
-  pub place : ℕ
-  pub reading : Reading
-
--- what the functions return, in these words: a refusal goes by its number
-abbrev pub reading_by : Result Told Refusal → Reading
-reading_by (Ok r) = record { number = 0; badge = r.badge; setpoint = r.setpoint }
-reading_by (Err e) = record { number = number_of e; badge = 0; setpoint = 0 }
-
-abbrev pub trial_by : Tried → Trial
-trial_by t = record { number = fault_of t.appended; readable = t.readable; place = t.place; reading = reading_by t.reading }
+use Rattle.version_records.specs.Reading.{Reading, Trial}
 
 -- what `get_or` gives past the end of a table: only places that can be read are looked at
 abbrev pub no_version : Version

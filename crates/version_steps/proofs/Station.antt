@@ -11,7 +11,7 @@ use Rattle.server.specs.Held as held
 use Rattle.server.specs.Held.{Room, Appended, appended}
 use Rattle.rules.specs.Request.{on_new_set, on_set, on_get}
 use Rattle.version_records.specs.declared.Version.{Version}
-use Rattle.version_records.specs.Table.{Reading}
+use Rattle.version_records.specs.Reading.{Reading}
 use Rattle.version_records.specs.Table.{append_number, append_table, readable, first_bearing, reading_of}
 use Rattle.version_records.specs.Core.{SameTable, version_of, core_reading}
 use Rattle.version_records.proofs.CoreLaws.{readable-same, find-same, reading-same, number_same, append-same}

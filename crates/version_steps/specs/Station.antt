@@ -6,7 +6,7 @@ use Rattle.server.specs.Held.{Appended}
 use Rattle.rules.specs.Answers.{Left}
 use Rattle.rules.specs.Common.{got_reply}
 use Rattle.rules.specs.Request.{answered_by, answered, refused, stored_by}
-use Rattle.version_records.specs.Table.{Reading}
+use Rattle.version_records.specs.Reading.{Reading}
 
 -- what a delivered get request makes of what was read of its key: the reply with badge and setpoint, or the refusal by its number
 abbrev pub got_by : Reading → ℕ → ℕ → Tables → Left

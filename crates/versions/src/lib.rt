@@ -6,7 +6,7 @@
 ghost use Rattle.std.specs.Prelude.{◌≡◌, length};
 ghost use Rattle.causes.specs.Numbers.{fault_of};
 ghost use Rattle.version_records.specs.Table.{readable, append_number, append_table, first_bearing, reading_of, held_after_lem, trial_of};
-ghost use Rattle.version_records.specs.Table.{reading_by, trial_by};
+ghost use Rattle.version_records.specs.Reading.{reading_by, trial_by};
 
 use causes::Refusal;
 use keys::Key;

@@ -5,7 +5,8 @@
 
 ghost use Rattle.std.specs.Prelude.{◌≡◌};
 ghost use Rattle.keys.specs.Keys.{key_of};
-ghost use Rattle.version_records.specs.Table.{trial_of, trial_by};
+ghost use Rattle.version_records.specs.Reading.{trial_by};
+ghost use Rattle.version_records.specs.Table.{trial_of};
 ghost use Rattle.version_records.specs.Core.{version_of};
 
 use keys::Key;

@@ -1,6 +1,7 @@
 -- Each way out is a law of the definition.
 use Rattle.std.proofs.Common.{◌≡◌, ◌<◌, Some, sym, ap, ◌∙◌, arith, length, drop, get_or}
-use Rattle.schedule.specs.Numbers.{digit_of, digit_head, digit_read}
+use Rattle.schedule.specs.Numbers.{digit_of, digit_head}
+use Rattle.schedule.specs.Number.{digit_read}
 use Rattle.schedule.specs.NumberLaws.{read-digit, read_none-digit, digit_past, digit-within}
 use Rattle.schedule.specs.NumberLaws.{none_first, starts, reads_end, reads_on, leading-zero, too_large, reads_all}
 use Rattle.line_reading.proofs.number_at.Goals as goal
