@@ -77,6 +77,7 @@ pub fn all_told(
         (tables_of counts.new clients.new links.new keys.now values.now
         log.now writes reads.new) }
 {
+    // Kept: (a) the tables for themselves: a Press would ask for those that a reply leaves as they are.
     let servers = counts::count_at(counts, counts::SERVERS);
     let mask = clients::client_word(clients, client, clients::MASK);
     let place = clients::client_word(clients, client, clients::RECORD);

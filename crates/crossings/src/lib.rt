@@ -27,7 +27,6 @@ pub fn plain(arrival: Arrival) -> Crossing
 }
 
 // The answer where a READ has ended, with what it shows of the client's row and the tags beside it.
-// Kept: made of the `Delivered` of `reply_parts::shown`, it took 7 to 19 instructions more each (tried), and `setpoints_as_badges` edits it.
 pub fn shown(
     clients: &[u32],
     client: usize,
@@ -38,6 +37,7 @@ pub fn shown(
     requires { HasRow client_width clients.now client }
     ensures { result ≡ crossing_of (shown_by (ended arrival mask) tags clients.now client) }
 {
+    // Kept: (a) for the edit `setpoints_as_badges`; made of the `Delivered` of `reply_parts::shown`, a reply took 7 to 19 instructions more.
     let mut setpoints = [0u32; 16];
     let mut badges = [0u32; 16];
     words::show_words(clients, client, clients::SETPOINTS, mask, &mut setpoints);

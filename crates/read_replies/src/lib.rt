@@ -37,6 +37,7 @@ pub fn keys_told(
         ≡ on_keys contents client target
         (tables_of counts.old clients.old links.old keys values log.now writes reads) }
 {
+    // Kept: (a) the tables for themselves, here and below: a Press would ask for those that a reply leaves as they are.
     let servers = counts::count_at(counts, counts::SERVERS);
     let mask = clients::client_word(clients, client, clients::MASK);
     let tag = contents.number - 1;

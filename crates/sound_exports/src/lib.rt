@@ -2,7 +2,6 @@
 // `_unchecked`, since nothing checks a caller in another language. `step_numbers` and `crossings` make the numbers of their answers.
 // They stand in a library of their own. Beside the public steps each step of `store` would have two callers, so that the compiler would leave
 // it a call, with each slice handed over by the address of a copy; here it has one, and is inlined.
-// Kept: six functions of eight slices each, since their names and signatures are the C interface.
 #![tactic(auto)]
 
 ghost use Rattle.std.specs.Prelude.{◌≡◌};
@@ -38,6 +37,7 @@ pub extern "C" fn store_begin_write_unchecked(
         values.now log.now
         writes.old reads.now)) }
 {
+    // Kept: (a) eight slices for themselves, here and below: names and signatures are the C interface.
     step_numbers::answer_number(sound_steps::begin_write_sound(
         counts, clients, links, keys, values, log, writes, reads, client, mask, badge, setpoints,
     ))

@@ -56,12 +56,12 @@ fn masked_word(mask: u32, server: usize, word: u32) -> u32
 }
 
 // The 16 words of a client's row from a field on.
-// Kept: word by word, since `copy_from_slice` would reckon with the row's layout here, which `tables::clients` alone knows.
 fn copy_words(clients: &[u32], client: usize, field: usize, words: &mut [u32; 16])
     requires has_row { HasRow client_width clients.now client }
     requires field_bound { (field + 16 ≤ client_width) × (length words.old ≡ 16) }
     ensures { words.new ≡ laid (λ i. client_word clients.now client (field + i)) 16 words.old }
 {
+    // Kept: (d) word by word: `copy_from_slice` would reckon here with the row's layout, which `tables::clients` alone knows.
     for server in 0..16 {
         words[server] = clients::client_word(clients, client, field + server);
     }

@@ -1,6 +1,5 @@
 // What other languages call, on numbers and slices: the check of tables, and the seven public steps. `sound_exports` has six of them on
 // tables known to be sound, and `step_numbers` makes the numbers.
-// Kept: eight functions of eight slices each, since their names and signatures are the C interface.
 #![tactic(auto)]
 
 ghost use Rattle.std.specs.Prelude.{◌≡◌};
@@ -26,6 +25,7 @@ pub extern "C" fn store_sound(
 ) -> bool
     ensures { result ≡ sound (tables_of counts.now clients.now links.now keys.now values.now log.now writes.now reads.now) }
 {
+    // Kept: (a) eight slices for themselves, here and below: names and signatures are the C interface.
     sound_tables::sound(&Lent {
         counts,
         clients,

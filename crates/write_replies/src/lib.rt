@@ -57,6 +57,7 @@ pub fn set_done(
         ≡ on_set_done client target
         (tables_of counts.old clients.old links.old keys values log writes reads) }
 {
+    // Kept: (a) the tables for themselves, here and below: a Press would ask for those that a reply leaves as they are.
     reply_parts::settle(counts, links, client, target);
     if step_parts::is_waiting(&*links, client) {
         return Arrival::Wait;
