@@ -64,8 +64,7 @@ pub fn scan_frame(bytes: &[u8]) -> Result<Scan, Refusal>
     let mut fixed = [0u32; FIXED_FIELDS];
     let mut state = state::first();
     let mut at: usize = 0;
-    while state.place < FIXED_FIELDS {
-        let place = state.place;
+    for place in 0..FIXED_FIELDS {
         let sort = row[place];
         let took = taken(bytes, at, sort, state)?;
         fixed[place] = took.value;
