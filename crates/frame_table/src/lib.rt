@@ -8,6 +8,7 @@ ghost use Rattle.frame_table.specs.Columns.{length_by};
 ghost use Rattle.frame_table.specs.Entry.{behind_by};
 
 // What a field holds. NO: the kind has no such field; it then has no bits and the value 0.
+// Kept: `row_of` promises a row of these numbers, `limits_of` takes one, and Table's `sort_at` and `bits_of` and the theorems above go by them.
 pub const NO: u8 = 0;
 
 const KIND: u8 = 1;
@@ -82,6 +83,7 @@ pub const BADGE_BITS: usize = 16;
 
 // The table by kind, from 0: station or head target, fixed body bits, bits per entry.
 // A constant array is built on the stack where it is used, so it is small and looked at once for a frame.
+// Kept: that the table is a constant by kind is a rule of the project (docs/SPECIFICATION.md, "Language form for each place").
 const BY_KIND: [[u8; 3]; KINDS] = [
     [SERVER, 0, 0], // until the kind is read
     [SERVER, 60, 0], // 1 set

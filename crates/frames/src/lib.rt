@@ -105,6 +105,7 @@ fn less_one(entries: u32) -> u32
 }
 
 // The values of a message's header and fixed body, in the order of the table; what its kind lacks is 0.
+// Kept: `let fixed: [u32; FIXED_FIELDS] = message.into()` would not say that the order is the table's, and is no shorter.
 fn fixed_of(message: Message) -> [u32; FIXED_FIELDS]
     ensures { result ≡ fixed_of message }
 {
@@ -242,6 +243,7 @@ fn fixed_at(fixed: &[u32; FIXED_FIELDS], fields: usize) -> Fixed
 }
 
 // The message of a kind; what is none of the first eleven is a log.
+// Kept: it promises a message for every number as the kind, and so cannot fail as a `TryFrom<(u32, Fixed)>` would.
 pub fn message_at(kind: u32, fixed: Fixed) -> Message
     ensures { result ≡ message_at kind fixed }
 {
