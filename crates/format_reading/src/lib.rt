@@ -64,7 +64,9 @@ pub fn scan_frame(bytes: &[u8]) -> Result<Scan, Refusal>
     let mut fixed = [0u32; FIXED_FIELDS];
     let mut state = state::first();
     let mut at: usize = 0;
-    for place in 0..FIXED_FIELDS {
+    // Kept: with `for place in 0..FIXED_FIELDS` the compiler no longer unrolls the loop, and the bar of frames without entries is missed (kind 2 read: 590 instructions for 260).
+    while state.place < FIXED_FIELDS {
+        let place = state.place;
         let sort = row[place];
         let took = taken(bytes, at, sort, state)?;
         fixed[place] = took.value;
