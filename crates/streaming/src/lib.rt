@@ -2,7 +2,7 @@
 #![tactic(auto)]
 
 ghost use Rattle.std.specs.Prelude.{◌≡◌, ◌+◌, ◌-◌, ◌≤◌, ◌<◌, ◌⊎◌, true, cond, length, take, drop, IfOk, OnErr};
-ghost use Rattle.tables.specs.Tables.{tables_of};
+ghost use Rattle.tables.specs.Lent.{tables_in, SameLent};
 ghost use Rattle.schedule.specs.Steps.{setpoints_most};
 ghost use Rattle.printing.specs.Printed.{Printed};
 ghost use Rattle.printing.specs.Sizes.{answer_most};
@@ -13,7 +13,7 @@ ghost use Rattle.turn.specs.Turned.{Answered, Turned};
 
 use std::io;
 use std::io::{Print, Stdin, Stdout};
-use tables::counts::METHOD;
+use tables::lent::Press;
 use tables::{clients, counts, links, log, records, versions};
 use window::Run;
 
@@ -38,34 +38,24 @@ pub const RECORDS: usize = records::WIDTH * records::PLACES;
 // cleared once; what it holds is of no account.
 fn answer_line(
     run: Run,
-    counts: &mut [u32],
-    clients: &mut [u32],
-    links: &mut [u32],
-    keys: &mut [u32],
-    values: &mut [u32],
-    log: &mut [u32],
-    writes: &mut [u32],
-    reads: &mut [u32],
+    press: &mut Press,
     line: &[u8],
     setpoints: &mut [u32],
     out: &mut [u8],
 ) -> Run
-    requires playable { Playable (tables_of counts.old clients.old links.old keys.old values.old log.old writes.old reads.old) }
+    requires playable { Playable (tables_in press.old) }
     requires line_bound { (run.from + length line.now ≤ run.held) × (0 < run.left) }
     requires answer_most_in_bounds { (run.used + answer_most ≤ length out.old) × (run.lines + run.left ≤ turns_most) }
     requires setpoints_most_in_bounds { setpoints_most ≤ length setpoints.old }
-    ensures { Answered run line.now (tables_of counts.old clients.old links.old keys.old values.old log.old writes.old reads.old) out.old result out.new (tables_of counts.new clients.new links.new keys.new values.new log.new writes.new reads.new) }
+    ensures same { SameLent press.old press.new }
+    ensures answered { Answered run line.now (tables_in press.old) out.old result out.new (tables_in press.new) }
 {
     let size = line.len();
-    let lines = run.lines;
     if run.skipping {
-        return window::pass(run, size, lines, run.used);
+        return window::pass(run, size, run.lines, run.used);
     }
-    let number = lines + 1;
-    let used = line_playing::play_line(
-        counts, clients, links, keys, values, log, writes, reads, number, line, setpoints, out,
-        run.used,
-    );
+    let number = run.lines + 1;
+    let used = line_playing::play_line(press, number, line, setpoints, out, run.used);
     window::pass(run, size, number, used)
 }
 
@@ -76,23 +66,17 @@ fn turn(
     input: &mut Stdin,
     output: &Stdout,
     run: Run,
-    counts: &mut [u32],
-    clients: &mut [u32],
-    links: &mut [u32],
-    keys: &mut [u32],
-    values: &mut [u32],
-    log: &mut [u32],
-    writes: &mut [u32],
-    reads: &mut [u32],
+    press: &mut Press,
     setpoints: &mut [u32],
     window: &mut [u8],
     out: &mut [u8],
 ) -> io::Result<Run>
-    requires playable { Playable (tables_of counts.old clients.old links.old keys.old values.old log.old writes.old reads.old) }
+    requires playable { Playable (tables_in press.old) }
     requires going { Going run window.old out.old × (0 < run.left) }
     requires setpoints_most_in_bounds { setpoints_most ≤ length setpoints.old }
-    ensures turned { IfOk result (λ r. Turned run window.old out.old (tables_of counts.old clients.old links.old keys.old values.old log.old writes.old reads.old) r window.new out.new (tables_of counts.new clients.new links.new keys.new values.new log.new writes.new reads.new)) }
-    ensures failed_tables { OnErr result (tables_of counts.new clients.new links.new keys.new values.new log.new writes.new reads.new ≡ tables_of counts.old clients.old links.old keys.old values.old log.old writes.old reads.old) }
+    ensures same { SameLent press.old press.new }
+    ensures turned { IfOk result (λ r. Turned run window.old out.old (tables_in press.old) r window.new out.new (tables_in press.new)) }
+    ensures failed_tables { OnErr result (tables_in press.new ≡ tables_in press.old) }
     ensures failed_print { OnErr result (out.new ≡ out.old) }
     ensures failed_only { OnErr result ((wants_more run window.old ≡ true) ⊎ (length out.old - answer_most < run.used)) }
     ensures failed_window { OnErr result (take (run.held - run.from) (drop (cond (wants_more run window.old) 0 run.from) window.new) ≡ held_by run window.old) }
@@ -100,14 +84,11 @@ fn turn(
     let from = run.from;
     let held = run.held;
     let line = line_reading::line_at(&window[..held], from);
-    let size = line.len();
-    if window::lacks_end(size, held - from) {
+    if window::lacks_end(line.len(), held - from) {
         return window::read_on(input, run, window);
     }
     let ready = window::make_room(output, run, &*out)?;
-    Ok(answer_line(
-        ready, counts, clients, links, keys, values, log, writes, reads, line, setpoints, out,
-    ))
+    Ok(answer_line(ready, press, line, setpoints, out))
 }
 
 // Plays standard input to its end, and prints the answers and the register. It is lent no table and answers nothing but an error of reading or
@@ -133,28 +114,28 @@ pub fn replay(input: &mut Stdin, output: &Stdout) -> io::Result<()> {
         used: 0,
         skipping: false,
     };
+    let mut press = Press {
+        counts: &mut counts,
+        clients: &mut clients,
+        links: &mut links,
+        keys: &mut keys,
+        values: &mut values,
+        log: &mut log,
+        writes: &mut writes,
+        reads: &mut reads,
+    };
     while 0 < run.left {
         run = turn(
             input,
             output,
             run,
-            &mut counts,
-            &mut clients,
-            &mut links,
-            &mut keys,
-            &mut values,
-            &mut log,
-            &mut writes,
-            &mut reads,
+            &mut press,
             &mut setpoints,
             &mut window,
             &mut out,
         )?;
     }
-    let used = run.used;
-    output.write_all(&out[..used])?;
-    let end = texts::print_end(
-        &counts, &clients, &links, &keys, &values, &log, &writes, &reads, &mut out, 0,
-    );
+    output.write_all(&out[..run.used])?;
+    let end = texts::print_end(&press.lent(), &mut out, 0);
     output.write_all(&out[..end])
 }

@@ -1,7 +1,7 @@
 -- Bytes come in, or a line is answered.
 use Rattle.std.proofs.Common.{arith, sym, ◌∙◌}
 use Rattle.std.proofs.lemmas.Result.{IfOk-weaker, err_from_is_err_and}
-use Rattle.tables.specs.Tables.{tables_of}
+use Rattle.tables.specs.Lent.{tables_in}
 use Rattle.window.specs.WindowLaws.{lacking, wants, ready-fits, ready_room}
 use Rattle.window.specs.Refills.{drop-take}
 use Rattle.turn.specs.Turns.{turned-read}
@@ -18,7 +18,7 @@ pub returns-then-lacks_end-clause-turned : goal.returns-then-lacks_end-clause-tu
 returns-then-lacks_end-clause-turned c =
     let a = c.args in
     let p = c.requires in
-    let t = tables_of a.counts.now a.clients.now a.links.now a.keys.now a.values.now a.log.now a.writes.now a.reads.now in
+    let t = tables_in a.press.now in
     let lacks = sym c.lacks_end.ensures ∙ c.if-lacks_end.true in
     IfOk-weaker c.read_on.result _ _
     (λ r k. turned-read a.run a.window.now a.out.now t p.going.0 p.playable p.going.1 _ c.line_at-line.ensures lacks r _ k c.read_on.auto.window)
@@ -55,9 +55,9 @@ pub returns-clause-turned : goal.returns-clause-turned
 returns-clause-turned c =
     let a = c.args in
     let p = c.requires in
-    let t = tables_of a.counts.now a.clients.now a.links.now a.keys.now a.values.now a.log.now a.writes.now a.reads.now in
+    let t = tables_in a.press.now in
     let ends = sym c.lacks_end.ensures ∙ c.if-lacks_end.false in
     let n = c.answer_line.new in
     turned-made a.run a.window.now a.out.now t p.going.0 p.playable p.going.1 _ c.line_at-line.ensures c.in_ok-ready.ready
-    c.in_ok-ready.ensures.went_on ends c.answer_line.result n.out (tables_of n.counts n.clients n.links n.keys n.values n.log n.writes n.reads)
-    c.answer_line.ensures c.answer_line.auto.out
+    c.in_ok-ready.ensures.went_on ends c.answer_line.result n.out (tables_in n.press)
+    c.answer_line.ensures.answered c.answer_line.auto.out
