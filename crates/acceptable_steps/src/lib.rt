@@ -1,41 +1,40 @@
 // Which of the load's numbered steps would be accepted.
 #![tactic(auto)]
 
-ghost use Rattle.std.specs.Prelude.{◌≡◌, List, ℕ, ◌≤◌, ◌<◌, length};
+ghost use Rattle.std.specs.Prelude.{◌≡◌, ◌≤◌, ◌<◌, length};
+ghost use Rattle.tables.specs.Lent.{tables_lent};
 ghost use Rattle.tables.specs.Rows.{HasRow};
-ghost use Rattle.tables.specs.Layout.{count_at, clients_field, count_words};
+ghost use Rattle.tables.specs.Layout.{count_words};
 ghost use Rattle.tables.specs.Links.{targets, link_width, link_row};
+ghost use Rattle.tables.specs.Tables.{clients_of};
 ghost use Rattle.refusals.specs.Cases.{Judged};
 ghost use Rattle.workload.specs.Load.{numbered_count};
-ghost use Rattle.workload.specs.Accepts.{seen, accepts_write, accepts_read, is_held, is_entered, answers_in, accepts_request, accepts_reply};
-ghost use Rattle.workload.specs.Accepts.{accepts};
+ghost use Rattle.workload.specs.Accepts.{accepts_write, accepts_read, is_held, is_entered, answers_in, accepts_request, accepts_reply, accepts};
 ghost use Rattle.workload.specs.Ready.{Searched, Logged, Served, Scanned};
 
 use keys::Key;
 use rules::states;
-use tables::links::Contents;
+use tables::lent::Lent;
+use tables::links::{Content, Contents};
 use tables::{clients, counts, links, log, versions};
 
 // Whether the WRITE of a client to all servers would be accepted.
-fn accepts_write(counts: &[u32], clients: &[u32], client: u32) -> bool
-    requires { Judged counts.now clients.now }
-    ensures { (links keys log : List ℕ) →
-        result ≡ accepts_write (seen counts.now clients.now links keys log) client }
+fn accepts_write(t: &Lent, client: u32) -> bool
+    requires { let u = tables_lent t.now in Judged u.counts u.clients }
+    ensures { result ≡ accepts_write (tables_lent t.now) client }
 {
-    let servers = counts::count_at(counts, counts::SERVERS);
+    let servers = counts::count_at(t.counts, counts::SERVERS);
     let all = keys::all_servers(servers);
-    refusal_tests::write_fault(counts, clients, client, all, servers as usize) == 0
+    refusal_tests::write_fault(t.counts, t.clients, client, all, servers as usize).is_ok()
 }
 
 // Whether the READ of all servers by a client would be accepted.
-fn accepts_read(counts: &[u32], clients: &[u32], client: u32) -> bool
-    requires { Judged counts.now clients.now }
-    ensures { (links keys log : List ℕ) →
-        result ≡ accepts_read (seen counts.now clients.now links keys log) client }
+fn accepts_read(t: &Lent, client: u32) -> bool
+    requires { let u = tables_lent t.now in Judged u.counts u.clients }
+    ensures { result ≡ accepts_read (tables_lent t.now) client }
 {
-    let servers = counts::count_at(counts, counts::SERVERS);
-    let all = keys::all_servers(servers);
-    refusal_tests::read_fault(counts, clients, client, all) == 0
+    let all = keys::all_servers(counts::count_at(t.counts, counts::SERVERS));
+    refusal_tests::read_fault(t.counts, t.clients, client, all).is_ok()
 }
 
 // Whether a server holds a key.
@@ -57,127 +56,74 @@ fn has_entry(counts: &[u32], log: &[u32], key: Key) -> bool
 }
 
 // Whether the target of a request can answer it, by the state that sent it. A target that is full has the key already, or cannot.
-fn answers(
-    counts: &[u32],
-    keys: &[u32],
-    log: &[u32],
-    state: u32,
-    target: usize,
-    contents: Contents,
-) -> bool
-    requires { Served counts.now keys.now log.now state target }
-    ensures { result ≡ answers_in state contents counts.now keys.now log.now target }
+fn answers(t: &Lent, state: u32, target: usize, contents: Contents) -> bool
+    requires { let u = tables_lent t.now in Served u.counts u.keys u.log state target }
+    ensures { let u = tables_lent t.now in result ≡ answers_in state contents u.counts u.keys u.log target }
 {
-    if state == states::WRITING {
-        if counts::count_at(counts, counts::HELD + target) < versions::PLACES as u32 {
-            return true;
+    match state {
+        states::WRITING => {
+            if counts::count_at(t.counts, counts::HELD + target) < versions::PLACES as u32 {
+                return true;
+            }
+            holds(t.counts, t.keys, target, contents.key)
         }
-        let key = contents.key;
-        return holds(counts, keys, target, key);
-    }
-    if state == states::ENTERING {
-        if counts::count_at(counts, counts::ENTRIES) < log::PLACES as u32 {
-            return true;
+        states::ENTERING => {
+            if counts::count_at(t.counts, counts::ENTRIES) < log::PLACES as u32 {
+                return true;
+            }
+            has_entry(t.counts, t.log, contents.key)
         }
-        let key = contents.key;
-        return has_entry(counts, log, key);
+        states::ASKING_SETPOINTS => holds(t.counts, t.keys, target, contents.key),
+        _ => true,
     }
-    if state == states::ASKING_KEYS {
-        return true;
-    }
-    if state == states::ASKING_SETPOINTS {
-        let key = contents.key;
-        return holds(counts, keys, target, key);
-    }
-    true
 }
 
 // Whether the delivery of a request would be accepted.
-fn accepts_request(
-    counts: &[u32],
-    clients: &[u32],
-    links: &[u32],
-    keys: &[u32],
-    log: &[u32],
-    client: u32,
-    target: u32,
-) -> bool
-    requires scanned { Scanned counts.now clients.now links.now keys.now log.now }
-    requires client_bound { (client < count_at counts.now clients_field) × (target < targets) }
-    ensures { result ≡ accepts_request
-        (seen counts.now clients.now links.now keys.now log.now) client target }
+fn accepts_request(t: &Lent, client: u32, target: u32) -> bool
+    requires scanned { let u = tables_lent t.now in Scanned u.counts u.clients u.links u.keys u.log }
+    requires client_bound { (client < clients_of (tables_lent t.now)) × (target < targets) }
+    ensures { result ≡ accepts_request (tables_lent t.now) client target }
 {
-    let link = links::link_at(links, client as usize, target as usize);
-    let content = link.content;
-    match content {
-        links::Content::Nothing => false,
-        links::Content::Reply(_) => false,
-        links::Content::Lost => false,
-        links::Content::Request(contents) => {
-            if refusal_tests::delivery_fault(counts, client, target) != 0 {
-                return false;
-            }
-            let state = clients::client_word(clients, client as usize, clients::STATE);
-            answers(counts, keys, log, state, target as usize, contents)
+    let link = links::link_at(t.links, client as usize, target as usize);
+    match link.content {
+        Content::Request(contents) => {
+            let state = clients::client_word(t.clients, client as usize, clients::STATE);
+            refusal_tests::delivery_fault(t.counts, client, target).is_ok()
+                && answers(t, state, target as usize, contents)
         }
+        _ => false,
     }
 }
 
 // Whether the delivery of a reply would be accepted.
-fn accepts_reply(counts: &[u32], links: &[u32], client: u32, target: u32) -> bool
-    requires count_words_in_bounds { count_words ≤ length counts.now }
-    requires has_row { HasRow link_width links.now (link_row client target) }
-    ensures { (clients keys log : List ℕ) →
-        result ≡ accepts_reply (seen counts.now clients links.now keys log) client target }
+fn accepts_reply(t: &Lent, client: u32, target: u32) -> bool
+    requires count_words_in_bounds { count_words ≤ length (tables_lent t.now).counts }
+    requires has_row { HasRow link_width (tables_lent t.now).links (link_row client target) }
+    ensures { result ≡ accepts_reply (tables_lent t.now) client target }
 {
-    let link = links::link_at(links, client as usize, target as usize);
-    let content = link.content;
-    match content {
-        links::Content::Nothing => false,
-        links::Content::Request(_) => false,
-        links::Content::Lost => false,
-        links::Content::Reply(_) => refusal_tests::delivery_fault(counts, client, target) == 0,
+    let link = links::link_at(t.links, client as usize, target as usize);
+    match link.content {
+        Content::Reply(_) => refusal_tests::delivery_fault(t.counts, client, target).is_ok(),
+        _ => false,
     }
 }
 
 // Whether the step of a number would be accepted.
-pub fn accepts(
-    counts: &[u32],
-    clients: &[u32],
-    links: &[u32],
-    keys: &[u32],
-    log: &[u32],
-    number: u32,
-) -> bool
-    requires scanned { Scanned counts.now clients.now links.now keys.now log.now }
-    requires number_bound { number < numbered_count (count_at counts.now clients_field) }
-    ensures { result ≡ accepts
-        (seen counts.now clients.now links.now keys.now log.now) number }
+pub fn accepts(t: &Lent, number: u32) -> bool
+    requires scanned { let u = tables_lent t.now in Scanned u.counts u.clients u.links u.keys u.log }
+    requires number_bound { number < numbered_count (clients_of (tables_lent t.now)) }
+    ensures { result ≡ accepts (tables_lent t.now) number }
 {
-    let panels = counts::count_at(counts, counts::CLIENTS);
+    let panels = counts::count_at(t.counts, counts::CLIENTS);
     if number < panels {
-        return accepts_write(counts, clients, number);
-    }
-    if number < workload::BEGINS * panels {
-        return accepts_read(counts, clients, number - panels);
-    }
-    if number < workload::BEFORE_REPLIES * panels {
+        accepts_write(t, number)
+    } else if number < workload::BEGINS * panels {
+        accepts_read(t, number - panels)
+    } else if number < workload::BEFORE_REPLIES * panels {
         let row = number - workload::BEGINS * panels;
-        return accepts_request(
-            counts,
-            clients,
-            links,
-            keys,
-            log,
-            row / workload::TARGETS,
-            row % workload::TARGETS,
-        );
+        accepts_request(t, row / workload::TARGETS, row % workload::TARGETS)
+    } else {
+        let row = number - workload::BEFORE_REPLIES * panels;
+        accepts_reply(t, row / workload::TARGETS, row % workload::TARGETS)
     }
-    let row = number - workload::BEFORE_REPLIES * panels;
-    accepts_reply(
-        counts,
-        links,
-        row / workload::TARGETS,
-        row % workload::TARGETS,
-    )
 }

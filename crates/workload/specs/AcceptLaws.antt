@@ -1,5 +1,5 @@
 -- On sound tables the scan tells exactly the steps whose answer is no refusal.
-use Rattle.std.specs.Prelude.{ℕ, zero, suc, ◌-◌, ◌*◌, ◌+◌, ◌/◌, ◌%◌, ◌≡◌, refl, Bool, true, false, cond, not, ◌&&◌, ◌||◌, List, length, replicate}
+use Rattle.std.specs.Prelude.{ℕ, zero, suc, ◌-◌, ◌*◌, ◌+◌, ◌/◌, ◌%◌, ◌≡◌, refl, Bool, true, ◌&&◌, ◌||◌, List, length, replicate}
 use Rattle.std.proofs.Common.{sym, ◌∙◌, arith, ne_eqb}
 use Rattle.std.proofs.Math.Path.{ap}
 use Rattle.std.proofs.Math.Bool.{and-true, and-false, or-true, or-false}
@@ -10,7 +10,7 @@ use Rattle.server.specs.Held.{held_by, appended}
 use Rattle.coordinator.specs.Log.{entries_in, entered}
 use Rattle.tables.specs.Layout.{server_places, log_places}
 use Rattle.tables.specs.Links.{targets}
-use Rattle.tables.specs.Tables.{Tables, servers_of, clients_of, state_of, mask_of, content_at}
+use Rattle.tables.specs.Tables.{Tables, servers_of, clients_of, state_of, content_at}
 use Rattle.tables.specs.declared.links.Contents.{Contents}
 use Rattle.tables.specs.declared.links.Content.{Content}
 use Rattle.tables.specs.declared.links.Content.TheVariants.{Nothing, Request, Reply, Lost}
@@ -27,7 +27,7 @@ use Rattle.refusals.specs.Refusals.{write_fault, write_refusal, read_fault, read
 use Rattle.refusals.specs.Steps.{unless, unless_arrived, badge_of, begin_write, begin_read, deliver_request, deliver_reply}
 use Rattle.schedule.specs.declared.Step.TheVariants as step
 use Rattle.playing.specs.Played.{answer_word, arrival_word, played}
-use Rattle.workload.specs.Load.{write_of_all, read_of_all, load_step, numbered, is_accepted, acceptable}
+use Rattle.workload.specs.Load.{load_step, numbered, is_accepted, acceptable}
 use Rattle.workload.specs.Accepts.{accepts_write, accepts_read, is_held, is_entered, answers_in, answers_request, accepts_request}
 use Rattle.workload.specs.Accepts.{takes_reply, accepts_reply, accepts}
 

@@ -1,21 +1,17 @@
 -- Which steps sound tables accept, told from the five tables that it takes to tell: nothing is changed to find out.
-use Rattle.std.specs.Prelude.{ℕ, ◌-◌, ◌*◌, ◌+◌, ◌/◌, ◌%◌, Bool, true, false, cond, ◌&&◌, ◌||◌, List, [], eqb, ltb}
+use Rattle.std.specs.Prelude.{ℕ, ◌-◌, ◌*◌, ◌+◌, ◌/◌, ◌%◌, Bool, true, false, cond, ◌&&◌, ◌||◌, List, eqb, ltb}
 use Rattle.keys.specs.declared.Key.{Key}
 use Rattle.server.specs.Held.{held_by, first_bearing}
 use Rattle.coordinator.specs.Log.{entries_in, has_key}
 use Rattle.tables.specs.Layout.{server_places, log_places}
 use Rattle.tables.specs.Links.{targets}
-use Rattle.tables.specs.Tables.{Tables, tables_of, servers_of, clients_of, state_of, content_at}
+use Rattle.tables.specs.Tables.{Tables, servers_of, clients_of, state_of, content_at}
 use Rattle.tables.specs.declared.links.Contents.{Contents}
 use Rattle.tables.specs.declared.links.Content.{Content}
 use Rattle.tables.specs.declared.links.Content.TheVariants.{Nothing, Request, Reply, Lost}
 use Rattle.rules.specs.Common.{writing, entering, asking_keys, asking_setpoints}
 use Rattle.rules.specs.Open.{all_servers}
 use Rattle.refusals.specs.Refusals.{write_fault, read_fault, delivery_fault}
-
--- the tables that it takes, with nothing in the others
-abbrev pub seen : List ℕ → List ℕ → List ℕ → List ℕ → List ℕ → Tables
-seen counts clients links keys log = tables_of counts clients links keys [] log [] []
 
 abbrev pub accepts_write : Tables → ℕ → Bool
 accepts_write t q = eqb (write_fault q (all_servers (servers_of t)) (servers_of t) t) 0

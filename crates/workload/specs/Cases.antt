@@ -1,9 +1,12 @@
 -- The cases of the scan and of the numbering, as the code meets them.
-use Rattle.std.specs.Prelude.{ℕ, ◌+◌, ◌-◌, ◌*◌, ◌/◌, ◌%◌, ◌≤◌, ◌<◌, ◌≡◌, refl, Bool, true, false, cond, ◌&&◌, List, eqb, ltb, length, get_or}
+use Rattle.std.specs.Prelude.{ℕ, ◌+◌, ◌-◌, ◌*◌, ◌/◌, ◌%◌, ◌≤◌, ◌<◌, ◌≡◌, refl, Bool, true, false, ◌&&◌, List, Result, Ok, Err, is_ok, eqb, length, get_or}
 use Rattle.std.proofs.Common.{sym, ◌∙◌, ap, arith}
 use borrow.Author.Tests.{eq-eqb, ne_eqb, lt-ltb, le-ltb}
-use Rattle.keys.specs.declared.Key.{Key}
-use Rattle.server.specs.Held.{held_by, first_bearing}
+use Rattle.causes.specs.declared.Refusal.{Refusal}
+use Rattle.causes.specs.declared.Refusal.TheVariants as refusal
+use Rattle.causes.specs.Numbers.{fault_of}
+use Rattle.ranges.specs.Tests.{by-test}
+use Rattle.server.specs.Held.{held_by}
 use Rattle.coordinator.specs.Log.{entries_in}
 use Rattle.tables.specs.Layout.{server_places, log_places}
 use Rattle.tables.specs.Links.{targets, link_at}
@@ -16,21 +19,41 @@ use Rattle.rules.specs.Common.{writing, entering, asking_keys, asking_setpoints}
 use Rattle.rules.specs.Open.{all_servers}
 use Rattle.refusals.specs.Refusals.{write_fault, read_fault, delivery_fault}
 use Rattle.schedule.specs.declared.Step.TheVariants as step
-use Rattle.workload.specs.declared.Next.{Next}
-use Rattle.workload.specs.declared.Next.TheVariants as next
-use Rattle.workload.specs.Passing.{passing}
-use Rattle.workload.specs.PassingLaws.{Found, found-count, found_at}
+use Rattle.workload.specs.declared.LoadStep.{LoadStep}
+use Rattle.workload.specs.Next as next
 use Rattle.workload.specs.Load.{advance, index_by, load_step, numbered, picked_from}
-use Rattle.workload.specs.Accepts.{accepts_write, accepts_read, is_held, is_entered, answers_in, accepts_request, accepts_reply, accepts}
-use Rattle.workload.specs.ReadyLaws.{index_below}
+use Rattle.workload.specs.Accepts.{accepts_write, accepts_read, is_held, is_entered, answers_in, answers_request, accepts_request, takes_reply, accepts_reply, accepts}
 
--- a begin; n is the fault found
-module _ (t : Tables) (q : ℕ) {servers all n : ℕ} (d : servers ≡ servers_of t) (a : all ≡ all_servers servers) where
-  pub by-write : n ≡ write_fault q all servers t → eqb n 0 ≡ accepts_write t q
-  by-write e = rw (e, a, d)
+-- no fault is found where the tests of a step let it pass; below judged is whether they do
+pub none-found : {A : Type 0} (r : Result A Refusal) → is_ok r ≡ eqb (fault_of r) 0
+none-found (Ok x) = refl
+none-found (Err refusal.NoSuchPress) = refl
+none-found (Err refusal.NotSound) = refl
+none-found (Err refusal.Absent) = refl
+none-found (Err refusal.Retired) = refl
+none-found (Err refusal.Busy) = refl
+none-found (Err refusal.Unfit) = refl
+none-found (Err refusal.Spent) = refl
+none-found (Err refusal.Unanswerable) = refl
+none-found (Err refusal.NoMessage) = refl
+none-found (Err refusal.CutShort) = refl
+none-found (Err refusal.Malformed) = refl
+none-found (Err refusal.NoRoom) = refl
+none-found (Err refusal.Unreadable) = refl
+none-found (Err refusal.NothingToLose) = refl
+none-found (Err refusal.NothingLost) = refl
+none-found (Err refusal.IllMade) = refl
 
-  pub by_read : n ≡ read_fault q all t → eqb n 0 ≡ accepts_read t q
-  by_read e = rw (e, a, d)
+pub found-by : {A : Type 0} (r : Result A Refusal) {b : Bool} {n : ℕ} → b ≡ is_ok r → fault_of r ≡ n → b ≡ eqb n 0
+found-by r e f = e ∙ none-found r ∙ rw f
+
+-- a begin
+module _ (t : Tables) (q : ℕ) {servers all : ℕ} {judged : Bool} (d : servers ≡ servers_of t) (a : all ≡ all_servers servers) where
+  pub by-write : judged ≡ eqb (write_fault q all servers t) 0 → judged ≡ accepts_write t q
+  by-write e = e ∙ rw (a, d)
+
+  pub by_read : judged ≡ eqb (read_fault q all t) 0 → judged ≡ accepts_read t q
+  by_read e = e ∙ rw (a, d)
 
 -- what a target answers, by the state s
 module _ (w : Contents) (counts keys log : List ℕ) (i s : ℕ) where
@@ -55,61 +78,56 @@ module _ (w : Contents) (counts keys log : List ℕ) (i s : ℕ) where
     in-entering-full {n} b e h f = rw (ne_eqb s 1 a, eq-eqb s 2 b, ← e, le-ltb n log_places h) (f ∙ rw e)
 
     module _ (b : s ≡ entering → ⊥) where
-      pub in-keys : s ≡ asking_keys → true ≡ answers_in s w counts keys log i
+      pub in_setpoints : {r : Bool} → s ≡ asking_setpoints → r ≡ is_held counts keys i w.key → r ≡ answers_in s w counts keys log i
       unfolding answers_in
-      in-keys c = rw (ne_eqb s 1 a, ne_eqb s 2 b, eq-eqb s 3 c)
+      in_setpoints f e =
+          let c : s ≡ asking_keys → ⊥ = λ z. omega arith in
+          rw (ne_eqb s 1 a, ne_eqb s 2 b, ne_eqb s 3 c, eq-eqb s 4 f) e
 
-      module _ (c : s ≡ asking_keys → ⊥) where
-        pub in_setpoints : {r : Bool} → s ≡ asking_setpoints → r ≡ is_held counts keys i w.key → r ≡ answers_in s w counts keys log i
-        unfolding answers_in
-        in_setpoints f e = rw (ne_eqb s 1 a, ne_eqb s 2 b, ne_eqb s 3 c, eq-eqb s 4 f) e
+      -- any other request can be answered
+      pub in-other : (s ≡ asking_setpoints → ⊥) → true ≡ answers_in s w counts keys log i
+      unfolding answers_in
+      in-other f =
+          by-test (eqb s asking_keys)
+          (λ e. rw (ne_eqb s 1 a, ne_eqb s 2 b, e))
+          (λ e. rw (ne_eqb s 1 a, ne_eqb s 2 b, e, ne_eqb s 4 f))
 
-        pub in_all : (s ≡ asking_setpoints → ⊥) → true ≡ answers_in s w counts keys log i
-        unfolding answers_in
-        in_all f = rw (ne_eqb s 1 a, ne_eqb s 2 b, ne_eqb s 3 c, ne_eqb s 4 f)
+-- where the link holds no request, or no reply
+module _ (judged : Bool) where
+  no-request : (c : Content) (state : ℕ) (counts keys log : List ℕ) (i : ℕ) → ((w : Contents) → c ≡ Request w → ⊥) →
+      false ≡ answers_request c judged state counts keys log i
+  no-request Nothing state counts keys log i other = refl
+  no-request (Request w) state counts keys log i other = absurd (other w refl)
+  no-request (Reply w) state counts keys log i other = refl
+  no-request Lost state counts keys log i other = refl
 
--- what the link holds; l is what was read of the links, n the fault found
+  no-reply : (c : Content) → ((w : Contents) → c ≡ Reply w → ⊥) → false ≡ takes_reply c judged
+  no-reply Nothing other = refl
+  no-reply (Request w) other = refl
+  no-reply (Reply w) other = absurd (other w refl)
+  no-reply Lost other = refl
+
+-- what the link holds; l is what was read of the links
 module _ (t : Tables) (q i : ℕ) {l : Link} (d : l ≡ link_at t.links q i) where
   content_is : {c : Content} → l.content ≡ c → content_at t q i ≡ c
   content_is e = ap (λ (k : Link). k.content) (sym d) ∙ e
 
-  pub request-none : l.content ≡ Nothing → false ≡ accepts_request t q i
+  pub request-other : ((w : Contents) → l.content ≡ Request w → ⊥) → false ≡ accepts_request t q i
   unfolding accepts_request
-  request-none e = rw (content_is e)
+  request-other other = rw (content_is refl) (no-request _ l.content _ _ _ _ _ other)
 
-  pub request-replied : {w : Contents} → l.content ≡ Reply w → false ≡ accepts_request t q i
+  pub request-judged : {w : Contents} {judged : Bool} {s : ℕ} {r : Bool} → l.content ≡ Request w → judged ≡ eqb (delivery_fault q i t) 0 →
+      s ≡ state_of t q → r ≡ (judged && answers_in s w t.counts t.keys t.log i) → r ≡ accepts_request t q i
   unfolding accepts_request
-  request-replied e = rw (content_is e)
+  request-judged e f g h = rw (content_is e, ← f, ← g) h
 
-  pub request-lost : l.content ≡ Lost → false ≡ accepts_request t q i
-  unfolding accepts_request
-  request-lost e = rw (content_is e)
-
-  pub request-refused : {w : Contents} {n : ℕ} → l.content ≡ Request w → n ≡ delivery_fault q i t → (n ≡ 0 → ⊥) →
-      false ≡ accepts_request t q i
-  unfolding accepts_request
-  request-refused {w} {n} e f z = rw (content_is e, ← f, ne_eqb n 0 z)
-
-  pub request-answered : {w : Contents} {n s : ℕ} {r : Bool} → l.content ≡ Request w → n ≡ delivery_fault q i t → n ≡ 0 → s ≡ state_of t q →
-      r ≡ answers_in s w t.counts t.keys t.log i → r ≡ accepts_request t q i
-  unfolding accepts_request
-  request-answered {w} {n} e f z g h = rw (content_is e, ← f, eq-eqb n 0 z, ← g) h
-
-  pub reply-none : l.content ≡ Nothing → false ≡ accepts_reply t q i
+  pub reply-other : ((w : Contents) → l.content ≡ Reply w → ⊥) → false ≡ accepts_reply t q i
   unfolding accepts_reply
-  reply-none e = rw (content_is e)
+  reply-other other = rw (content_is refl) (no-reply _ l.content other)
 
-  pub reply-asked : {w : Contents} → l.content ≡ Request w → false ≡ accepts_reply t q i
+  pub reply_there : {w : Contents} {judged : Bool} → l.content ≡ Reply w → judged ≡ eqb (delivery_fault q i t) 0 → judged ≡ accepts_reply t q i
   unfolding accepts_reply
-  reply-asked e = rw (content_is e)
-
-  pub reply-lost : l.content ≡ Lost → false ≡ accepts_reply t q i
-  unfolding accepts_reply
-  reply-lost e = rw (content_is e)
-
-  pub reply_there : {w : Contents} {n : ℕ} → l.content ≡ Reply w → n ≡ delivery_fault q i t → eqb n 0 ≡ accepts_reply t q i
-  unfolding accepts_reply
-  reply_there e f = rw (content_is e, f)
+  reply_there e f = rw (content_is e) f
 
 -- by the number of the step; p is how many clients there are, as it was read
 module _ (t : Tables) (n : ℕ) {p : ℕ} (d : p ≡ clients_of t) where
@@ -149,15 +167,13 @@ module _ (t : Tables) (n : ℕ) {p : ℕ} (d : p ≡ clients_of t) where
       unfolding numbered
       step-reply h = rw (← d, le-ltb n p a, le-ltb n (2 * p) b, le-ltb n (19 * p) h)
 
--- a pick among those found
-module _ (test : ℕ → Bool) (t : Tables) (seed : ℕ) {n count : ℕ} {row : List ℕ} (f : Found test n count row) where
-  pub pick-none : count ≡ 0 → next.End ≡ picked_from (passing test n) t seed
+-- a pick among those that pass
+module _ (t : Tables) (seed : ℕ) {numbers passed : List ℕ} (f : numbers ≡ passed) where
+  pub pick-none : length numbers ≡ 0 → next.End ≡ picked_from passed t seed
   unfolding picked_from
-  pick-none z = rw (found-count test f, eq-eqb count 0 z)
+  pick-none z = rw (← f, eq-eqb (length numbers) 0 z)
 
-  pub pick_some : {seed' index : ℕ} {x : Next} → (count ≡ 0 → ⊥) → seed' ≡ advance seed → index ≡ index_by seed' count →
-      x ≡ next.Given seed' (numbered t (get_or row index 0)) → x ≡ picked_from (passing test n) t seed
+  pub pick_some : {seed' index : ℕ} {x : LoadStep} → (length numbers ≡ 0 → ⊥) → seed' ≡ advance seed → index ≡ index_by seed' (length numbers) →
+      x ≡ numbered t (get_or numbers index 0) → next.Given seed' x ≡ picked_from passed t seed
   unfolding picked_from
-  pick_some {seed'} {index} z e i g =
-      let l : index < count = rw i (index_below seed' count (rw e (omega arith)) (omega arith)) in
-      rw (found-count test f, ne_eqb count 0 z, ← e, ← i, found_at test f index l) g
+  pick_some z e i g = rw (← f, ne_eqb (length numbers) 0 z, ← e, ← i, g)

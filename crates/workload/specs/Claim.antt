@@ -1,11 +1,10 @@
 -- E2: "It is shown that every step it gives is accepted and that it stops early only then."
-use Rattle.std.specs.Prelude.{ℕ, zero, suc, ◌*◌, ◌≤◌, ◌<◌, ◌≡◌, refl, Bool, true, false, cond, List, [], ◌∷◌, ◌++◌, length, get_or}
-use Rattle.std.proofs.Common.{sym, ◌∙◌}
+use Rattle.std.specs.Prelude.{ℕ, ◌<◌, ◌≡◌, true, false, List}
 use Rattle.tables.specs.Tables.{Tables, clients_of}
 use Rattle.soundness.specs.Facts.{Sound}
 use Rattle.refusals.specs.Steps.{begin_write, begin_read, deliver_request, deliver_reply}
 use Rattle.workload.specs.declared.LoadStep.{LoadStep}
-use Rattle.workload.specs.declared.Next.TheVariants.{Given, End}
+use Rattle.workload.specs.Next.{Given, End}
 use Rattle.workload.specs.Load.{numbered, numbered_count, acceptable, next_step}
 use Rattle.workload.specs.AcceptLaws.{is_fine, is_fine_arrival}
 

@@ -1,11 +1,11 @@
 -- Every step that the load gives is accepted, and it gives none only where none is.
-use Rattle.std.specs.Prelude.{ℕ, zero, suc, ◌+◌, ◌-◌, ◌*◌, ◌/◌, ◌%◌, ◌≤◌, ◌<◌, refl, Bool, true, false, not, ◌&&◌, ◌||◌, List, eqb, leb, ltb, get_or, replicate}
+use Rattle.std.specs.Prelude.{ℕ, ◌+◌, ◌-◌, ◌*◌, ◌/◌, ◌%◌, ◌≤◌, ◌<◌, refl, Bool, true, false, ◌&&◌, ◌||◌, List, eqb, leb, ltb, get_or}
 use Rattle.std.proofs.Math.Path.{◌≡◌, sym}
-use Rattle.std.proofs.Common.{◌∙◌, ap}
+use Rattle.std.proofs.Common.{◌∙◌}
 use native.Mathlib.Omega.{arith}
 use Rattle.std.proofs.Math.ListN.{length}
 use borrow.Author.Tests.{lt-ltb, le-ltb, le-leb, ltb-true, ltb-false, eqb-true, eqb-false, eq-eqb, ne_eqb}
-use Rattle.ranges.specs.Tests.{by-test, by_equal, both, not-both}
+use Rattle.ranges.specs.Tests.{by-test, both}
 use Rattle.keys.specs.Masks.{mask_within}
 use Rattle.keys.specs.MaskLaws.{within-test}
 use Rattle.tables.specs.Layout.{record_places}
@@ -17,21 +17,17 @@ use Rattle.soundness.specs.Sound.{sound}
 use Rattle.soundness.specs.Facts.{Sound, facts-sound}
 use Rattle.soundness.specs.Room.{few_servers}
 use Rattle.refusals.specs.Refusals.{is_retired, at_last_step, begin_fault, delivery_fault}
-use Rattle.refusals.specs.Steps.{begin_write, begin_read, deliver_request, deliver_reply}
-use Rattle.schedule.specs.declared.Step.TheVariants.{BeginWrite, BeginRead, Request, Reply}
-use Rattle.playing.specs.Played.{played}
+use Rattle.refusals.specs.Steps.{begin_write, begin_read}
+use Rattle.schedule.specs.declared.Step.TheVariants.{Request, Reply}
 use Rattle.workload.specs.declared.LoadStep.{LoadStep}
-use Rattle.workload.specs.declared.Next.{Next}
-use Rattle.workload.specs.declared.Next.TheVariants.{Refused, Given, End}
-use Rattle.workload.specs.Passing.{passing}
+use Rattle.workload.specs.Next.{Refused, Given, End}
 use Rattle.workload.specs.PassingLaws.{passing_at, passing-none}
-use Rattle.workload.specs.Load.{advance, index_by, load_step, write_of_all, read_of_all, delivery, numbered, numbered_count, acceptable}
+use Rattle.workload.specs.Load.{advance, index_by, load_step, write_of_all, read_of_all, numbered, numbered_count, acceptable}
 use Rattle.workload.specs.Load.{acceptables, picked_from, next_step}
-use Rattle.workload.specs.AcceptLaws.{is_fine, is_fine_arrival, write-judged, read-judged, request-judged, reply-judged, write-told}
+use Rattle.workload.specs.AcceptLaws.{is_fine, write-judged, read-judged, write-told}
 use Rattle.workload.specs.AcceptLaws.{read_told}
 use Rattle.workload.specs.Accepts.{accepts_write, accepts_read}
 use Rattle.workload.specs.ReadyLaws.{index_below}
-use Rattle.workload.specs.Claim.{Nothing, Claim}
 
 module _ (t : Tables) (seed : ℕ) where
   abbrev numbers : List ℕ

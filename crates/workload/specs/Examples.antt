@@ -24,8 +24,8 @@ use Rattle.playing.specs.Played.{played}
 use Rattle.workload.specs.Passing.{passing}
 use Rattle.workload.specs.Load.{advance, index_by, load_step, load_played, numbered, picked_from, next_step}
 use Rattle.workload.specs.declared.LoadStep.{LoadStep}
-use Rattle.workload.specs.declared.Next.{Next}
-use Rattle.workload.specs.declared.Next.TheVariants as next
+use Rattle.workload.specs.Next.{Next}
+use Rattle.workload.specs.Next as next
 
 -- tables of two servers and two clients, all zero
 unfoldable pub blank : Tables

@@ -1,5 +1,7 @@
 -- The load: which step it gives next, and what makes a step acceptable.
 pub mod Passing
+pub mod Next
+pub mod Results
 pub mod Load
 pub mod Examples
 pub mod PassingLaws

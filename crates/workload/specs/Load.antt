@@ -10,8 +10,8 @@ use Rattle.printing.specs.declared.Word.{Word}
 use Rattle.printing.specs.declared.Word.TheVariants as print
 use Rattle.playing.specs.Played.{Played, played}
 use Rattle.workload.specs.declared.LoadStep.{LoadStep}
-use Rattle.workload.specs.declared.Next.{Next}
-use Rattle.workload.specs.declared.Next.TheVariants as next
+use Rattle.workload.specs.Next.{Next}
+use Rattle.workload.specs.Next as next
 use Rattle.workload.specs.Passing.{passing}
 
 -- "From a 32-bit seed the load advances by times 1,664,525 plus 1,013,904,223, modulo 2^32"

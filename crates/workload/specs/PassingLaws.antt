@@ -1,60 +1,33 @@
 -- The numbers that pass, as a loop notes them one behind the other.
 use Prim.Native.Nat.{ℕ, zero, suc, ◌+◌, ◌≤◌, ◌<◌}
-use Rattle.std.specs.Prelude.{◌≡◌, refl, Bool, true, false, cond, take, set, get_or, ltb}
-use Rattle.std.proofs.Common.{sym, ◌∙◌, ap, add-one, length-set, get_or-take, take-suc-set, length-take-le}
-use mathlib.Core.List.{List, [], ◌∷◌, ◌++◌, append-nil}
+use Rattle.std.specs.Prelude.{◌≡◌, refl, Bool, true, false, get_or, ltb}
+use Rattle.std.proofs.Common.{sym, add-one}
+use mathlib.Core.List.{[], ◌∷◌, ◌++◌, append-nil}
 use native.Mathlib.Omega.{arith}
 use Rattle.std.proofs.Math.ListN.{length, length-append, get_or-append}
 use Rattle.std.proofs.Math.Seq.{get_or-append_seam}
 use borrow.Author.Tests.{ltb-true, ltb-false}
 use Rattle.ranges.specs.Tests.{by-test, by_equal}
-use Rattle.ranges.specs.Sum.{one}
-use Rattle.ranges.specs.SumLaws.{one-most}
 use Rattle.workload.specs.Passing.{passing}
 
--- a number noted behind the first of a row, where it passes
-pub record Noted (row : List ℕ) (count number : ℕ) (passes : Bool) (count' : ℕ) (row' : List ℕ) : Type 0 where
-  pub counted : count' ≡ count + one passes
-  pub noted : take count' row' ≡ take count row ++ cond passes (number ∷ []) []
-  pub size : length row' ≡ length row
-
--- those below n that pass stand at the front of a row
-pub record Found (test : ℕ → Bool) (n count : ℕ) (row : List ℕ) : Type 0 where
-  pub front : take count row ≡ passing test n
-  pub few : count ≤ n
-  pub room : count ≤ length row
-
-module _ (row : List ℕ) (count number : ℕ) {passes : Bool} where
-  pub note-here : passes ≡ true → count < length row → Noted row count number passes (count + 1) (set row count number)
-  note-here e h =
-      record { counted = rw e; noted = rw (e, add-one count) (take-suc-set row count number h); size = length-set row count number }
-
-  pub note-none : passes ≡ false → Noted row count number passes count row
-  note-none e = record { counted = rw e (omega arith); noted = rw e (sym (append-nil (take count row))); size = refl }
-
 module _ (test : ℕ → Bool) where
-  pub found_none : (row : List ℕ) → Found test 0 0 row
-  unfolding passing
-  found_none row = record { front = refl; few = omega arith; room = omega arith }
-
   -- one number more
-  pub found-more : (n : ℕ) {count count' : ℕ} {row row' : List ℕ} {passes : Bool} → Found test n count row → count < length row →
-      passes ≡ test n →
-      Noted row count n passes count' row' → Found test (n + 1) count' row'
+  pub passing-here : (n : ℕ) → test n ≡ true → passing test n ++ (n ∷ []) ≡ passing test (n + 1)
   unfolding passing
-  found-more n {count} {count'} {row} {row'} {passes} f h e s =
-      record {
-        front = s.noted ∙ rw (add-one n, f.front, e);
-        few = omega (arith, s.counted, f.few, one-most passes);
-        room = omega (arith, s.counted, s.size, one-most passes);
-      }
+  passing-here n e = rw (add-one n, e)
 
-  -- how many they are, and each of them
-  pub found-count : {n count : ℕ} {row : List ℕ} → Found test n count row → length (passing test n) ≡ count
-  found-count {n} {count} {row} f = rw (← f.front) (length-take-le count row f.room)
+  pub passing-past : (n : ℕ) → test n ≡ false → passing test n ≡ passing test (n + 1)
+  unfolding passing
+  passing-past n e = rw (add-one n, e) (sym (append-nil (passing test n)))
 
-  pub found_at : {n count : ℕ} {row : List ℕ} → Found test n count row → (i : ℕ) → i < count → get_or (passing test n) i 0 ≡ get_or row i 0
-  found_at {n} {count} {row} f i h = rw (← f.front) (get_or-take count row i 0 h)
+  pub passing_few : (n : ℕ) → length (passing test n) ≤ n
+  unfolding passing
+  passing_few zero = omega arith
+  passing_few (suc n) =
+      let few = passing_few n in
+      by-test (test n)
+      (λ e. rw e (omega (arith, few, length-append (passing test n) (n ∷ []))))
+      (λ e. rw (e, append-nil (passing test n)) (omega (arith, few)))
 
 -- tests that agree pass the same
 pub passing-same : (f g : ℕ → Bool) → ((n : ℕ) → f n ≡ g n) → (n : ℕ) → passing f n ≡ passing g n

@@ -1,21 +1,15 @@
 -- Sound tables can be scanned, and a pick among what the scan tells is the load's.
-use Rattle.std.specs.Prelude.{ℕ, ◌*◌, ◌/◌, ◌≤◌, ◌<◌, ◌≡◌, Bool, true, not, List}
-use Rattle.std.proofs.Math.Path.{refl}
-use Rattle.std.proofs.Common.{◌∙◌, arith, mul-le-mul, mul-lt-mul_of_pos_right}
+use Rattle.std.specs.Prelude.{ℕ, ◌*◌, ◌/◌, ◌≤◌, ◌<◌, ◌≡◌, Bool, true, not}
+use Rattle.std.proofs.Common.{arith, mul-le-mul, mul-lt-mul_of_pos_right}
 use Rattle.ranges.specs.Tests.{fails}
-use Rattle.tables.specs.Tables.{Tables, servers_of, clients_of}
+use Rattle.tables.specs.Tables.{Tables, servers_of}
 use Rattle.soundness.specs.Sound.{sound}
-use Rattle.soundness.specs.Facts.{Sound, facts-sound}
+use Rattle.soundness.specs.Facts.{Sound}
 use Rattle.soundness.specs.Room.{few_servers, few_clients, server-fits, keys-row}
 use Rattle.keeping.specs.States.{set-server, get-server}
-use Rattle.workload.specs.declared.Next.{Next}
-use Rattle.workload.specs.declared.Next.TheVariants.{Refused}
-use Rattle.workload.specs.Passing.{passing}
-use Rattle.workload.specs.PassingLaws.{passing-same}
-use Rattle.workload.specs.Load.{index_by, advance, numbered, numbered_count, acceptable, picked_from, next_step}
-use Rattle.workload.specs.Accepts.{seen, accepts_request, accepts_reply, accepts}
-use Rattle.workload.specs.AcceptLaws.{accepts-told}
-use Rattle.workload.specs.Ready.{Searched, Logged, Served, Scanned}
+use Rattle.workload.specs.Next.{Refused}
+use Rattle.workload.specs.Load.{index_by, next_step}
+use Rattle.workload.specs.Ready.{Searched, Logged, Scanned}
 
 module _ (t : Tables) (s : Sound t) where
   searched : (i : ℕ) → i < servers_of t → Searched t.counts t.keys i
@@ -41,18 +35,6 @@ module _ (t : Tables) (s : Sound t) where
           get = λ z. searched i (get-server t s q i h l w e z);
         };
       }
-
-  -- the other tables take no part
-  abbrev pub part : Tables
-  part = seen t.counts t.clients t.links t.keys t.log
-
-  pub part-accepts : (n : ℕ) → accepts part n ≡ accepts t n
-  unfolding accepts accepts_request accepts_reply
-  part-accepts n = refl
-
-  pub part-picked : (numbers : List ℕ) (seed : ℕ) → picked_from numbers part seed ≡ picked_from numbers t seed
-  unfolding picked_from numbered
-  part-picked numbers seed = refl
 
 pub unsound-next : (t : Tables) (seed : ℕ) {b : Bool} → b ≡ sound t → not b ≡ true → Refused 2 ≡ next_step t seed
 unfolding next_step

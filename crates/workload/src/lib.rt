@@ -11,15 +11,11 @@ pub struct LoadStep {
     pub setpoint: u32,
 }
 
-// What a pick gives.
+// What a pick gives where a step is acceptable: the next seed, and the step.
 #[derive(Clone, Copy)]
-pub enum Next {
-    // the tables are not sound: number 2
-    Refused(u8),
-    // no step is acceptable
-    End,
-    // the next seed, and the step
-    Given(u32, LoadStep),
+pub struct Pick {
+    pub seed: u32,
+    pub step: LoadStep,
 }
 
 // The targets of a client.

@@ -1,12 +1,12 @@
--- `acceptable_steps::accepts_read` meets its contract: the fault of a READ of all servers, 0 where there is none.
-use mathlib.Core.List.{[]}
-use Rattle.workload.specs.Accepts.{seen}
-use Rattle.workload.specs.Cases.{by_read}
+-- `acceptable_steps::accepts_read` meets its contract: nothing is wrong with a READ of all servers.
+use Rattle.tables.specs.Lent.{tables_lent}
+use Rattle.workload.specs.Cases.{by_read, found-by}
 use Rattle.acceptable_steps.proofs.accepts_read.Goals as goal
 
 pub returns : goal.returns
 returns c =
     let a = c.args in
-    λ links keys log. by_read (seen a.counts.now a.clients.now links keys log) a.client c.count_at-servers.ensures
-    c.all_servers-all.ensures
-    (c.read_fault.ensures links keys [] log [] [])
+    let t = a.t.now in
+    by_read (tables_lent t) a.client c.count_at.ensures c.all_servers-all.ensures
+    (found-by _ c.is_ok.ensures.value
+    (c.read_fault.ensures t.links.now t.keys.now t.values.now t.log.now t.writes.now t.reads.now))

@@ -1,33 +1,16 @@
--- `acceptable_steps::accepts_reply` meets its contract: by the content of the link and the fault of a delivery.
-use mathlib.Core.List.{[]}
-use Rattle.workload.specs.Accepts.{seen}
-use Rattle.workload.specs.Cases.{reply-none, reply-asked, reply-lost, reply_there}
+-- `acceptable_steps::accepts_reply` meets its contract: by the content of the link and the tests of a delivery.
+use Rattle.tables.specs.Lent.{tables_lent}
+use Rattle.workload.specs.Cases.{found-by, reply-other, reply_there}
 use Rattle.acceptable_steps.proofs.accepts_reply.Goals as goal
-
-pub returns-in-Nothing : goal.returns-in-Nothing
-returns-in-Nothing c =
-    let a = c.args in
-    λ clients keys log. reply-none (seen a.counts.now clients a.links.now keys log) a.client a.target
-    c.link_at-link.ensures
-    c.in-Nothing.is
-
-pub returns-in-Request : goal.returns-in-Request
-returns-in-Request c =
-    let a = c.args in
-    λ clients keys log. reply-asked (seen a.counts.now clients a.links.now keys log) a.client a.target
-    c.link_at-link.ensures
-    c.in-Request.is
-
-pub returns-in-Lost : goal.returns-in-Lost
-returns-in-Lost c =
-    let a = c.args in
-    λ clients keys log. reply-lost (seen a.counts.now clients a.links.now keys log) a.client a.target
-    c.link_at-link.ensures
-    c.in-Lost.is
 
 pub returns-in-Reply : goal.returns-in-Reply
 returns-in-Reply c =
     let a = c.args in
-    λ clients keys log. reply_there (seen a.counts.now clients a.links.now keys log) a.client a.target
-    c.link_at-link.ensures
-    c.in-Reply.is (c.delivery_fault.ensures clients a.links.now keys [] log [] [])
+    let t = a.t.now in
+    reply_there (tables_lent t) a.client a.target c.link_at-link.ensures c.in-Reply.is
+    (found-by _ c.is_ok.ensures.value
+    (c.delivery_fault.ensures t.clients.now t.links.now t.keys.now t.values.now t.log.now t.writes.now t.reads.now))
+
+pub returns-in_default : goal.returns-in_default
+returns-in_default c =
+    reply-other (tables_lent c.args.t.now) c.args.client c.args.target c.link_at-link.ensures c.in_default.not-Reply

@@ -1,12 +1,13 @@
--- `acceptable_steps::accepts_write` meets its contract: the fault of a WRITE to all servers, 0 where there is none.
-use mathlib.Core.List.{[]}
-use Rattle.workload.specs.Accepts.{seen}
-use Rattle.workload.specs.Cases.{by-write}
+-- `acceptable_steps::accepts_write` meets its contract: nothing is wrong with a WRITE of all servers.
+use Rattle.std.proofs.Common.{[]}
+use Rattle.tables.specs.Lent.{tables_lent}
+use Rattle.workload.specs.Cases.{by-write, found-by}
 use Rattle.acceptable_steps.proofs.accepts_write.Goals as goal
 
 pub returns : goal.returns
 returns c =
     let a = c.args in
-    λ links keys log. by-write (seen a.counts.now a.clients.now links keys log) a.client c.count_at-servers.ensures
-    c.all_servers-all.ensures
-    (c.write_fault.ensures links keys [] log [] [])
+    let t = a.t.now in
+    by-write (tables_lent t) a.client c.count_at-servers.ensures c.all_servers-all.ensures
+    (found-by _ c.is_ok.ensures.value
+    (c.write_fault.ensures t.links.now t.keys.now t.values.now t.log.now t.writes.now t.reads.now))

@@ -1,80 +1,30 @@
--- `load_pick::list_accepted` meets its contract: the numbers passed that were accepted stand at the front of the row.
-use Rattle.workload.specs.PassingLaws.{found_none, found-more}
-use Rattle.workload.specs.Load.{numbered_count}
-use Rattle.tables.specs.Layout.{count_at, clients_field}
-use lib.ListN.{length}
-use native.Mathlib.Omega.{arith}
-use mathlib.Core.Path.{◌≡◌, refl, ◌∙◌}
-use Prim.Native.Nat.{◌-◌, ◌<◌}
+-- `load_pick::list_accepted` meets its contract: those accepted of the numbers passed are listed.
+use Rattle.std.proofs.Common.{◌<◌, length, sym, ◌∙◌, arith, rules}
+use Rattle.tables.specs.Lent.{tables_lent}
+use Rattle.workload.specs.Accepts.{accepts}
+use Rattle.workload.specs.Passing.{passing}
+use Rattle.workload.specs.PassingLaws.{passing-here, passing-past, passing_few}
 use Rattle.load_pick.proofs.list_accepted.Goals as goal
-
-pub count_at-total-requires : goal.count_at-total-requires
-count_at-total-requires c = omega (arith, c.requires.0.numberable.judged.counted)
-
-pub overflow_mul-total : goal.overflow_mul-total
-overflow_mul-total c = omega (arith, c.count_at-total.ensures, c.requires.0.numberable.few)
+use Rattle.load_pick.proofs.list_accepted.Goals.{then-accepts, else-accepts}
 
 pub loop-number-init : goal.loop-number-init
-loop-number-init c = (omega arith, (refl, found_none _ _))
+unfolding passing
+loop-number-init c = c.new-numbers.ensures
 
-pub accepts-passes-requires : goal.accepts-passes-requires
-accepts-passes-requires c =
-    record {
-      scanned = c.requires.0;
-      number_bound = omega
-          (arith, c.loop-number-test.true, c.count_at-total.ensures);
-    }
-
-pub note-count-requires : goal.note-count-requires
-note-count-requires c =
-    let inv = c.loop-number.invariant in
-    omega (
-      arith,
-      inv.1.1.few,
-      inv.1.0,
-      c.loop-number-test.true,
-      c.count_at-total.ensures,
-      c.requires.0.numberable.few,
-      c.requires.1,
-    )
-
-pub overflow_add-number : goal.overflow_add-number
-overflow_add-number c =
-    omega (
-      arith,
-      c.loop-number-test.true,
-      c.count_at-total.ensures,
-      c.requires.0.numberable.few,
-    )
-
-pub loop-number-smaller : goal.loop-number-smaller
-loop-number-smaller c = omega (arith, c.loop-number-test.true)
+pub push-requires : goal.push-requires
+push-requires c =
+    let few = passing_few (accepts (tables_lent c.args.t.now)) c.loop-number.number in
+    let room : length c.loop-number.numbers.items < 576 =
+    rw c.loop-number.invariant (omega (arith, few, c.loop-number-test.true, c.count_at-total.ensures, c.requires.numberable.few)) in
+    search rules
 
 pub loop-number-preserved : goal.loop-number-preserved
 loop-number-preserved c =
-    let inv = c.loop-number.invariant in
-    let l : c.loop-number.count < length
-    c.loop-number.numbers =
-    omega (
-      arith,
-      inv.1.1.few,
-      inv.1.0,
-      c.loop-number-test.true,
-      c.count_at-total.ensures,
-      c.requires.0.numberable.few,
-      c.requires.1,
-    ) in (
-      omega (arith, c.loop-number-test.true),
-      (
-        c.note-count.ensures.size ∙ inv.1.0,
-        found-more _ _ inv.1.1 l
-            c.accepts-passes.ensures c.note-count.ensures,
-      ),
-    )
-
-pub returns : goal.returns
-returns c =
-    let inv = c.loop-number.invariant in
-    let p = count_at c.args.counts.now clients_field in
-    let e : c.loop-number.number ≡ numbered_count p = omega (arith, inv.0, c.loop-number-test.false, c.count_at-total.ensures) in
-    rw (← e) inv.1.1
+    let test = accepts (tables_lent c.args.t.now) in
+    let n = c.loop-number.number in
+    elim c.if-accepts.branch [
+      | then-accepts w ↦
+          rw (w.numbers-is, w.push.ensures.items, c.loop-number.invariant) (passing-here test n (sym c.accepts.ensures ∙ w.if-accepts.true))
+      | else-accepts w ↦
+          rw (w.numbers-is, c.loop-number.invariant) (passing-past test n (sym c.accepts.ensures ∙ w.if-accepts.false))
+    ]
