@@ -1,13 +1,11 @@
 -- What a pick and a load answer, as the numbers by which they cross to other languages.
 use Rattle.std.specs.Prelude.{ℕ, ◌≡◌, List, get_or}
-use Rattle.std.proofs.Common.{◌∙◌}
 use Rattle.tables.specs.Tables.{Tables}
-use Rattle.schedule.specs.declared.Step.{Step}
 use Rattle.workload.specs.declared.LoadStep.{LoadStep}
-use Rattle.workload.specs.declared.Next.{Next}
-use Rattle.workload.specs.declared.Next.TheVariants as next
-use Rattle.workload_run.specs.declared.Load.{Load}
-use Rattle.workload_run.specs.declared.Load.TheVariants as load
+use Rattle.workload.specs.Next.{Next}
+use Rattle.workload.specs.Next as next
+use Rattle.workload_run.specs.Load.{Load}
+use Rattle.workload_run.specs.Load as load
 use Rattle.workload_run.specs.Run.{step_words, Loaded, loaded, play_load}
 use Rattle.load_numbers.specs.declared.LoadPick.{LoadPick}
 use Rattle.load_numbers.specs.declared.LoadEnd.{LoadEnd}
@@ -50,14 +48,3 @@ pub load-crossed : (seed wanted : ℕ) (list : List ℕ) (t : Tables) {a : Load}
     e ≡ load_numbers seed a →
     loaded a list' t' ≡ play_load seed wanted list t → load_crossed e list' t' ≡ in_numbers seed (play_load seed wanted list t)
 load-crossed seed wanted list t d f = rw (d, ← f)
-
--- the cases, as the code meets them
-pub given_by : (seed : ℕ) (s : LoadStep) {step : Step} {x : LoadPick} → s.step ≡ step →
-    x ≡ pick_words seed (step_words step s.setpoint) → x ≡ pick_of seed s
-given_by seed s e f = f ∙ rw e
-
-pub next_by : (seed : ℕ) {n c : Next} {x : LoadPick} → n ≡ c → x ≡ next_numbers seed c → x ≡ next_numbers seed n
-next_by seed e f = rw e f
-
-pub load_by : (seed : ℕ) {a c : Load} {x : LoadEnd} → a ≡ c → x ≡ load_numbers seed c → x ≡ load_numbers seed a
-load_by seed e f = rw e f

@@ -2,12 +2,14 @@
 // `workload_exports` answers these; they stand below it, so that an edit of a number proves no load.
 #![tactic(auto)]
 
-ghost use Rattle.std.specs.Prelude.{◌≡◌, [], ◌∷◌};
-ghost use Rattle.load_numbers.specs.Numbers.{pick_words, pick_of, no_pick, next_numbers, load_numbers};
+ghost use Rattle.std.specs.Prelude.{◌≡◌};
+ghost use Rattle.workload.specs.Results.{next_of};
+ghost use Rattle.workload_run.specs.Results.{load_of};
+ghost use Rattle.load_numbers.specs.Numbers.{pick_of, no_pick, next_numbers, load_numbers};
 
-use schedule::Step;
-use workload::{LoadStep, Next};
-use workload_run::Load;
+use causes::Refusal;
+use workload::Pick;
+use workload_run::Progress;
 
 // A pick as it crosses: 0 and the step, the number of a refusal, or 256 where no step is acceptable.
 #[repr(C)]
@@ -39,8 +41,8 @@ fn no_pick(answer: u32, seed: u32) -> LoadPick
     ensures { result ≡ no_pick answer seed }
 {
     LoadPick {
-        answer: answer,
-        seed: seed,
+        answer,
+        seed,
         kind: 0,
         client: 0,
         second: 0,
@@ -49,61 +51,45 @@ fn no_pick(answer: u32, seed: u32) -> LoadPick
 }
 
 // A step is given, by its words.
-fn pick(seed: u32, kind: u32, client: u32, second: u32, setpoint: u32) -> LoadPick
-    ensures { result ≡ pick_words seed (kind ∷ client ∷ second ∷ setpoint ∷ []) }
+fn given_pick(pick: Pick) -> LoadPick
+    ensures { result ≡ pick_of pick.seed pick.step }
 {
+    let [kind, client, second, setpoint] = workload_run::step_words(pick.step);
     LoadPick {
         answer: 0,
-        seed: seed,
-        kind: kind,
-        client: client,
-        second: second,
-        setpoint: setpoint,
-    }
-}
-
-// A step is given.
-fn given_pick(seed: u32, given: LoadStep) -> LoadPick
-    ensures { result ≡ pick_of seed given }
-{
-    let step = given.step;
-    match step {
-        Step::Unreadable => pick(seed, 0, 0, 0, 0),
-        Step::Open(_, _, _) => pick(seed, 0, 0, 0, 0),
-        Step::BeginWrite(client, mask, _) => pick(seed, 0, client, mask, given.setpoint),
-        Step::BeginRead(client, mask) => pick(seed, 1, client, mask, 0),
-        Step::Request(client, target) => pick(seed, 2, client, target, 0),
-        Step::Reply(client, target) => pick(seed, 3, client, target, 0),
-        Step::Lose(_, _) => pick(seed, 0, 0, 0, 0),
-        Step::Resend(_, _) => pick(seed, 0, 0, 0, 0),
+        seed: pick.seed,
+        kind,
+        client,
+        second,
+        setpoint,
     }
 }
 
 // The next step of a load as it crosses.
-pub fn next_numbers(seed: u32, next: Next) -> LoadPick
-    ensures { result ≡ next_numbers seed next }
+pub fn next_numbers(seed: u32, next: Result<Option<Pick>, Refusal>) -> LoadPick
+    ensures { result ≡ next_numbers seed (next_of next) }
 {
     match next {
-        Next::Refused(number) => no_pick(number as u32, seed),
-        Next::End => no_pick(256, seed),
-        Next::Given(behind, given) => given_pick(behind, given),
+        Err(refusal) => no_pick(refusal.number() as u32, seed),
+        Ok(None) => no_pick(256, seed),
+        Ok(Some(pick)) => given_pick(pick),
     }
 }
 
 // A load's end as it crosses.
-pub fn load_numbers(seed: u32, load: Load) -> LoadEnd
-    ensures { result ≡ load_numbers seed load }
+pub fn load_numbers(seed: u32, load: Result<Progress, Refusal>) -> LoadEnd
+    ensures { result ≡ load_numbers seed (load_of load) }
 {
     match load {
-        Load::Played(steps, behind) => LoadEnd {
+        Ok(progress) => LoadEnd {
             answer: 0,
-            steps: steps,
-            seed: behind,
+            steps: progress.given,
+            seed: progress.seed,
         },
-        Load::Refused(number) => LoadEnd {
-            answer: number as u32,
+        Err(refusal) => LoadEnd {
+            answer: refusal.number() as u32,
             steps: 0,
-            seed: seed,
+            seed,
         },
     }
 }

@@ -1,14 +1,12 @@
 -- A load is as long as wanted, or nothing is accepted any more.
-use Prim.Native.Nat.{ℕ, zero, suc, ◌+◌, ◌≤◌, ◌<◌}
-use Rattle.std.specs.Prelude.{◌≡◌, true, false}
+use Prim.Native.Nat.{ℕ, zero, suc, ◌+◌, ◌<◌}
+use Rattle.std.specs.Prelude.{◌≡◌}
 use Rattle.std.proofs.Math.Path.{refl, ap}
-use Rattle.std.proofs.Common.{sym, ◌∙◌, arith, add-zero, add-suc}
-use Rattle.ranges.specs.Tests.{by-test}
+use Rattle.std.proofs.Common.{◌∙◌, arith, add-zero, add-suc}
 use Rattle.ranges.specs.Turns.{turns}
-use Rattle.tables.specs.Tables.{Tables}
 use Rattle.soundness.specs.Facts.{Sound}
-use Rattle.workload.specs.declared.Next.{Next}
-use Rattle.workload.specs.declared.Next.TheVariants as next
+use Rattle.workload.specs.Next.{Next}
+use Rattle.workload.specs.Next as next
 use Rattle.workload.specs.Load.{next_step}
 use Rattle.workload.specs.Claim.{Nothing}
 use Rattle.workload.specs.ClaimLaws.{sound-given}

@@ -1,4 +1,6 @@
 -- The load played on lent tables, and the list of its steps.
+pub mod Load
+pub mod Results
 pub mod Run
 pub mod RunLaws
 pub mod Cases

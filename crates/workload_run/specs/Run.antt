@@ -7,12 +7,12 @@ use Rattle.soundness.specs.Sound.{sound}
 use Rattle.schedule.specs.declared.Step.{Step}
 use Rattle.schedule.specs.declared.Step.TheVariants.{Unreadable, Open, BeginWrite, BeginRead, Request, Reply, Lose, Resend}
 use Rattle.workload.specs.declared.LoadStep.{LoadStep}
-use Rattle.workload.specs.declared.Next.{Next}
-use Rattle.workload.specs.declared.Next.TheVariants as next
+use Rattle.workload.specs.Next.{Next}
+use Rattle.workload.specs.Next as next
 use Rattle.workload.specs.Load.{load_played, next_step}
 use Rattle.workload_run.specs.declared.Progress.{Progress}
-use Rattle.workload_run.specs.declared.Load.{Load}
-use Rattle.workload_run.specs.declared.Load.TheVariants.{Played, Refused}
+use Rattle.workload_run.specs.Load.{Load}
+use Rattle.workload_run.specs.Load.{Played, Refused}
 
 -- a step as a row of the list: its kind, its client, its mask or target, its setpoint; a WRITE's badge is 0 and stands in no word.
 -- What the load does not give, an opening, a loss and a resend among it, is a row of zeros.
