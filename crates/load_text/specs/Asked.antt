@@ -1,9 +1,18 @@
 -- The line that asks for a load, `seed length method k p`: five numbers, one space between, as in the lines of a schedule.
-use Rattle.std.specs.Prelude.{ℕ, cond, List, ◌∷◌, eqb, leb, length, get_or}
+use Rattle.std.specs.Prelude.{ℕ, cond, Option, None, Some, List, ◌∷◌, eqb, leb, length, get_or}
 use Rattle.schedule.specs.Numbers.{Read, numbers_of}
 use Rattle.schedule.specs.Steps.{line_most}
-use Rattle.load_text.specs.declared.Asked.{Asked}
-use Rattle.load_text.specs.declared.Asked.TheVariants.{Unreadable, Load}
+use Rattle.load_text.specs.declared.Wanted.{Wanted}
+
+-- What a line asks for: no load, which is number 13, or the load that is wanted.
+pub data Asked : Type 0 where
+  Unreadable : Asked
+  Load : Wanted → Asked
+
+-- what the readers return, in these words
+abbrev pub asked_for : Option Wanted → Asked
+asked_for None = Unreadable
+asked_for (Some w) = Load w
 
 -- five numbers ask for a load; fewer or more do not
 abbrev pub five_ask : List ℕ → Asked

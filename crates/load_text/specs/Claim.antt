@@ -6,7 +6,7 @@ use Rattle.schedule.specs.Lines.{lines_of}
 use Rattle.playing.specs.Played.{played_line}
 use Rattle.workload.specs.Load.{is_accepted}
 use Rattle.load_text.specs.declared.Wanted.{Wanted}
-use Rattle.load_text.specs.declared.Asked.TheVariants.{Load}
+use Rattle.load_text.specs.Asked.{Load}
 use Rattle.load_text.specs.Given.{opening, picks, lines_from, rest_of, load_text}
 
 -- the yard accepts some lines, one behind the other

@@ -3,7 +3,6 @@ use Rattle.std.specs.Prelude.{ℕ, zero, suc, ◌≡◌, refl, true, List, [], �
 use Rattle.std.proofs.Common.{sym, ap, subst, ◌∙◌, arith}
 use Rattle.std.proofs.Math.Seq.{append_snoc}
 use Rattle.tables.specs.Tables.{Tables, servers_of}
-use Rattle.rules.specs.Answer.{Answer}
 use Rattle.rules.specs.Answer.{Ok}
 use Rattle.soundness.specs.Facts.{Sound}
 use Rattle.soundness.specs.Room.{few_servers}
@@ -14,14 +13,14 @@ use Rattle.schedule.specs.Steps.{Named, step_text}
 use Rattle.schedule.specs.ReadBack.{step_line}
 use Rattle.playing.specs.Played.{Played, played, played_line}
 use Rattle.playing.specs.PlayableLaws.{step-sound}
-use Rattle.workload.specs.declared.Next.{Next}
-use Rattle.workload.specs.declared.Next.TheVariants as next
+use Rattle.workload.specs.Next.{Next}
+use Rattle.workload.specs.Next as next
 use Rattle.workload.specs.Load.{load_played, is_accepted, next_step}
 use Rattle.workload.proofs.ClaimLaws as workload
 use Rattle.workload_run.specs.Run.{taken, after_pick, take_step}
 use Rattle.load_text.specs.declared.Wanted.{Wanted}
-use Rattle.load_text.specs.declared.Asked.TheVariants.{Load}
-use Rattle.load_text.specs.Given.{zeros, opening, opened_by, picks, lines_from, rest_of, load_text}
+use Rattle.load_text.specs.Asked.{Load}
+use Rattle.load_text.specs.Given.{zeros, opening, picks, lines_from, load_text}
 use Rattle.load_text.specs.GivenLaws.{fitting}
 use Rattle.load_text.specs.TurnLaws.{lines_later}
 use Rattle.load_text.specs.FitLaws.{equally, line-played, opening-played, given_small}

@@ -4,7 +4,7 @@ use Rattle.schedule.specs.declared.Step.TheVariants.{Open, BeginWrite, Request}
 use Rattle.schedule.specs.Decimal.{digits, spaced_all}
 use Rattle.schedule.specs.Numbers.{digit_of, read_on, number_of, spaced_of, numbers_behind}
 use Rattle.printing.specs.StepTexts.{step_line, refusal_text}
-use Rattle.load_text.specs.declared.Asked.TheVariants.{Unreadable, Load}
+use Rattle.load_text.specs.Asked.{Unreadable, Load}
 use Rattle.load_text.specs.Asked.{asked_of}
 
 pub record Readable : Type 0 where

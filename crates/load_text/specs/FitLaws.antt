@@ -1,7 +1,7 @@
 -- Each step of a load fits a line of a schedule, and so does its opening: the yard plays the printed line as that step.
-use Rattle.std.specs.Prelude.{ℕ, zero, suc, ◌+◌, ◌-◌, ◌*◌, ◌/◌, ◌%◌, ◌^◌, ◌≤◌, ◌<◌, Bool, true, false, cond, List, [], ◌∷◌, ◌++◌, eqb, ltb, get_or}
+use Rattle.std.specs.Prelude.{ℕ, zero, suc, ◌+◌, ◌*◌, ◌^◌, ◌≤◌, ◌<◌, Bool, cond, List, [], ◌∷◌, ◌++◌, eqb, ltb, get_or}
 use Rattle.std.proofs.Math.Path.{◌≡◌, refl, subst}
-use Rattle.std.proofs.Common.{sym, ap, ◌∙◌, append-nil, length-append}
+use Rattle.std.proofs.Common.{ap, append-nil, length-append}
 use Rattle.std.proofs.Math.Nat.{pow-le-pow_right}
 use native.Mathlib.Omega.{arith}
 use Rattle.std.proofs.Math.ListN.{length, replicate, length-replicate, get_or-append}
@@ -23,7 +23,7 @@ use Rattle.schedule.specs.ReadBack.{AllFit, FitsLine, AllShort, spaced_short}
 use Rattle.schedule.proofs.ReadBack.{step_back}
 use Rattle.playing.specs.Played.{played, played_line}
 use Rattle.workload.specs.declared.LoadStep.{LoadStep}
-use Rattle.workload.specs.declared.Next.TheVariants.{Refused, End, Given}
+use Rattle.workload.specs.Next.{Refused, End, Given}
 use Rattle.workload.specs.Passing.{passing}
 use Rattle.workload.specs.Load.{advance, index_by, numbered, numbered_count, acceptable, acceptables, picked_from, next_step}
 use Rattle.workload.specs.ReadyLaws.{index_below}

@@ -8,12 +8,12 @@ use Rattle.refusals.specs.Steps.{open'}
 use Rattle.schedule.specs.declared.Step.TheVariants.{Open}
 use Rattle.printing.specs.StepTexts.{step_line, refusal_text}
 use Rattle.printing.specs.Printed.{Printed}
-use Rattle.workload.specs.declared.Next.{Next}
-use Rattle.workload.specs.declared.Next.TheVariants as next
+use Rattle.workload.specs.Next.{Next}
+use Rattle.workload.specs.Next as next
 use Rattle.workload_run.specs.Run.{take_step}
 use Rattle.load_text.specs.declared.Wanted.{Wanted}
-use Rattle.load_text.specs.declared.Asked.{Asked}
-use Rattle.load_text.specs.declared.Asked.TheVariants.{Unreadable, Load}
+use Rattle.load_text.specs.Asked.{Asked}
+use Rattle.load_text.specs.Asked.{Unreadable, Load}
 use Rattle.load_text.specs.declared.Giving.{Giving}
 
 -- what a turn prints, how many steps are still wanted behind it, its seed then, and the tables

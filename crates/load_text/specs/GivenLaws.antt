@@ -1,5 +1,5 @@
 -- Laws of the opening of a load: what one that is accepted knows, and that with more than 16 servers it is refused whatever its setpoints.
-use Rattle.std.specs.Prelude.{ℕ, ◌+◌, ◌-◌, ◌≤◌, ◌<◌, ◌≡◌, Bool, true, cond, not, ◌&&◌, List, [], ◌∷◌, ◌++◌, length, take, replicate, leb}
+use Rattle.std.specs.Prelude.{ℕ, ◌+◌, ◌-◌, ◌≤◌, ◌<◌, ◌≡◌, min, cond, not, List, length, take, replicate, leb}
 use Rattle.std.proofs.Common.{sym, ap, subst, ◌∙◌, arith, take_at, leb-true, leb-false}
 use Rattle.std.proofs.Math.Bool.{false}
 use Rattle.std.proofs.lemmas.List.{length-replicate, replicate-append-replicate}
@@ -15,9 +15,8 @@ use Rattle.refusals.specs.Refusals.{is_retired, press_opens, open_refusal}
 use Rattle.refusals.specs.Steps.{open'}
 use Rattle.refusals.specs.Either.{unstopped}
 use Rattle.keeping.specs.Accepted.{openable}
-use Rattle.keeping.proofs.Steps.{open-sound}
 use Rattle.load_text.specs.declared.Wanted.{Wanted}
-use Rattle.load_text.specs.declared.Asked.TheVariants.{Load}
+use Rattle.load_text.specs.Asked.{Load}
 use Rattle.load_text.specs.declared.Giving.{Giving}
 use Rattle.load_text.specs.Given.{zeros, opening, opened_by, begins, Gave}
 
@@ -45,10 +44,10 @@ module _ (m k p : ℕ) (t : Tables) where
       rw unfit
 
   -- so 16 of them are enough to open with
-  pub enough : {n : ℕ} → n ≡ cond (leb k 16) k 16 → open' m k p (replicate n 0) t ≡ open' m k p (replicate k 0) t
+  pub enough : {n : ℕ} → n ≡ min k 16 → open' m k p (replicate n 0) t ≡ open' m k p (replicate k 0) t
   enough {n} e =
       by-test (leb k 16)
-      (λ f. let same : n ≡ k = e ∙ rw f in rw same)
+      (λ f. let same : n ≡ k = omega (arith, e, leb-true k 16 f) in rw same)
       (λ f. let h : 16 < k = leb-false k 16 f in too_many h (replicate n 0) ∙ sym (too_many h (replicate k 0)))
 
   -- and one that is accepted has no more
@@ -57,10 +56,10 @@ module _ (m k p : ℕ) (t : Tables) where
   fitting setpoints a = (openable m k p setpoints t (unstopped (open_refusal m k p setpoints t) (opened m k p setpoints t) t a)).press
 
 -- The opening of a load, as the code meets it: with a row of 16 zeros at hand.
-pub at_hand : (k : ℕ) {n : ℕ} → n ≡ cond (leb k 16) k 16 → n ≤ 16
-at_hand k e = rw e (by-test (leb k 16) (λ f. rw f (leb-true k 16 f)) (λ f. rw f (omega arith)))
+pub at_hand : (k : ℕ) {n : ℕ} → n ≡ min k 16 → n ≤ 16
+at_hand k e = omega (arith, e)
 
-module _ (w : Wanted) (t : Tables) {n : ℕ} (is : n ≡ cond (leb w.servers 16) w.servers 16) where
+module _ (w : Wanted) (t : Tables) {n : ℕ} (is : n ≡ min w.servers 16) where
   module _ {a : Answer} {t' : Tables} (e : left a t' ≡ open' w.method w.servers w.clients (take n (replicate 16 0)) t) where
     opens : left a t' ≡ opening w t
     opens = e ∙ rw (take-equal n 16 0 (at_hand w.servers is)) (enough w.method w.servers w.clients t is)

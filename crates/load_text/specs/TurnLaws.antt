@@ -1,6 +1,6 @@
 -- Laws of the turns of a load: each leaves sound tables and fewer steps, and what it prints is the next part of what was to be printed.
-use Rattle.std.specs.Prelude.{ℕ, zero, suc, ◌-◌, ◌≤◌, ◌<◌, ◌≡◌, refl, length}
-use Rattle.std.proofs.Common.{sym, ap, ◌∙◌, arith}
+use Rattle.std.specs.Prelude.{ℕ, zero, suc, ◌-◌, ◌<◌, ◌≡◌, refl}
+use Rattle.std.proofs.Common.{sym, arith}
 use Rattle.std.proofs.Math.Path.{subst}
 use mathlib.Core.List.{List, [], ◌++◌}
 use Rattle.tables.specs.Tables.{Tables, servers_of}
@@ -8,14 +8,14 @@ use Rattle.rules.specs.Answer.{Answer}
 use Rattle.rules.specs.Answer.{Ok, Refused}
 use Rattle.soundness.specs.Facts.{Sound}
 use Rattle.keeping.proofs.Steps.{open-sound}
-use Rattle.workload.specs.declared.Next.{Next}
-use Rattle.workload.specs.declared.Next.TheVariants as next
+use Rattle.workload.specs.Next.{Next}
+use Rattle.workload.specs.Next as next
 use Rattle.workload.specs.Load.{next_step}
 use Rattle.workload_run.specs.Run.{Taken, taken, after_pick, take_step, running, begun, pick_one}
 use Rattle.workload_run.specs.RunLaws.{pick-sound}
 use Rattle.load_text.specs.declared.Wanted.{Wanted}
-use Rattle.load_text.specs.declared.Asked.{Asked}
-use Rattle.load_text.specs.declared.Asked.TheVariants.{Unreadable, Load}
+use Rattle.load_text.specs.Asked.{Asked}
+use Rattle.load_text.specs.Asked.{Unreadable, Load}
 use Rattle.load_text.specs.declared.Giving.{Giving}
 use Rattle.load_text.specs.Given.{Given, zeros, opening, opened_by, begins, picked_by, picks, lines_from, rest_of, Gave}
 

@@ -3,20 +3,23 @@
 #![tactic(auto)]
 
 ghost use Rattle.std.specs.Prelude.{◌≡◌, [], ◌∷◌, ◌+◌, ◌-◌, ◌≤◌, ◌<◌, length, replicate};
+ghost use Rattle.causes.specs.Numbers.{number_of};
 ghost use Rattle.tables.specs.Tables.{Tables};
 ghost use Rattle.rules.specs.Answer.{Ok};
+ghost use Rattle.rules.specs.Results.{answer_by};
 ghost use Rattle.schedule.specs.Numbers.{numbers_of};
 ghost use Rattle.schedule.specs.NumberLaws.{before};
 ghost use Rattle.schedule.specs.Steps.{line_most};
 ghost use Rattle.printing.specs.StepTexts.{step_line};
 ghost use Rattle.printing.specs.Printed.{Printed};
 ghost use Rattle.printing.specs.Sizes.{answer_most};
-ghost use Rattle.load_text.specs.Asked.{asked_by, asked_of};
+ghost use Rattle.workload.specs.Results.{next_given};
+ghost use Rattle.load_text.specs.Asked.{asked_for, asked_by, asked_of};
 ghost use Rattle.load_text.specs.Given.{refusing, opened_by, picked_by, Gave};
 
-use rules::Answer;
-use schedule::{Number, Numbers, Step};
-use workload::Next;
+use causes::Refusal;
+use schedule::Step;
+use workload::Pick;
 
 // A load that is wanted.
 #[derive(Clone, Copy)]
@@ -29,14 +32,6 @@ pub struct Wanted {
     pub clients: u32,
 }
 
-// What a line asks for.
-#[derive(Clone, Copy)]
-pub enum Asked {
-    // no load: number 13
-    Unreadable,
-    Load(Wanted),
-}
-
 // The run between two turns.
 #[derive(Clone, Copy)]
 pub struct Giving {
@@ -47,42 +42,34 @@ pub struct Giving {
     pub used: usize,
 }
 
-// What a line asks for, of which the first number is read.
-fn ask_behind(seed: u32, part: &[u8]) -> Asked
+// What a line asks for, of which the first number is read; none where it asks for no load.
+fn ask_behind(seed: u32, part: &[u8]) -> Option<Wanted>
     requires { length part.now ≤ line_most - 1 }
-    ensures { result ≡ asked_by (before (seed ∷ []) (numbers_of part.now)) }
+    ensures { asked_for result ≡ asked_by (before (seed ∷ []) (numbers_of part.now)) }
 {
     let mut numbers = [0u32; schedule::NUMBERS];
-    let read = line_reading::numbers_in(part, &mut numbers);
-    match read {
-        Numbers::Broken => Asked::Unreadable,
-        Numbers::All(count) => {
-            if count != 4 {
-                return Asked::Unreadable;
-            }
-            Asked::Load(Wanted {
-                seed: seed,
-                steps: numbers[0],
-                method: numbers[1],
-                servers: numbers[2],
-                clients: numbers[3],
-            })
-        }
+    let count = line_reading::numbers_in(part, &mut numbers)?;
+    if count != 4 {
+        return None;
     }
+    Some(Wanted {
+        seed,
+        steps: numbers[0],
+        method: numbers[1],
+        servers: numbers[2],
+        clients: numbers[3],
+    })
 }
 
-// What a line asks for.
-pub fn read_asked(line: &[u8]) -> Asked
-    ensures { result ≡ asked_of line.now }
+// What a line asks for; none where it asks for no load.
+pub fn read_asked(line: &[u8]) -> Option<Wanted>
+    ensures { asked_for result ≡ asked_of line.now }
 {
     if schedule::LINE < line.len() {
-        return Asked::Unreadable;
+        return None;
     }
-    let first = line_reading::number_at(line);
-    match first {
-        Number::Not => Asked::Unreadable,
-        Number::Value(seed, size) => ask_behind(seed, &line[size..]),
-    }
+    let first = line_reading::number_at(line)?;
+    ask_behind(first.value, &line[first.size..])
 }
 
 // A step with the same setpoint for each server, as a line.
@@ -92,68 +79,68 @@ fn print_equal(step: Step, setpoint: u32, servers: u32, out: &mut [u8], at: usiz
         × (result ≤ at + answer_most) }
 {
     let setpoints = [setpoint; 16];
-    let given = servers as usize;
-    step_text::print_step(step, &setpoints[..given], out, at)
+    step_text::print_step(step, &setpoints[..servers as usize], out, at)
 }
 
-// The run of a load that is refused: its number is all that is printed.
-pub fn refuse(number: u32, out: &mut [u8]) -> Giving
+// The run of a load that is refused: the number of the cause is all that is printed.
+pub fn refuse(refusal: Refusal, out: &mut [u8]) -> Giving
     requires { answer_most ≤ length out.old }
-    ensures { (t : Tables) → Gave (refusing number t) 0 out.old result out.new t }
+    ensures { (t : Tables) → Gave (refusing (number_of refusal) t) 0 out.old result out.new t }
 {
-    let used = answer_text::print_refusal(number, out, 0);
+    let used = answer_text::print_refusal(refusal.number() as u32, out, 0);
     Giving {
         left: 0,
         seed: 0,
-        used: used,
+        used,
     }
 }
 
 // The run behind an opening: its line is printed first.
-pub fn print_opening(wanted: Wanted, answer: Answer, out: &mut [u8]) -> Giving
-    requires servers_bound { answer ≡ Ok → wanted.servers ≤ 16 }
+pub fn print_opening(wanted: Wanted, answer: Result<(), Refusal>, out: &mut [u8]) -> Giving
+    requires servers_bound { answer_by answer ≡ Ok → wanted.servers ≤ 16 }
     requires answer_most_in_bounds { answer_most ≤ length out.old }
-    ensures { (t : Tables) → Gave (opened_by wanted answer t) 0 out.old result out.new t }
+    ensures { (t : Tables) →
+        Gave (opened_by wanted (answer_by answer) t) 0 out.old result out.new t }
 {
     match answer {
-        Answer::Refused(number) => refuse(number as u32, out),
-        Answer::Ok => {
+        Err(refusal) => refuse(refusal, out),
+        Ok(()) => {
             let step = Step::Open(wanted.method, wanted.servers, wanted.clients);
             let used = print_equal(step, 0, wanted.servers, out, 0);
             Giving {
                 left: wanted.steps,
                 seed: wanted.seed,
-                used: used,
+                used,
             }
         }
     }
 }
 
-// The run behind a pick: the line of the step that it gives is printed.
-pub fn print_next(run: Giving, next: Next, servers: u32, out: &mut [u8], at: usize) -> Giving
+// The run behind a pick: the line of the step that it gives is printed; where it gives none, no more are wanted.
+pub fn print_next(
+    run: Giving,
+    next: Option<Pick>,
+    servers: u32,
+    out: &mut [u8],
+    at: usize,
+) -> Giving
     requires servers_bound { (servers ≤ 16) × (0 < run.left) }
     requires answer_most_in_bounds { at + answer_most ≤ length out.old }
     ensures { (t : Tables) →
-        Gave (picked_by next servers run.left run.seed t) at out.old result out.new t }
+        Gave (picked_by (next_given next) servers run.left run.seed t) at out.old result out.new t }
 {
     match next {
-        Next::Refused(_) => Giving {
+        None => Giving {
             left: 0,
             seed: run.seed,
             used: at,
         },
-        Next::End => Giving {
-            left: 0,
-            seed: run.seed,
-            used: at,
-        },
-        Next::Given(behind, load_step) => {
-            let step = load_step.step;
-            let used = print_equal(step, load_step.setpoint, servers, out, at);
+        Some(pick) => {
+            let used = print_equal(pick.step.step, pick.step.setpoint, servers, out, at);
             Giving {
                 left: run.left - 1,
-                seed: behind,
-                used: used,
+                seed: pick.seed,
+                used,
             }
         }
     }
