@@ -41,6 +41,7 @@ pub enum Refusal {
 }
 
 impl Refusal {
+    // The number of a cause.
     pub fn number(self) -> u8
         ensures { result ≡ number_of self }
     {

@@ -10,7 +10,7 @@ use causes::Refusal;
 use tables::lent::Press;
 
 // Plays a text on the lent tables: the answer of each line, then the register, at the front of the lent space. It answers how many
-// bytes it printed; refused where the tables may not be played on or there is no room.
+// bytes it printed. Refused by 2 or 12.
 pub fn play_text(press: &mut Press, text: &[u8], out: &mut [u8]) -> Result<usize, Refusal>
     ensures same { SameLent press.old press.new }
     ensures played { text_left (text_by result) out.new (tables_in press.new) ≡ play_text text.now out.old (tables_in press.old) }
