@@ -9,6 +9,7 @@ ghost use Rattle.workload_run.specs.Run.{play_load};
 ghost use Rattle.load_numbers.specs.Numbers.{next_numbers, load_crossed, in_numbers};
 
 use load_numbers::{LoadEnd, LoadPick};
+use tables::lent::{Lent, Press};
 
 // The number behind a seed.
 #[unsafe(no_mangle)]
@@ -35,10 +36,17 @@ pub extern "C" fn load_next_step(
         (tables_of counts.now clients.now links.now keys.now values.now
         log.now writes.now reads.now) seed) }
 {
-    let next = load_pick::next_step(
-        counts, clients, links, keys, values, log, writes, reads, seed,
-    );
-    load_numbers::next_numbers(seed, next)
+    let lent = Lent {
+        counts,
+        clients,
+        links,
+        keys,
+        values,
+        log,
+        writes,
+        reads,
+    };
+    load_numbers::next_numbers(seed, load_pick::next_step(&lent, seed))
 }
 
 // Plays a load of a wanted length on the lent tables, and lists its steps in rows of four words: kind, client, mask or target, setpoint.
@@ -63,8 +71,16 @@ pub extern "C" fn load_play(
         (tables_of counts.old clients.old links.old keys.old values.old
         log.old writes.old reads.old)) }
 {
-    let load = load_run::play_load(
-        counts, clients, links, keys, values, log, writes, reads, seed, wanted, list,
-    );
+    let mut press = Press {
+        counts,
+        clients,
+        links,
+        keys,
+        values,
+        log,
+        writes,
+        reads,
+    };
+    let load = load_run::play_load(&mut press, seed, wanted, list);
     load_numbers::load_numbers(seed, load)
 }

@@ -1,6 +1,6 @@
 -- `workload_exports::load_next_step` meets its contract: the numbers are the pick's.
-use mathlib.Core.Path.{◌∙◌}
+use Rattle.std.proofs.Common.{◌∙◌}
 use Rattle.workload_exports.proofs.load_next_step.Goals as goal
 
 pub returns : goal.returns
-returns c = c.next_numbers.ensures ∙ rw c.next_step-next.ensures
+returns c = c.next_numbers.ensures ∙ rw c.next_step.ensures
