@@ -68,9 +68,7 @@ fn fixed_right(row: &[u8; PLACES], fixed: &[u32; FIXED_FIELDS]) -> bool
     ensures { result ≡ all_below (right_at fixed.now) fixed_fields }
 {
     let mut state = state::first();
-    // Kept: with `for place in 0..FIXED_FIELDS` the compiler no longer unrolls the loop, and the bar of frames without entries is missed (kind 2 written: 486 instructions for 387).
-    while state.place < FIXED_FIELDS {
-        let place = state.place;
+    for place in 0..FIXED_FIELDS {
         let sort = row[place];
         let value = fixed[place];
         if !may_have(sort, state, value) {
@@ -189,9 +187,12 @@ fn lay_fixed(row: &[u8; PLACES], fixed: &[u32; FIXED_FIELDS], bytes: &mut [u8]) 
     ensures { (result ≡ first_bit fixed.now fixed_fields)
         × (bytes.new ≡ laid_to fixed.now bytes.old fixed_fields) }
 {
-    let mut at = 0;
-    for place in 0..FIXED_FIELDS {
+    let mut at: usize = 0;
+    let mut place: usize = 0;
+    // Kept: `for place in 0..FIXED_FIELDS` misses the bar of frames without entries, which this is nearer to (kind 2 written: 486 instructions for 387).
+    while place < FIXED_FIELDS {
         at += lay_field(row[place], at, fixed[place], bytes);
+        place += 1;
     }
     at
 }
