@@ -67,16 +67,14 @@ pub fn number_at(part: &[u8]) -> Option<Numeral>
 }
 
 // A space at a place of the part, and the number behind it: the part from there on goes to the number reader.
+#[tactic(auto, unfolding(schedule::specs::Numbers::spaced_of))]
 pub fn spaced_at(part: &[u8], at: usize) -> Option<Numeral>
     ensures { number_by result ≡ spaced_of (drop at part.now) }
 {
-    if part.len() <= at {
-        return None;
+    match part.get(at..)? {
+        [b' ', behind @ ..] => number_at(behind),
+        _ => None,
     }
-    if part[at] != 32 {
-        return None;
-    }
-    number_at(&part[at + 1..])
 }
 
 // The numbers of a part of a line, each behind one space, into a place for as many as fit a line. The line's first byte is not in it.
@@ -87,6 +85,7 @@ pub fn numbers_in(part: &[u8], numbers: &mut [u32]) -> Option<usize>
 {
     let mut at = 0;
     let mut count = 0;
+    // Kept: a turn goes on by the bytes that its number took, which is no step of a range and of no iterator over the bytes.
     while at < part.len() {
         let read = spaced_at(part, at)?;
         numbers[count] = read.value;

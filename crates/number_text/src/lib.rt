@@ -1,4 +1,6 @@
 // Bytes and numbers, printed into lent space.
+// Kept: what is printed stands in lent space by `Printed`, to the byte and with no heap; format! allocates, and of Display no clause says the bytes.
+// Kept: a struct of `out` and `at` was tried here: each clause then says too that its slice keeps its length and its loan, which `out` has alone.
 #![tactic(auto)]
 
 ghost use Rattle.std.specs.Prelude.{◌+◌, ◌≤◌, ◌<◌, [], ◌∷◌, length};

@@ -13,6 +13,7 @@ const SERVER: usize = 1 + 2 + MARKED + MARKED + MARKED;
 pub const ANSWER: usize = 20 + (5 + MARKED + 16 * SERVER) + 1;
 
 // What a step answers, in the words that are printed.
+// Kept: `word_text` and what is played go by these six words, one for each form of an answer's line; a refusal is one of them.
 #[derive(Clone, Copy)]
 pub enum Word {
     Ok,

@@ -39,6 +39,7 @@ pub fn print_row(byte: u8, numbers: &[u32], out: &mut [u8], at: usize) -> usize
 }
 
 // The end step of a WRITE.
+// Kept: `write_text` is of the register's word as it stands in the row, 0 where there is no end.
 fn print_end_step(end: u32, out: &mut [u8], at: usize) -> usize
     requires { at + marked_most ≤ length out.old }
     ensures { Printed out.old at (end_text end) result out.new × (result ≤ at + marked_most) }

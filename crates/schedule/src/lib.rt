@@ -17,6 +17,7 @@ pub struct Numeral {
 }
 
 // The step that a line names. Its numbers are full 32-bit numbers: none is cut to a field's width. A badge above 16 bits names no step.
+// Kept: `step_of` has Unreadable among the steps, since such a line is played too and answers number 13.
 #[derive(Clone, Copy)]
 pub enum Step {
     // no step: number 13
@@ -38,6 +39,7 @@ pub enum Step {
 }
 
 // What reading a line gives: the step, and how many setpoints its line has. They stand in the place that was lent for them.
+// Kept: a part of the lent place as the result would take the place along, and `Names` could not say then what stands behind the setpoints.
 #[derive(Clone, Copy)]
 pub struct Reading {
     pub step: Step,

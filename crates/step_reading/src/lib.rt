@@ -49,19 +49,20 @@ fn read_pair(byte: u8, part: &[u8]) -> Reading
 
 // The step that a line names. Its setpoints stand in the lent place; behind them, and where the line has none, it holds what it held.
 // A place for as many as a line can have is enough for every line.
+#[tactic(auto, unfolding(schedule::specs::Steps::step_of))]
 pub fn read_step(line: &[u8], setpoints: &mut [u32]) -> Reading
     requires { setpoints_most ≤ length setpoints.old }
     ensures { Names (step_of line.now) setpoints.old result setpoints.new }
 {
-    if line.len() == 0 {
+    let [byte, part @ ..] = line else {
         return step_naming::unreadable();
-    }
+    };
     if schedule::LINE < line.len() {
         return step_naming::unreadable();
     }
-    let byte = line[0];
-    if step_naming::has_setpoints(byte) {
-        return read_longer(byte, &line[1..], setpoints);
+    if step_naming::has_setpoints(*byte) {
+        read_longer(*byte, part, setpoints)
+    } else {
+        read_pair(*byte, part)
     }
-    read_pair(byte, &line[1..])
 }

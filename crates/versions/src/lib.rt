@@ -42,6 +42,7 @@ pub fn held_now(versions: &[Version], held: usize) -> usize
 }
 
 // The first version held that bears a key, and the number that can be read where none does.
+// Kept: `first_bearing` is that number, which versions_check prints; an Option would be made one again by each caller.
 pub fn find(versions: &[Version], held: usize, key: Key) -> usize
     ensures { result ≡ first_bearing versions.now held key }
 {
