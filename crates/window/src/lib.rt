@@ -42,22 +42,23 @@ pub fn pass(run: Run, size: usize, lines: u64, used: usize) -> Run
 {
     let end = run.from + size;
     if end < run.held {
-        return Run {
+        Run {
             left: run.left - 1,
-            lines: lines,
+            lines,
             from: end + 1,
-            held: run.held,
-            used: used,
+            used,
             skipping: false,
-        };
-    }
-    Run {
-        left: run.left - 1,
-        lines: lines,
-        from: end,
-        held: run.held,
-        used: used,
-        skipping: true,
+            ..run
+        }
+    } else {
+        Run {
+            left: run.left - 1,
+            lines,
+            from: end,
+            used,
+            skipping: true,
+            ..run
+        }
     }
 }
 
@@ -81,13 +82,8 @@ fn slide(window: &mut [u8], from: usize, held: usize) -> usize
     requires { (from ≤ held) × (held ≤ length window.old) }
     ensures { (result ≡ held - from) × (window.new ≡ paste window.old 0 (drop from window.old) (held - from)) }
 {
-    let count = held - from;
-    let mut i = 0;
-    while i < count {
-        window[i] = window[from + i];
-        i += 1;
-    }
-    count
+    window.copy_within(from..held, 0);
+    held - from
 }
 
 // Reads into the window behind its first bytes, and answers how many bytes came. Where the reading fails, the first bytes stand too.
@@ -127,17 +123,12 @@ pub fn read_on(input: &mut Stdin, run: Run, window: &mut [u8]) -> io::Result<Run
     ensures failed { OnErr result (take (run.held - run.from) window.new ≡ held_by run window.old) }
 {
     let held = refill(input, window, run.from, run.held)?;
-    let mut left: u64 = 0;
-    if 0 < held {
-        left = run.left - 1;
-    }
+    let left = if 0 < held { run.left - 1 } else { 0 };
     Ok(Run {
-        left: left,
-        lines: run.lines,
+        left,
         from: 0,
-        held: held,
-        used: run.used,
-        skipping: run.skipping,
+        held,
+        ..run
     })
 }
 
@@ -163,12 +154,8 @@ pub fn make_room(output: &Stdout, run: Run, out: &[u8]) -> io::Result<Run>
     ensures failed { OnErr result (length out.now - answer_most < run.used) }
 {
     Ok(Run {
-        left: run.left,
-        lines: run.lines,
-        from: run.from,
-        held: run.held,
         used: room_from(output, run.used, out)?,
-        skipping: run.skipping,
+        ..run
     })
 }
 
@@ -177,8 +164,5 @@ pub fn make_room(output: &Stdout, run: Run, out: &[u8]) -> io::Result<Run>
 pub fn lacks_end(size: usize, held: usize) -> bool
     ensures { result ≡ lacks_end size held }
 {
-    if size <= schedule::LINE {
-        return held <= size;
-    }
-    false
+    size <= schedule::LINE && held <= size
 }
