@@ -34,11 +34,15 @@ fn print_shown(number: u64, shown: Shown, out: &mut [u8], at: usize) -> usize
     if !answer_text::shows_servers(word) {
         return answer_text::print_plain_answer(number, word, out, at);
     }
+    // Copied here, since a reference into what was passed would hold all of it in memory on each line.
+    let setpoints = shown.setpoints;
+    let tags = shown.tags;
+    let badges = shown.badges;
     let servers = Servers {
         mask: shown.mask,
-        setpoints: &shown.setpoints,
-        tags: &shown.tags,
-        badges: &shown.badges,
+        setpoints: &setpoints,
+        tags: &tags,
+        badges: &badges,
     };
     answer_text::print_answer(number, word, &servers, out, at)
 }
