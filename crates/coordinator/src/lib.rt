@@ -33,6 +33,7 @@ pub struct Latest {
 
 // The latest entry, at the tag or before it, whose mask has the server: its tag, at which the log has its key. The search back calls itself with a
 // tag one smaller. It hands on the reference to the log that it was lent, and answers a number: so the compiler makes the calls a loop.
+// Kept: (a) the language form of docs/SPECIFICATION.md: the search back is recursive.
 pub fn search_back(log: &&[u32], server: usize, tag: usize) -> usize
     requires { (server < 16) × HasEntry log.now.now tag }
     ensures { entry_at log.now.now result ≡ latest_of log.now.now server tag }

@@ -95,6 +95,7 @@ fn kept_sound(counts: &[u32], clients: &[u32], client: usize, server: usize) -> 
 }
 
 // The tags, badges and keys that a client keeps, one of each for each server.
+// Kept: (c) as `(0..servers).all(..)` it was not proved: the check unfolds kept_sound before it sees what the closure promises.
 fn all_kept_sound(counts: &[u32], clients: &[u32], client: usize) -> bool
     requires counted { Counted counts.now }
     requires has_row { HasRow client_width clients.now client }

@@ -66,6 +66,7 @@ fn read_sound(counts: &[u32], reads: &[u32], place: usize) -> bool
     records::record_word(reads, place, records::TAG) < counts::count_at(counts, counts::ENTRIES)
 }
 
+// Kept: (d) beside writes_sound: each is one chain, and what they test and promise differs.
 fn reads_sound(counts: &[u32], reads: &[u32]) -> bool
     requires counted { Counted counts.now }
     requires records_there { RecordsThere reads.now }
