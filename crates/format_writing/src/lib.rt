@@ -187,12 +187,9 @@ fn lay_fixed(row: &[u8; PLACES], fixed: &[u32; FIXED_FIELDS], bytes: &mut [u8]) 
     ensures { (result ≡ first_bit fixed.now fixed_fields)
         × (bytes.new ≡ laid_to fixed.now bytes.old fixed_fields) }
 {
-    let mut at: usize = 0;
-    let mut place: usize = 0;
-    // Kept: `for place in 0..FIXED_FIELDS` misses the bar of frames without entries, which this is nearer to (kind 2 written: 486 instructions for 387).
-    while place < FIXED_FIELDS {
+    let mut at = 0;
+    for place in 0..FIXED_FIELDS {
         at += lay_field(row[place], at, fixed[place], bytes);
-        place += 1;
     }
     at
 }

@@ -83,9 +83,3 @@ bounds-row-place c = omega arith
 
 pub bounds-fixed-place : goal.bounds-fixed-place
 bounds-fixed-place c = omega arith
-
-pub overflow_add-place : goal.overflow_add-place
-overflow_add-place c = omega arith
-
-pub loop-place-smaller : goal.loop-place-smaller
-loop-place-smaller c = omega arith

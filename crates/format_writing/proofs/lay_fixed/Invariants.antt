@@ -8,6 +8,3 @@ use Rattle.format_writing.proofs.lay_fixed.Given as goal
 
 abbrev pub invariant-loop-place : goal.invariant-loop-place
 invariant-loop-place l = (l.place ≤ entry_place) × (l.at ≡ first_bit l.fixed l.place) × (l.bytes ≡ laid_to l.fixed l.initial.bytes l.place)
-
-abbrev pub decreases-loop-place : goal.decreases-loop-place
-decreases-loop-place l = entry_place - l.place
