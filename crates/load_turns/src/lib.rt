@@ -1,36 +1,30 @@
 // The turns of the program that prints a load, on lent tables: the store is opened, then each turn picks a step, plays it, prints its line.
 #![tactic(auto)]
 
-ghost use Rattle.std.specs.Prelude.{◌≡◌, ◌-◌, cond, ◌≤◌, ◌<◌, leb, length, IfOk, OnErr};
+ghost use Rattle.std.specs.Prelude.{◌≡◌, ◌-◌, ◌≤◌, ◌<◌, length, IfOk, OnErr};
+ghost use Rattle.tables.specs.Lent.{tables_in, SameLent};
 ghost use Rattle.tables.specs.Tables.{tables_of};
 ghost use Rattle.soundness.specs.Facts.{Sound};
 ghost use Rattle.printing.specs.Sizes.{answer_most};
 ghost use Rattle.window.specs.Window.{room_from};
+ghost use Rattle.load_text.specs.Asked.{asked_for};
 ghost use Rattle.load_text.specs.Given.{begins, picks, Gave};
 
-use load_text::{Asked, Giving};
-use rules::Answer;
+use causes::Refusal;
+use load_text::{Giving, Wanted};
 use std::io;
 use std::io::{Print, Stdin, Stdout};
 use tables::counts;
-use workload::Next;
+use tables::lent::Press;
 
 // So much of the text is read: a line of as many bytes is too long.
 const TEXT: usize = schedule::LINE + 1;
 
-// How many setpoints an opening is given. More than 16 servers are refused whatever they are.
-fn setpoints_for(servers: u32) -> usize
-    ensures { result ≡ cond (leb servers 16) servers 16 }
-{
-    if servers <= 16 {
-        return servers as usize;
-    }
-    16
-}
-
-// The first turn: the store is opened for the load that is asked for, with setpoints 0.
+// The first turn: the store is opened for the load that is asked for, with setpoints 0; 16 of them are enough, since more servers are refused
+// whatever they are.
+// Kept: (a) eight tables: an opening only reads the records, and a Press would ask a `&mut` for them.
 pub fn begin_load(
-    asked: Asked,
+    asked: Option<Wanted>,
     counts: &mut [u32],
     clients: &mut [u32],
     links: &mut [u32],
@@ -42,33 +36,31 @@ pub fn begin_load(
     out: &mut [u8],
 ) -> Giving
     requires { answer_most ≤ length out.old }
-    ensures { Gave (begins asked (tables_of counts.old clients.old links.old keys.old
+    ensures { Gave (begins (asked_for asked) (tables_of counts.old clients.old links.old keys.old
         values.old log.old writes.now reads.now)) 0 out.old result out.new
         (tables_of counts.new clients.new links.new keys.new
         values.new log.new writes.now reads.now) }
 {
-    match asked {
-        Asked::Unreadable => load_text::refuse(13, out),
-        Asked::Load(wanted) => {
-            let zeros = [0u32; 16];
-            let given = setpoints_for(wanted.servers);
-            let answer: Answer = sound_steps::open(
-                counts,
-                clients,
-                links,
-                keys,
-                values,
-                log,
-                writes,
-                reads,
-                wanted.method,
-                wanted.servers,
-                wanted.clients,
-                &zeros[..given],
-            );
-            load_text::print_opening(wanted, answer, out)
-        }
-    }
+    let Some(wanted) = asked else {
+        return load_text::refuse(Refusal::Unreadable, out);
+    };
+    let zeros = [0u32; 16];
+    let given = wanted.servers.min(16) as usize;
+    let answer = sound_steps::open(
+        counts,
+        clients,
+        links,
+        keys,
+        values,
+        log,
+        writes,
+        reads,
+        wanted.method,
+        wanted.servers,
+        wanted.clients,
+        &zeros[..given],
+    );
+    load_text::print_opening(wanted, answer, out)
 }
 
 // One turn: a pick, and the line of the step that it gives behind what is printed so far. An error comes only where the print is written out,
@@ -76,32 +68,21 @@ pub fn begin_load(
 pub fn give_step(
     output: &Stdout,
     run: Giving,
-    counts: &mut [u32],
-    clients: &mut [u32],
-    links: &mut [u32],
-    keys: &mut [u32],
-    values: &mut [u32],
-    log: &mut [u32],
-    writes: &mut [u32],
-    reads: &mut [u32],
+    press: &mut Press,
     out: &mut [u8],
 ) -> io::Result<Giving>
-    requires sound { Sound (tables_of counts.old clients.old links.old keys.old values.old log.old writes.old reads.old) }
+    requires sound { Sound (tables_in press.old) }
     requires left_nonzero { (0 < run.left) × ((run.used ≤ length out.old) × (answer_most ≤ length out.old)) }
-    ensures gave { IfOk result (λ r. Gave (picks run.left run.seed (tables_of counts.old clients.old links.old
-        keys.old values.old log.old writes.old reads.old))
-        (room_from run.used (length out.old)) out.old r out.new
-        (tables_of counts.new clients.new links.new keys.new
-        values.new log.new writes.new reads.new)) }
-    ensures failed_tables { OnErr result (tables_of counts.new clients.new links.new keys.new values.new log.new writes.new reads.new ≡ tables_of counts.old clients.old links.old keys.old values.old log.old writes.old reads.old) }
+    ensures same { SameLent press.old press.new }
+    ensures gave { IfOk result (λ r. Gave (picks run.left run.seed (tables_in press.old))
+        (room_from run.used (length out.old)) out.old r out.new (tables_in press.new)) }
+    ensures failed_tables { OnErr result (tables_in press.new ≡ tables_in press.old) }
     ensures failed_print { OnErr result (out.new ≡ out.old) }
     ensures failed_full { OnErr result (length out.old - answer_most < run.used) }
 {
     let at = window::room_from(output, run.used, &*out)?;
-    let servers = counts::count_at(&*counts, counts::SERVERS);
-    let next: Next = load_steps::take_step(
-        counts, clients, links, keys, values, log, writes, reads, run.seed,
-    );
+    let servers = counts::count_at(press.lent().counts, counts::SERVERS);
+    let next = load_steps::take_step(press, run.seed);
     Ok(load_text::print_next(run, next, servers, out, at))
 }
 
@@ -133,21 +114,19 @@ pub fn print_load(input: &mut Stdin, output: &Stdout) -> io::Result<()> {
         &reads,
         &mut out,
     );
+    let mut press = Press {
+        counts: &mut counts,
+        clients: &mut clients,
+        links: &mut links,
+        keys: &mut keys,
+        values: &mut values,
+        log: &mut log,
+        writes: &mut writes,
+        reads: &mut reads,
+    };
+    // Kept: (d) a turn that gives no step sets what is left to 0, so that a `for` over it would test it all the same.
     while 0 < run.left {
-        run = give_step(
-            output,
-            run,
-            &mut counts,
-            &mut clients,
-            &mut links,
-            &mut keys,
-            &mut values,
-            &mut log,
-            &mut writes,
-            &mut reads,
-            &mut out,
-        )?;
+        run = give_step(output, run, &mut press, &mut out)?;
     }
-    let used = run.used;
-    output.write_all(&out[..used])
+    output.write_all(&out[..run.used])
 }

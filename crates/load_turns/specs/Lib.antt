@@ -1,2 +1,0 @@
--- The sizes of what the program prints a load with.
-pub mod Sized
