@@ -23,14 +23,26 @@ pub fn append(versions: &mut [Version], held: usize, version: Version) -> Result
     Ok(())
 }
 
-// How many are held after an append that ended so.
-#[tactic(auto, unfolding(version_records::specs::Table::held_after_lem))]
-pub fn held_after(held: usize, appended: Result<(), Refusal>) -> usize
-    ensures { result ≡ held_after_lem held (fault_of appended) }
+// The number that an append answered: 0 where it is done.
+fn append_number(appended: Result<(), Refusal>) -> u8
+    ensures { result ≡ fault_of appended }
 {
     match appended {
-        Ok(()) if held < PLACES => held + 1,
-        _ => held,
+        Ok(()) => 0,
+        Err(refusal) => refusal.number(),
+    }
+}
+
+// How many are held after an append that answered a number.
+#[tactic(auto, unfolding(version_records::specs::Table::held_after_lem))]
+pub fn held_after(held: usize, number: u8) -> usize
+    ensures { result ≡ held_after_lem held number }
+{
+    // Kept: (a) it is asked of any number, so that a Result for it would ask more.
+    if number == 0 && held < PLACES {
+        held + 1
+    } else {
+        held
     }
 }
 
@@ -74,7 +86,7 @@ pub fn append_and_read(blank: Version, held: usize, version: Version, key: Key) 
 {
     let mut table = [blank; 4096];
     let appended = append(&mut table, held, version);
-    let after = held_after(held, appended);
+    let after = held_after(held, append_number(appended));
     let lent: &[Version] = &table;
     Trial {
         appended,

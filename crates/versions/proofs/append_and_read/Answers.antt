@@ -12,6 +12,7 @@ returns c =
       c.find.ensures,
       c.held_now.ensures,
       c.held_after-after.ensures,
+      c.append_number.ensures,
       c.append-appended.ensures.1,
       c.append-appended.ensures.0,
     )
