@@ -4,8 +4,12 @@
 #![tactic(auto)]
 
 ghost use Rattle.std.specs.Prelude.{◌≡◌, ◌-◌};
+ghost use Rattle.formats.specs.Entries.{values_by};
+ghost use Rattle.frame_table.specs.Columns.{Packable};
 ghost use Rattle.formats.specs.Reading.{Got};
+ghost use Rattle.format_writing.specs.Writing.{wrote_of, bytes_after};
 ghost use Rattle.frames.specs.Frames.{reading_of, keys_read, badges_read, numbers_read, found, written_of, bytes_written};
+ghost use Rattle.frames.specs.Answers.{written_by};
 ghost use Rattle.frames.specs.Results.{reading_by, length_by};
 ghost use Rattle.frames.specs.Messages.{entries_of, fixed_of, message_at};
 ghost use Rattle.frames.specs.MessageLaws.{Narrow, fixed_by, message_by};
@@ -352,6 +356,26 @@ pub fn read_frame(
     deliver(bytes, &scan.fixed, scan.fields, keys, badges, numbers)
 }
 
+// The frame of a message whose entries are there. It stands by itself, so that the writer is compiled once for the two ways that lead here.
+fn send(
+    fixed: &[u32; FIXED_FIELDS],
+    keys: &[u32],
+    badges: &[u32],
+    numbers: &[u32],
+    entries: usize,
+    bytes: &mut [u8],
+) -> Result<usize, Refusal>
+    requires { Packable fixed.now keys.now badges.now numbers.now entries }
+    ensures { (length_by result
+        ≡ written_by (wrote_of (values_by fixed.now keys.now badges.now numbers.now entries)
+        bytes.old))
+        × (bytes.new
+        ≡ bytes_after (values_by fixed.now keys.now badges.now numbers.now entries)
+        bytes.old) }
+{
+    format_writing::write_values(fixed, keys, badges, numbers, entries, bytes)
+}
+
 // Writes a message with its entries, the first of the three slices: the frame stands at the front of the lent bytes.
 // Refused by 11, then 12, and then the bytes are as before.
 pub fn write_frame(
@@ -369,7 +393,7 @@ pub fn write_frame(
     let fixed = fixed_of(message);
     // No entries need no places.
     if entries == 0 {
-        return format_writing::write_values(&fixed, keys, badges, numbers, entries, bytes);
+        return send(&fixed, keys, badges, numbers, entries, bytes);
     }
     let kind = fixed[0];
     if !frame_entries::enough_places(kind, entries, keys.len(), badges.len(), numbers.len()) {
@@ -378,5 +402,5 @@ pub fn write_frame(
     if MOST_ENTRIES < entries {
         return Err(Refusal::Malformed);
     }
-    format_writing::write_values(&fixed, keys, badges, numbers, entries, bytes)
+    send(&fixed, keys, badges, numbers, entries, bytes)
 }

@@ -4,11 +4,11 @@ use mathlib.Core.Path.{ap}
 use mathlib.Core.Path.{sym, ◌∙◌}
 use native.Mathlib.Omega.{arith}
 use Rattle.ranges.specs.Tests.{fails, holds}
-use Rattle.frames.specs.Answers.{enough_is, bare-enough, is_packable, written-missing, written_many, written-sent, wrote-length, written_by}
+use Rattle.frames.specs.Answers.{enough_is, bare-enough, is_packable, written-missing, written_many, written-sent}
 use Rattle.frames.proofs.write_frame.Goals as goal
 
-pub write_values-requires : goal.write_values-requires
-write_values-requires c =
+pub send-requires : goal.send-requires
+send-requires c =
     let a = c.args in
     let f = c.fixed_of-fixed.ensures in
     let n = c.entries_of-entries.ensures in
@@ -22,10 +22,10 @@ returns-then-entries-eq0 c =
     let a = c.args in
     let f = c.fixed_of-fixed.ensures in
     let n = c.entries_of-entries.ensures in
-    let d = c.write_values.ensures in
+    let d = c.send.ensures in
     let w = written-sent a.message a.keys.now a.badges.now a.numbers.now f n a.bytes.now
     (bare-enough a.message a.keys.now a.badges.now a.numbers.now f n c.if-entries-eq0.true) in
-    (wrote-length _ ∙ ap written_by d.0 ∙ w.0, d.1 ∙ w.1)
+    (d.0 ∙ w.0, d.1 ∙ w.1)
 
 pub returns-then-not-enough_places : goal.returns-then-not-enough_places
 returns-then-not-enough_places c =
@@ -42,8 +42,8 @@ returns-then-entries-gt-MOST_ENTRIES c =
     written_many a.message a.keys.now a.badges.now a.numbers.now a.bytes.now
     (omega (arith, c.entries_of-entries.ensures, c.if-entries-gt-MOST_ENTRIES.true))
 
-pub write_values-requires-2 : goal.write_values-requires-2
-write_values-requires-2 c =
+pub send-requires-2 : goal.send-requires-2
+send-requires-2 c =
     let a = c.args in
     is_packable a.message a.keys.now a.badges.now a.numbers.now c.fixed_of-fixed.ensures
     c.entries_of-entries.ensures
@@ -52,10 +52,10 @@ write_values-requires-2 c =
 pub returns : goal.returns
 returns c =
     let a = c.args in
-    let d = c.write_values-2.ensures in
+    let d = c.send-2.ensures in
     let w =
     written-sent a.message a.keys.now a.badges.now a.numbers.now c.fixed_of-fixed.ensures
     c.entries_of-entries.ensures
     a.bytes.now
     (holds c.enough_places.ensures (ap not c.if-not-enough_places.false)) in
-    (wrote-length _ ∙ ap written_by d.0 ∙ w.0, d.1 ∙ w.1)
+    (d.0 ∙ w.0, d.1 ∙ w.1)
