@@ -1,20 +1,16 @@
 -- Of specs/FileLaws: what cites a theorem there that a changed definition can make fail.
-use Rattle.std.specs.Prelude.{◌≡◌, ℕ, ◌+◌, ◌-◌, ◌*◌, ◌/◌, ◌≤◌, ◌<◌, min, List, false, take}
+use Rattle.std.specs.Prelude.{◌≡◌, ℕ, ◌-◌, min, List, take}
 use Rattle.std.proofs.Math.Path.{sym, ap}
-use Rattle.std.proofs.Common.{ap₂, ◌∙◌, true≢false, length-drop, take_all, length-take-le}
+use Rattle.std.proofs.Common.{ap₂, ◌∙◌, length-drop, take_all}
 use native.Mathlib.Omega.{arith}
-use Rattle.std.proofs.Math.Bool.{true}
-use Rattle.std.proofs.Math.Dec.{leb}
-use Rattle.std.proofs.Math.ListN.{length, get_or, drop, drop_of_length-le, get_or-eq_default}
-use borrow.Author.Tests.{eq-eqb, ne_eqb, le-leb, lt-leb, leb-true, leb-false}
-use Rattle.ranges.specs.Tests.{by-test, by_equal}
-use Rattle.ranges.specs.Laid.{built, laid}
-use Rattle.ranges.specs.LaidLaws.{built-length, laid_front}
+use Rattle.std.proofs.Math.ListN.{length, drop}
+use Rattle.ranges.specs.Tests.{by-test}
+use Rattle.ranges.specs.Laid.{built}
+use Rattle.ranges.specs.LaidLaws.{laid_front}
 use Rattle.recordings.specs.Recording.{well_made}
 use Rattle.recordings.specs.Comparing.{compared}
-use Rattle.recordings.specs.Whole.{well-made_many}
 use Rattle.recordings.specs.LinkLaws.{compared-refused, compared-refused_other}
-use Rattle.recording_files.specs.File.{word_at, frames_in, bytes_place, is_file, length_at, lengths_in, bytes_in, compared_files}
+use Rattle.recording_files.specs.File.{frames_in, length_at, lengths_in, bytes_in, compared_files}
 use Rattle.recording_files.specs.FileLaws.{LengthsRead, Place, most_read, read_one, read_other, same_judgement, well-made-read}
 
 module _ (f g : ℕ → ℕ) (n m : ℕ) (bytes bytes' : List ℕ) where

@@ -1,7 +1,7 @@
 -- The cases of a file, as the code meets them.
 use Rattle.std.specs.Prelude.{◌≡◌, ℕ, ◌+◌, ◌-◌, ◌*◌, ◌/◌, ◌≤◌, ◌<◌, min, List, false, take}
 use Rattle.std.proofs.Math.Path.{sym, ap}
-use Rattle.std.proofs.Common.{ap₂, ◌∙◌, true≢false, length-drop, take_all, length-take-le}
+use Rattle.std.proofs.Common.{◌∙◌, true≢false, length-take-le}
 use native.Mathlib.Omega.{arith}
 use Rattle.std.proofs.Math.Bool.{true}
 use Rattle.std.proofs.Math.Dec.{leb}
@@ -11,10 +11,8 @@ use Rattle.ranges.specs.Tests.{by-test, by_equal}
 use Rattle.ranges.specs.Laid.{built, laid}
 use Rattle.ranges.specs.LaidLaws.{built-length, laid_front}
 use Rattle.recordings.specs.Recording.{well_made}
-use Rattle.recordings.specs.Comparing.{compared}
 use Rattle.recordings.specs.Whole.{well-made_many}
-use Rattle.recordings.specs.LinkLaws.{compared-refused, compared-refused_other}
-use Rattle.recording_files.specs.File.{word_at, frames_in, bytes_place, is_file, length_at, lengths_in, bytes_in, compared_files}
+use Rattle.recording_files.specs.File.{word_at, frames_in, bytes_place, is_file, length_at, bytes_in}
 
 -- as many lengths as are looked at: one more than a recording may have
 abbrev pub most_read : ℕ

@@ -2,11 +2,9 @@
 // them compared, and what the program prints of that. No file is opened here.
 #![tactic(auto)]
 
-ghost use Rattle.std.specs.Prelude.{◌≡◌, true, [], ◌∷◌, ◌+◌, ◌*◌, ◌≤◌, ◌<◌, length, get_or};
+ghost use Rattle.std.specs.Prelude.{◌≡◌, true, ◌+◌, ◌*◌, ◌≤◌, ◌<◌, length, get_or};
 ghost use Rattle.ranges.specs.Laid.{laid};
-ghost use Rattle.printing.specs.Texts.{spaced};
 ghost use Rattle.printing.specs.Printed.{Printed};
-ghost use Rattle.printing.specs.Sizes.{marked_most};
 ghost use Rattle.recordings.specs.Results.{compared_by};
 ghost use Rattle.recording_files.specs.File.{word_at, frames_in, is_file, length_at, compared_files, differ_text, compared_text, text_most};
 ghost use Rattle.recording_files.specs.FileLaws.{Lengths, LengthsRead, Place, Counts};
@@ -111,46 +109,16 @@ pub fn compare_files(file: &[u8], file2: &[u8]) -> Result<Option<Difference>, Re
     comparing::compare(&one, &other)
 }
 
-// One byte of print.
-fn put_byte(byte: u8, out: &mut [u8], at: usize) -> usize
-    requires { at < length out.old }
-    ensures { Printed out.old at (byte ∷ []) result out.new }
-{
-    out[at] = byte;
-    at + 1
-}
-
-// A few bytes.
-fn print_bytes(text: &[u8], out: &mut [u8], at: usize) -> usize
-    requires { at + length text.now ≤ length out.old }
-    ensures { Printed out.old at text.now result out.new }
-{
-    let mut next = at;
-    for byte in text {
-        next = put_byte(*byte, out, next);
-    }
-    next
-}
-
-// A number behind one space.
-fn print_spaced(number: u32, out: &mut [u8], at: usize) -> usize
-    requires { at + marked_most ≤ length out.old }
-    ensures { Printed out.old at (spaced number) result out.new × (result ≤ at + marked_most) }
-{
-    let next = put_byte(b' ', out, at);
-    number_text::print_decimal(number as u64, out, next)
-}
-
 // A difference.
 fn print_difference(difference: Difference, out: &mut [u8]) -> usize
     requires { text_most ≤ length out.old }
     ensures { Printed out.old 0 (differ_text difference.client difference.target difference.place) result out.new × (result ≤ text_most) }
 {
-    let word = print_bytes(b"differ", out, 0);
-    let panel = print_spaced(difference.client as u32, out, word);
-    let end = print_spaced(difference.target as u32, out, panel);
-    let last = print_spaced(difference.place, out, end);
-    put_byte(b'\n', out, last)
+    let word = number_text::print_bytes(b"differ", out, 0);
+    let panel = number_text::print_spaced(difference.client as u32, out, word);
+    let end = number_text::print_spaced(difference.target as u32, out, panel);
+    let last = number_text::print_spaced(difference.place, out, end);
+    number_text::put_byte(b'\n', out, last)
 }
 
 // What is printed of an answer.
@@ -159,7 +127,7 @@ pub fn print_compared(answer: Result<Option<Difference>, Refusal>, out: &mut [u8
     ensures { Printed out.old 0 (compared_text (compared_by answer)) result out.new × (result ≤ text_most) }
 {
     match answer {
-        Ok(None) => print_bytes(b"agree\n", out, 0),
+        Ok(None) => number_text::print_bytes(b"agree\n", out, 0),
         Ok(Some(difference)) => print_difference(difference, out),
         Err(refusal) => answer_text::print_refusal(refusal.number() as u32, out, 0),
     }

@@ -1,6 +1,5 @@
 -- What is read of the two files is what they hold, or is refused as they are.
 use Rattle.std.proofs.Common.{◌∙◌}
-use Rattle.recording_files.specs.FileLaws.{read-counted}
 use Rattle.recording_files.proofs.FileLaws.{files-read}
 use Rattle.recording_files.proofs.compare_files.Goals as goal
 

@@ -1,6 +1,5 @@
 -- In each arm the answer is its variant, and the text is the definition's clause.
 use Rattle.std.proofs.Common.{rules, arith}
-use Rattle.recordings.specs.Results.{compared_by}
 use Rattle.recording_files.proofs.print_compared.Goals as goal
 
 pub returns-in-Ok-None : goal.returns-in-Ok-None

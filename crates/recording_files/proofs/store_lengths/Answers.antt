@@ -1,5 +1,4 @@
 -- The first i lengths are stored.
-use Prim.Native.Nat.{◌-◌}
 use native.Mathlib.Omega.{arith}
 use Rattle.ranges.specs.LaidLaws.{laying-none, laying-more, laying-all}
 use Rattle.recording_files.proofs.store_lengths.Goals as goal
