@@ -2,6 +2,7 @@
 #![tactic(auto)]
 
 ghost use Rattle.std.specs.Prelude.{◌≡◌};
+ghost use Rattle.std.specs.Result.{result_map_both};
 ghost use Rattle.causes.specs.Numbers.{number_of};
 
 #[derive(Clone, Copy, PartialEq, Eq)]
@@ -63,5 +64,15 @@ impl Refusal {
             Refusal::NothingLost => 15,
             Refusal::IllMade => 16,
         }
+    }
+}
+
+// An answer, where it is refused by the number of its cause: for who takes any number of a refusal.
+pub fn numbered<T>(answer: Result<T, Refusal>) -> Result<T, u8>
+    ensures { result ≡ result_map_both (λ given. given) number_of answer }
+{
+    match answer {
+        Ok(given) => Ok(given),
+        Err(refusal) => Err(refusal.number()),
     }
 }

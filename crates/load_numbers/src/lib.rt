@@ -2,8 +2,12 @@
 // `workload_exports` answers these; they stand below it, so that an edit of a number proves no load.
 #![tactic(auto)]
 
-ghost use Rattle.std.specs.Prelude.{◌≡◌};
-ghost use Rattle.workload.specs.Results.{next_of};
+ghost use Rattle.std.specs.Prelude.{◌≡◌, None, MatchResult};
+ghost use Rattle.std.specs.Option.{option_map_or};
+ghost use Rattle.std.specs.Result.{result_err, result_unwrap_or};
+ghost use Rattle.workload.specs.Next as next_step;
+ghost use Rattle.workload.specs.Results.{next_given, next_of};
+ghost use Rattle.workload_run.specs.Load.{Played, Refused};
 ghost use Rattle.workload_run.specs.Results.{load_of};
 ghost use Rattle.load_numbers.specs.Numbers.{pick_of, no_pick, next_numbers, load_numbers};
 
@@ -65,20 +69,28 @@ fn given_pick(pick: Pick) -> LoadPick
     }
 }
 
-// The next step of a load as it crosses.
-pub fn next_numbers(seed: u32, next: Result<Option<Pick>, Refusal>) -> LoadPick
-    ensures { result ≡ next_numbers seed (next_of next) }
+// The next step of a load as it crosses; a refusal goes by any number.
+pub fn next_numbers(seed: u32, next: Result<Option<Pick>, u8>) -> LoadPick
+    ensures { result
+        ≡ next_numbers seed (option_map_or next_step.Refused (result_err next) (next_given (result_unwrap_or next None))) }
 {
     match next {
-        Err(refusal) => no_pick(refusal.number() as u32, seed),
+        Err(number) => no_pick(number as u32, seed),
         Ok(None) => no_pick(256, seed),
         Ok(Some(pick)) => given_pick(pick),
     }
 }
 
-// A load's end as it crosses.
-pub fn load_numbers(seed: u32, load: Result<Progress, Refusal>) -> LoadEnd
-    ensures { result ≡ load_numbers seed (load_of load) }
+// What a pick gives, as it crosses.
+pub fn of_pick(seed: u32, next: Result<Option<Pick>, Refusal>) -> LoadPick
+    ensures { result ≡ next_numbers seed (next_of next) }
+{
+    next_numbers(seed, causes::numbered(next))
+}
+
+// A load's end as it crosses; a refusal goes by any number.
+pub fn load_numbers(seed: u32, load: Result<Progress, u8>) -> LoadEnd
+    ensures { MatchResult load (λ p. result ≡ load_numbers seed (Played p.given p.seed)) (λ n. result ≡ load_numbers seed (Refused n)) }
 {
     match load {
         Ok(progress) => LoadEnd {
@@ -86,10 +98,17 @@ pub fn load_numbers(seed: u32, load: Result<Progress, Refusal>) -> LoadEnd
             steps: progress.given,
             seed: progress.seed,
         },
-        Err(refusal) => LoadEnd {
-            answer: refusal.number() as u32,
+        Err(number) => LoadEnd {
+            answer: number as u32,
             steps: 0,
             seed,
         },
     }
+}
+
+// What a load answers, as it crosses.
+pub fn of_load(seed: u32, load: Result<Progress, Refusal>) -> LoadEnd
+    ensures { result ≡ load_numbers seed (load_of load) }
+{
+    load_numbers(seed, causes::numbered(load))
 }

@@ -2,22 +2,22 @@
 // of a schedule.
 #![tactic(auto)]
 
-ghost use Rattle.std.specs.Prelude.{◌≡◌, [], ◌∷◌, ◌+◌, ◌-◌, ◌≤◌, ◌<◌, length, replicate};
-ghost use Rattle.causes.specs.Numbers.{number_of};
+ghost use Rattle.std.specs.Prelude.{◌≡◌, [], ◌∷◌, ◌+◌, ◌-◌, ◌≤◌, ◌<◌, length, replicate, None};
+ghost use Rattle.std.specs.Option.{option_map_or};
+ghost use Rattle.std.specs.Result.{result_err, result_unwrap_or};
 ghost use Rattle.tables.specs.Tables.{Tables};
-ghost use Rattle.rules.specs.Answer.{Ok};
-ghost use Rattle.rules.specs.Results.{answer_by};
+ghost use Rattle.rules.specs.Answer.{Ok, Refused};
 ghost use Rattle.schedule.specs.Numbers.{numbers_of};
 ghost use Rattle.schedule.specs.NumberLaws.{before};
 ghost use Rattle.schedule.specs.Steps.{line_most};
 ghost use Rattle.printing.specs.StepTexts.{step_line};
 ghost use Rattle.printing.specs.Printed.{Printed};
 ghost use Rattle.printing.specs.Sizes.{answer_most};
+ghost use Rattle.workload.specs.Next as next_step;
 ghost use Rattle.workload.specs.Results.{next_given};
 ghost use Rattle.load_text.specs.Asked.{asked_for, asked_by, asked_of};
 ghost use Rattle.load_text.specs.Given.{refusing, opened_by, picked_by, Gave};
 
-use causes::Refusal;
 use schedule::Step;
 use workload::Pick;
 
@@ -82,12 +82,12 @@ fn print_equal(step: Step, setpoint: u32, servers: u32, out: &mut [u8], at: usiz
     step_text::print_step(step, &setpoints[..servers as usize], out, at)
 }
 
-// The run of a load that is refused: the number of the cause is all that is printed.
-pub fn refuse(refusal: Refusal, out: &mut [u8]) -> Giving
+// The run of a load that is refused: the number is all that is printed.
+pub fn refuse(number: u32, out: &mut [u8]) -> Giving
     requires { answer_most ≤ length out.old }
-    ensures { (t : Tables) → Gave (refusing (number_of refusal) t) 0 out.old result out.new t }
+    ensures { (t : Tables) → Gave (refusing number t) 0 out.old result out.new t }
 {
-    let used = answer_text::print_refusal(refusal.number() as u32, out, 0);
+    let used = answer_text::print_refusal(number, out, 0);
     Giving {
         left: 0,
         seed: 0,
@@ -95,15 +95,15 @@ pub fn refuse(refusal: Refusal, out: &mut [u8]) -> Giving
     }
 }
 
-// The run behind an opening: its line is printed first.
-pub fn print_opening(wanted: Wanted, answer: Result<(), Refusal>, out: &mut [u8]) -> Giving
-    requires servers_bound { answer_by answer ≡ Ok → wanted.servers ≤ 16 }
+// The run behind an opening: its line is printed first. A refusal goes by any number.
+pub fn print_opening(wanted: Wanted, answer: Result<(), u8>, out: &mut [u8]) -> Giving
+    requires servers_bound { option_map_or Refused (result_err answer) Ok ≡ Ok → wanted.servers ≤ 16 }
     requires answer_most_in_bounds { answer_most ≤ length out.old }
     ensures { (t : Tables) →
-        Gave (opened_by wanted (answer_by answer) t) 0 out.old result out.new t }
+        Gave (opened_by wanted (option_map_or Refused (result_err answer) Ok) t) 0 out.old result out.new t }
 {
     match answer {
-        Err(refusal) => refuse(refusal, out),
+        Err(number) => refuse(number as u32, out),
         Ok(()) => {
             let step = Step::Open(wanted.method, wanted.servers, wanted.clients);
             let used = print_equal(step, 0, wanted.servers, out, 0);
@@ -116,10 +116,10 @@ pub fn print_opening(wanted: Wanted, answer: Result<(), Refusal>, out: &mut [u8]
     }
 }
 
-// The run behind a pick: the line of the step that it gives is printed; where it gives none, no more are wanted.
+// The run behind a pick: the line of the step that it gives is printed; where it gives none, or is refused, no more are wanted.
 pub fn print_next(
     run: Giving,
-    next: Option<Pick>,
+    next: Result<Option<Pick>, u8>,
     servers: u32,
     out: &mut [u8],
     at: usize,
@@ -127,15 +127,16 @@ pub fn print_next(
     requires servers_bound { (servers ≤ 16) × (0 < run.left) }
     requires answer_most_in_bounds { at + answer_most ≤ length out.old }
     ensures { (t : Tables) →
-        Gave (picked_by (next_given next) servers run.left run.seed t) at out.old result out.new t }
+        Gave (picked_by (option_map_or next_step.Refused (result_err next) (next_given (result_unwrap_or next None)))
+        servers run.left run.seed t) at out.old result out.new t }
 {
     match next {
-        None => Giving {
+        Err(_) | Ok(None) => Giving {
             left: 0,
             seed: run.seed,
             used: at,
         },
-        Some(pick) => {
+        Ok(Some(pick)) => {
             let used = print_equal(pick.step.step, pick.step.setpoint, servers, out, at);
             Giving {
                 left: run.left - 1,

@@ -42,7 +42,7 @@ pub fn begin_load(
         values.new log.new writes.now reads.now) }
 {
     let Some(wanted) = asked else {
-        return load_text::refuse(Refusal::Unreadable, out);
+        return load_text::refuse(Refusal::Unreadable.number() as u32, out);
     };
     let zeros = [0u32; 16];
     let given = wanted.servers.min(16) as usize;
@@ -60,7 +60,7 @@ pub fn begin_load(
         wanted.clients,
         &zeros[..given],
     );
-    load_text::print_opening(wanted, answer, out)
+    load_text::print_opening(wanted, causes::numbered(answer), out)
 }
 
 // One turn: a pick, and the line of the step that it gives behind what is printed so far. An error comes only where the print is written out,
@@ -83,7 +83,7 @@ pub fn give_step(
     let at = window::room_from(output, run.used, &*out)?;
     let servers = counts::count_at(press.lent().counts, counts::SERVERS);
     let next = load_steps::take_step(press, run.seed);
-    Ok(load_text::print_next(run, next, servers, out, at))
+    Ok(load_text::print_next(run, Ok(next), servers, out, at))
 }
 
 // Reads the line that asks for a load from standard input and prints the load, opening first, as a schedule; or `no` and the number.

@@ -60,35 +60,33 @@ pub fn play_opened(
         values.old log.old writes.old reads.old) }
 {
     match step {
-        Step::Unreadable => step_showing::answered(Err(Refusal::Unreadable)),
+        Step::Unreadable => step_showing::of_step(Err(Refusal::Unreadable)),
         Step::Open(method, servers, panels) => {
             let answer = sound_steps::open(
                 counts, clients, links, keys, values, log, &*writes, &*reads, method, servers,
                 panels, setpoints,
             );
-            step_showing::answered(answer)
+            step_showing::of_step(answer)
         }
-        Step::BeginWrite(client, mask, badge) => step_showing::answered(
+        Step::BeginWrite(client, mask, badge) => step_showing::of_step(
             sound_steps::begin_write_sound(
                 counts, clients, links, &*keys, &*values, &*log, writes, &*reads, client, mask,
                 badge, setpoints,
             ),
         ),
-        Step::BeginRead(client, mask) => step_showing::answered(sound_steps::begin_read_sound(
+        Step::BeginRead(client, mask) => step_showing::of_step(sound_steps::begin_read_sound(
             counts, clients, links, &*keys, &*values, &*log, &*writes, reads, client, mask,
         )),
-        Step::Request(client, target) => step_showing::answered(
-            sound_steps::deliver_request_sound(
-                counts, &*clients, links, keys, values, log, writes, &*reads, client, target,
-            ),
-        ),
+        Step::Request(client, target) => step_showing::of_step(sound_steps::deliver_request_sound(
+            counts, &*clients, links, keys, values, log, writes, &*reads, client, target,
+        )),
         Step::Reply(client, target) => deliver_reply(
             counts, clients, links, &*keys, &*values, &*log, writes, reads, client, target,
         ),
-        Step::Lose(client, target) => step_showing::answered(sound_steps::lose_sound(
+        Step::Lose(client, target) => step_showing::of_step(sound_steps::lose_sound(
             counts, &*clients, links, &*keys, &*values, &*log, &*writes, &*reads, client, target,
         )),
-        Step::Resend(client, target) => step_showing::answered(sound_steps::resend_sound(
+        Step::Resend(client, target) => step_showing::of_step(sound_steps::resend_sound(
             counts, &*clients, links, &*keys, &*values, &*log, &*writes, &*reads, client, target,
         )),
     }

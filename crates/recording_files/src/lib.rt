@@ -2,10 +2,13 @@
 // them compared, and what the program prints of that. No file is opened here.
 #![tactic(auto)]
 
-ghost use Rattle.std.specs.Prelude.{◌≡◌, true, ◌+◌, ◌*◌, ◌≤◌, ◌<◌, length, get_or};
+ghost use Rattle.std.specs.Prelude.{◌≡◌, true, ◌+◌, ◌*◌, ◌≤◌, ◌<◌, length, get_or, None};
+ghost use Rattle.std.specs.Option.{option_map_or};
+ghost use Rattle.std.specs.Result.{result_err, result_unwrap_or};
 ghost use Rattle.ranges.specs.Laid.{laid};
 ghost use Rattle.printing.specs.Printed.{Printed};
-ghost use Rattle.recordings.specs.Results.{compared_by};
+ghost use Rattle.recordings.specs.Compared.{Refused};
+ghost use Rattle.recordings.specs.Results.{agreement_by, compared_by};
 ghost use Rattle.recording_files.specs.File.{word_at, frames_in, is_file, length_at, compared_files, differ_text, compared_text, text_most};
 ghost use Rattle.recording_files.specs.FileLaws.{Lengths, LengthsRead, Place, Counts};
 
@@ -121,15 +124,17 @@ fn print_difference(difference: Difference, out: &mut [u8]) -> usize
     number_text::put_byte(b'\n', out, last)
 }
 
-// What is printed of an answer.
-pub fn print_compared(answer: Result<Option<Difference>, Refusal>, out: &mut [u8]) -> usize
+// What is printed of an answer; a refusal goes by any number.
+pub fn print_compared(answer: Result<Option<Difference>, u8>, out: &mut [u8]) -> usize
     requires { text_most ≤ length out.old }
-    ensures { Printed out.old 0 (compared_text (compared_by answer)) result out.new × (result ≤ text_most) }
+    ensures { Printed out.old 0
+        (compared_text (option_map_or Refused (result_err answer) (agreement_by (result_unwrap_or answer None))))
+        result out.new × (result ≤ text_most) }
 {
     match answer {
         Ok(None) => number_text::print_bytes(b"agree\n", out, 0),
         Ok(Some(difference)) => print_difference(difference, out),
-        Err(refusal) => answer_text::print_refusal(refusal.number() as u32, out, 0),
+        Err(number) => answer_text::print_refusal(number as u32, out, 0),
     }
 }
 
@@ -140,5 +145,5 @@ pub fn print_files(file: &[u8], file2: &[u8], out: &mut [u8]) -> usize
         out.new × Counts result out.new }
 {
     let answer = compare_files(file, file2);
-    print_compared(answer, out)
+    print_compared(causes::numbered(answer), out)
 }

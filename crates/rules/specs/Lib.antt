@@ -12,4 +12,5 @@ pub mod Choice
 pub mod Reply
 pub mod Loss
 pub mod Results
+pub mod ResultLaws
 pub mod Examples

@@ -38,7 +38,7 @@ pub extern "C" fn store_begin_write_unchecked(
         writes.old reads.now)) }
 {
     // Kept: (a) eight slices for themselves, here and below: names and signatures are the C interface.
-    step_numbers::answer_number(sound_steps::begin_write_sound(
+    step_numbers::of_step(sound_steps::begin_write_sound(
         counts, clients, links, keys, values, log, writes, reads, client, mask, badge, setpoints,
     ))
 }
@@ -66,7 +66,7 @@ pub extern "C" fn store_begin_read_unchecked(
         values.now log.now
         writes.now reads.old)) }
 {
-    step_numbers::answer_number(sound_steps::begin_read_sound(
+    step_numbers::of_step(sound_steps::begin_read_sound(
         counts, clients, links, keys, values, log, writes, reads, client, mask,
     ))
 }
@@ -94,7 +94,7 @@ pub extern "C" fn store_deliver_request_unchecked(
         values.old log.old
         writes.old reads.now)) }
 {
-    step_numbers::answer_number(sound_steps::deliver_request_sound(
+    step_numbers::of_step(sound_steps::deliver_request_sound(
         counts, clients, links, keys, values, log, writes, reads, client, target,
     ))
 }
@@ -155,7 +155,7 @@ pub extern "C" fn store_lose_unchecked(
         values.now log.now
         writes.now reads.now)) }
 {
-    step_numbers::answer_number(sound_steps::lose_sound(
+    step_numbers::of_step(sound_steps::lose_sound(
         counts, clients, links, keys, values, log, writes, reads, client, target,
     ))
 }
@@ -182,7 +182,7 @@ pub extern "C" fn store_resend_unchecked(
         values.now log.now
         writes.now reads.now)) }
 {
-    step_numbers::answer_number(sound_steps::resend_sound(
+    step_numbers::of_step(sound_steps::resend_sound(
         counts, clients, links, keys, values, log, writes, reads, client, target,
     ))
 }

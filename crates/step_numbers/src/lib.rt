@@ -4,20 +4,30 @@
 #![tactic(auto)]
 
 ghost use Rattle.std.specs.Prelude.{◌≡◌};
+ghost use Rattle.std.specs.Option.{option_map_or};
+ghost use Rattle.std.specs.Result.{result_err};
+ghost use Rattle.rules.specs.Answer.{Ok, Refused};
 ghost use Rattle.rules.specs.Results.{answer_by};
 ghost use Rattle.step_numbers.specs.Numbers.{answer_number, arrival_number, crossing_of};
 
 use causes::Refusal;
 use rules::{Arrival, Delivered};
 
-// An answer as a number.
-pub fn answer_number(answer: Result<(), Refusal>) -> u32
-    ensures { result ≡ answer_number (answer_by answer) }
+// An answer as a number; a refusal goes by any number.
+pub fn answer_number(answer: Result<(), u8>) -> u32
+    ensures { result ≡ answer_number (option_map_or Refused (result_err answer) Ok) }
 {
     match answer {
         Ok(()) => 0,
-        Err(refusal) => refusal.number() as u32,
+        Err(number) => number as u32,
     }
+}
+
+// A step's answer as a number.
+pub fn of_step(answer: Result<(), Refusal>) -> u32
+    ensures { result ≡ answer_number (answer_by answer) }
+{
+    answer_number(causes::numbered(answer))
 }
 
 // A delivered reply's answer as a number.
@@ -44,8 +54,8 @@ pub struct Crossing {
     pub badges: [u32; 16],
 }
 
-// The answer as it crosses.
 impl From<Delivered> for Crossing {
+    // The answer as it crosses.
     fn from(delivered: Delivered) -> Crossing
         ensures { result ≡ crossing_of delivered }
     {

@@ -2,7 +2,10 @@
 #![tactic(auto)]
 
 ghost use Rattle.std.specs.Prelude.{◌≡◌};
+ghost use Rattle.std.specs.Option.{option_map_or};
+ghost use Rattle.std.specs.Result.{result_err};
 ghost use Rattle.tables.specs.Tables.{Tables};
+ghost use Rattle.rules.specs.Answer.{Ok, Refused};
 ghost use Rattle.rules.specs.Answers.{left, arrived};
 ghost use Rattle.rules.specs.Results.{answer_by};
 ghost use Rattle.playing.specs.Played.{answer_word, arrival_word, showing, noted, plainly, left_played, arrived_played, mask_or_zero};
@@ -13,13 +16,13 @@ use printing::Word;
 use rules::{Arrival, Delivered};
 use tables::clients::{MASK, WIDTH};
 
-// The word of an opening, a begin, a delivered request, a loss and a resend.
-fn answer_word(answer: Result<(), Refusal>) -> Word
-    ensures { result ≡ answer_word (answer_by answer) }
+// The word of an answer; a refusal goes by any number.
+fn answer_word(answer: Result<(), u8>) -> Word
+    ensures { result ≡ answer_word (option_map_or Refused (result_err answer) Ok) }
 {
     match answer {
         Ok(()) => Word::Ok,
-        Err(refusal) => Word::No(refusal.number() as u32),
+        Err(number) => Word::No(number as u32),
     }
 }
 
@@ -56,11 +59,18 @@ pub fn plain(word: Word) -> Shown
     noted(word, 0)
 }
 
-// What is printed of an opening, a begin, a delivered request, a loss and a resend.
-pub fn answered(answer: Result<(), Refusal>) -> Shown
-    ensures { (t : Tables) → showing result t ≡ left_played (left (answer_by answer) t) }
+// What is printed of an answer; a refusal goes by any number.
+pub fn answered(answer: Result<(), u8>) -> Shown
+    ensures { (t : Tables) → showing result t ≡ left_played (left (option_map_or Refused (result_err answer) Ok) t) }
 {
     plain(answer_word(answer))
+}
+
+// What is printed of an opening, a begin, a delivered request, a loss and a resend.
+pub fn of_step(answer: Result<(), Refusal>) -> Shown
+    ensures { (t : Tables) → showing result t ≡ left_played (left (answer_by answer) t) }
+{
+    answered(causes::numbered(answer))
 }
 
 // What is printed of a delivered reply; the mask is that of the client.

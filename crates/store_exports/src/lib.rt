@@ -57,7 +57,7 @@ pub extern "C" fn store_open(
     ensures { numbered result (tables_of counts.new clients.new links.new keys.new values.new log.new writes.now reads.now)
         ≡ in_numbers (open' method servers panels setpoints.now (tables_of counts.old clients.old links.old keys.old values.old log.old writes.now reads.now)) }
 {
-    step_numbers::answer_number(store::open(
+    step_numbers::of_step(store::open(
         counts, clients, links, keys, values, log, writes, reads, method, servers, panels,
         setpoints,
     ))
@@ -82,7 +82,7 @@ pub extern "C" fn store_begin_write(
     ensures { numbered result (tables_of counts.new clients.new links.new keys.now values.now log.now writes.new reads.now)
         ≡ in_numbers (begin_write client mask badge setpoints.now (tables_of counts.old clients.old links.old keys.now values.now log.now writes.old reads.now)) }
 {
-    step_numbers::answer_number(store::begin_write(
+    step_numbers::of_step(store::begin_write(
         counts, clients, links, keys, values, log, writes, reads, client, mask, badge, setpoints,
     ))
 }
@@ -104,7 +104,7 @@ pub extern "C" fn store_begin_read(
     ensures { numbered result (tables_of counts.new clients.new links.new keys.now values.now log.now writes.now reads.new)
         ≡ in_numbers (begin_read client mask (tables_of counts.old clients.old links.old keys.now values.now log.now writes.now reads.old)) }
 {
-    step_numbers::answer_number(store::begin_read(
+    step_numbers::of_step(store::begin_read(
         counts, clients, links, keys, values, log, writes, reads, client, mask,
     ))
 }
@@ -126,7 +126,7 @@ pub extern "C" fn store_deliver_request(
     ensures { numbered result (tables_of counts.new clients.now links.new keys.new values.new log.new writes.new reads.now)
         ≡ in_numbers (deliver_request client target (tables_of counts.old clients.now links.old keys.old values.old log.old writes.old reads.now)) }
 {
-    step_numbers::answer_number(store::deliver_request(
+    step_numbers::of_step(store::deliver_request(
         counts, clients, links, keys, values, log, writes, reads, client, target,
     ))
 }
@@ -174,7 +174,7 @@ pub extern "C" fn store_lose(
         values.now log.now
         writes.now reads.now)) }
 {
-    step_numbers::answer_number(store::lose(
+    step_numbers::of_step(store::lose(
         counts, clients, links, keys, values, log, writes, reads, client, target,
     ))
 }
@@ -200,7 +200,7 @@ pub extern "C" fn store_resend(
         values.now log.now
         writes.now reads.now)) }
 {
-    step_numbers::answer_number(store::resend(
+    step_numbers::of_step(store::resend(
         counts, clients, links, keys, values, log, writes, reads, client, target,
     ))
 }

@@ -33,23 +33,23 @@ pub fn play_unopened(
         values.old log.old writes.old reads.old) }
 {
     match step {
-        Step::Unreadable => step_showing::answered(Err(Refusal::Unreadable)),
+        Step::Unreadable => step_showing::of_step(Err(Refusal::Unreadable)),
         Step::Open(method, servers, panels) => {
             let answer = sound_steps::open(
                 counts, clients, links, keys, values, log, &*writes, &*reads, method, servers,
                 panels, setpoints,
             );
-            step_showing::answered(answer)
+            step_showing::of_step(answer)
         }
-        Step::BeginWrite(_, _, _) => step_showing::answered(Err(Refusal::NotSound)),
-        Step::BeginRead(_, _) => step_showing::answered(Err(Refusal::NotSound)),
-        Step::Request(_, _) => step_showing::answered(Err(Refusal::NotSound)),
+        Step::BeginWrite(_, _, _) => step_showing::of_step(Err(Refusal::NotSound)),
+        Step::BeginRead(_, _) => step_showing::of_step(Err(Refusal::NotSound)),
+        Step::Request(_, _) => step_showing::of_step(Err(Refusal::NotSound)),
         Step::Reply(client, _) => {
             // A delivered reply has its client's mask beside it, refused or not.
             let mask = step_showing::mask_of(&*clients, client);
             step_showing::noted(Word::No(Refusal::NotSound.number() as u32), mask)
         }
-        Step::Lose(_, _) => step_showing::answered(Err(Refusal::NotSound)),
-        Step::Resend(_, _) => step_showing::answered(Err(Refusal::NotSound)),
+        Step::Lose(_, _) => step_showing::of_step(Err(Refusal::NotSound)),
+        Step::Resend(_, _) => step_showing::of_step(Err(Refusal::NotSound)),
     }
 }

@@ -46,7 +46,7 @@ pub extern "C" fn load_next_step(
         writes,
         reads,
     };
-    load_numbers::next_numbers(seed, load_pick::next_step(&lent, seed))
+    load_numbers::of_pick(seed, load_pick::next_step(&lent, seed))
 }
 
 // Plays a load of a wanted length on the lent tables, and lists its steps in rows of four words: kind, client, mask or target, setpoint.
@@ -82,5 +82,5 @@ pub extern "C" fn load_play(
         reads,
     };
     let load = load_run::play_load(&mut press, seed, wanted, list);
-    load_numbers::load_numbers(seed, load)
+    load_numbers::of_load(seed, load)
 }

@@ -16,6 +16,6 @@ returns-in-Ok-Some c = (
 
 pub returns-in-Err : goal.returns-in-Err
 returns-in-Err c = (
-  rw (c.in-Err.is, ← c.number.ensures) c.print_refusal.ensures.0,
+  rw c.in-Err.is c.print_refusal.ensures.0,
   omega (arith, c.print_refusal.ensures.1),
 )

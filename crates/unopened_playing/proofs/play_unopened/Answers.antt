@@ -7,20 +7,20 @@ use Rattle.unopened_playing.proofs.play_unopened.Goals as goal
 
 pub returns-in-Unreadable : goal.returns-in-Unreadable
 unfolding played
-returns-in-Unreadable c = rw c.in-Unreadable.is (c.answered.ensures _)
+returns-in-Unreadable c = rw c.in-Unreadable.is (c.of_step.ensures _)
 
 pub returns-in-Open : goal.returns-in-Open
 unfolding played
-returns-in-Open c = rw c.in-Open.is (left-played (c.answered-in-Open.ensures _) c.open-answer.ensures)
+returns-in-Open c = rw c.in-Open.is (left-played (c.of_step-in-Open.ensures _) c.open-answer.ensures)
 
 pub returns-in-BeginWrite : goal.returns-in-BeginWrite
-returns-in-BeginWrite c = rw c.in-BeginWrite.is (c.answered-in-BeginWrite.ensures _ ∙ begin-write_early _ c.requires _ _ _ _)
+returns-in-BeginWrite c = rw c.in-BeginWrite.is (c.of_step-in-BeginWrite.ensures _ ∙ begin-write_early _ c.requires _ _ _ _)
 
 pub returns-in-BeginRead : goal.returns-in-BeginRead
-returns-in-BeginRead c = rw c.in-BeginRead.is (c.answered-in-BeginRead.ensures _ ∙ begin-read_early _ c.requires _ _ _)
+returns-in-BeginRead c = rw c.in-BeginRead.is (c.of_step-in-BeginRead.ensures _ ∙ begin-read_early _ c.requires _ _ _)
 
 pub returns-in-Request : goal.returns-in-Request
-returns-in-Request c = rw c.in-Request.is (c.answered-in-Request.ensures _ ∙ request_early _ c.requires _ _ _)
+returns-in-Request c = rw c.in-Request.is (c.of_step-in-Request.ensures _ ∙ request_early _ c.requires _ _ _)
 
 pub returns-in-Reply : goal.returns-in-Reply
 returns-in-Reply c =
@@ -28,7 +28,7 @@ returns-in-Reply c =
     (reply_early _ c.requires _ _ _)
 
 pub returns-in-Lose : goal.returns-in-Lose
-returns-in-Lose c = rw c.in-Lose.is (c.answered-in-Lose.ensures _ ∙ lose_early _ c.requires _ _ _)
+returns-in-Lose c = rw c.in-Lose.is (c.of_step-in-Lose.ensures _ ∙ lose_early _ c.requires _ _ _)
 
 pub returns-in-Resend : goal.returns-in-Resend
-returns-in-Resend c = rw c.in-Resend.is (c.answered-in-Resend.ensures _ ∙ resend_early _ c.requires _ _ _)
+returns-in-Resend c = rw c.in-Resend.is (c.of_step-in-Resend.ensures _ ∙ resend_early _ c.requires _ _ _)

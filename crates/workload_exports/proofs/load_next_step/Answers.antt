@@ -3,4 +3,4 @@ use Rattle.std.proofs.Common.{◌∙◌}
 use Rattle.workload_exports.proofs.load_next_step.Goals as goal
 
 pub returns : goal.returns
-returns c = c.next_numbers.ensures ∙ rw c.next_step.ensures
+returns c = c.of_pick.ensures ∙ rw c.next_step.ensures

@@ -9,5 +9,5 @@ returns c =
     let a = c.args in
     let crossed = load-crossed a.seed a.wanted a.list.now
     (tables_of a.counts.now a.clients.now a.links.now a.keys.now a.values.now a.log.now a.writes.now a.reads.now)
-    c.load_numbers.ensures c.play_load-load.ensures.played in
+    c.of_load.ensures c.play_load-load.ensures.played in
     search (rules, crossed)
