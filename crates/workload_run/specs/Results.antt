@@ -3,9 +3,8 @@ use Rattle.std.specs.Prelude.{Result, Ok, Err}
 use Rattle.causes.specs.declared.Refusal.{Refusal}
 use Rattle.causes.specs.Numbers.{number_of}
 use Rattle.workload_run.specs.declared.Progress.{Progress}
-use Rattle.workload_run.specs.Load.{Load}
 use Rattle.workload_run.specs.Load as load
 
-abbrev pub load_of : Result Progress Refusal → Load
+abbrev pub load_of : Result Progress Refusal → load.Load
 load_of (Ok p) = load.Played p.given p.seed
 load_of (Err r) = load.Refused (number_of r)
