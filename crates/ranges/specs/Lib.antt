@@ -8,6 +8,7 @@ pub mod Sum
 pub mod SumLaws
 pub mod First
 pub mod FirstLaws
+pub mod Blocks
 pub mod Last
 pub mod LastLaws
 pub mod Turns

@@ -5,6 +5,7 @@ ghost use Rattle.std.specs.Prelude.{ℕ, Bool, true, false, ◌≡◌, ◌+◌, 
 ghost use Rattle.ranges.specs.All.{any_below};
 ghost use Rattle.ranges.specs.First.{first_below};
 ghost use Rattle.ranges.specs.FirstLaws.{Sought};
+ghost use Rattle.ranges.specs.Blocks.{first_block};
 ghost use Rattle.ranges.specs.Words.{equal_from};
 
 // Whether one of so many words from a place on equals a word. All are looked at: where their number stands in the code, the compiler compares
@@ -27,6 +28,7 @@ pub fn has_equal(words: &[u32], place: usize, many: usize, word: u32) -> bool
 pub fn passed<F: Fn(usize) -> bool>(from: usize, n: usize, many: usize, seen: F) -> usize
     requires many_nonzero { (from ≤ n) × (0 < many) }
     requires blocks { (at : ℕ) → at + many ≤ n → F.pre seen at }
+    ensures first { (p : ℕ → Bool) → ((at : ℕ) (b : Bool) → F.post seen at b → b ≡ p at) → result ≡ first_block p many n from }
     ensures within { result ≤ n }
     ensures stops { result + many ≤ n → F.post seen result true }
     ensures passed { (p : ℕ → Bool) → Sought p n from → ((at : ℕ) → at + many ≤ n → F.post seen at false → any_below (λ i. p (at + i)) many ≡ false)
