@@ -1,7 +1,7 @@
 // The step that a load gives next, picked by its seed among the steps that would be accepted.
 #![tactic(auto)]
 
-ghost use Rattle.std.specs.Prelude.{◌≡◌};
+ghost use Rattle.std.specs.Prelude.{◌≡◌, []};
 ghost use Rattle.tables.specs.Lent.{tables_lent};
 ghost use Rattle.tables.specs.Tables.{clients_of};
 ghost use Rattle.soundness.specs.Facts.{Sound};
@@ -20,19 +20,18 @@ use workload::Pick;
 // The numbered steps of 16 clients.
 const MOST: usize = 16 * workload::NUMBERED as usize;
 
-// The numbers of the steps that would be accepted, rising.
-fn list_accepted(t: &Lent) -> ArrayVec<u32, MOST>
-    requires { let u = tables_lent t.now in Scanned u.counts u.clients u.links u.keys u.log }
-    ensures { let u = tables_lent t.now in result.items ≡ passing (accepts u) (numbered_count (clients_of u)) }
+// The numbers of the steps that would be accepted, rising, in a row that is lent empty: as an answer it would be copied whole.
+fn list_accepted(t: &Lent, numbers: &mut ArrayVec<u32, MOST>)
+    requires scanned { let u = tables_lent t.now in Scanned u.counts u.clients u.links u.keys u.log }
+    requires none { numbers.old.items ≡ [] }
+    ensures { let u = tables_lent t.now in numbers.new.items ≡ passing (accepts u) (numbered_count (clients_of u)) }
 {
     let total = workload::NUMBERED * counts::count_at(t.counts, counts::CLIENTS);
-    let mut numbers = ArrayVec::new();
     for number in 0..total {
         if acceptable_steps::accepts(t, number) {
             numbers.push(number);
         }
     }
-    numbers
 }
 
 // The next step of a load, and the seed behind it, on tables known to be sound; none where no step is acceptable.
@@ -40,7 +39,8 @@ pub fn next_step_sound(t: &Lent, seed: u32) -> Option<Pick>
     requires { Sound (tables_lent t.now) }
     ensures { next_given result ≡ next_step (tables_lent t.now) seed }
 {
-    let numbers = list_accepted(t);
+    let mut numbers = ArrayVec::new();
+    list_accepted(t, &mut numbers);
     if numbers.is_empty() {
         return None;
     }

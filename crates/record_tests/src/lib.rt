@@ -46,9 +46,14 @@ pub fn overlap(writes: &[u32], begun: usize, begin: u32, end: u32) -> u32
     requires { (begun ≤ record_places) × RecordsThere writes.now }
     ensures { result ≡ overlap writes.now begun begin end }
 {
-    (0..begun)
-        .filter(|place| overlaps(writes, begin, end, *place))
-        .count() as u32
+    // A chain that filters and counts took twice the instructions for each WRITE.
+    let mut found = 0;
+    for place in 0..begun {
+        if overlaps(writes, begin, end, place) {
+            found += 1;
+        }
+    }
+    found
 }
 
 // How many WRITEs have a tag.
@@ -56,9 +61,13 @@ pub fn count_tagged(writes: &[u32], begun: usize) -> usize
     requires { (begun ≤ record_places) × RecordsThere writes.now }
     ensures { result ≡ count_below (λ place. not (has_tag writes.now 0 place)) begun }
 {
-    (0..begun)
-        .filter(|place| !has_tag(writes, 0, *place))
-        .count()
+    let mut found = 0;
+    for place in 0..begun {
+        if !has_tag(writes, 0, place) {
+            found += 1;
+        }
+    }
+    found
 }
 
 // How many READs are finished.
@@ -66,7 +75,11 @@ pub fn count_finished(reads: &[u32], begun: usize) -> usize
     requires { (begun ≤ record_places) × RecordsThere reads.now }
     ensures { result ≡ count_below (is_finished reads.now) begun }
 {
-    (0..begun)
-        .filter(|place| is_finished(reads, *place))
-        .count()
+    let mut found = 0;
+    for place in 0..begun {
+        if is_finished(reads, place) {
+            found += 1;
+        }
+    }
+    found
 }

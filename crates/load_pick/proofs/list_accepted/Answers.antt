@@ -9,13 +9,13 @@ use Rattle.load_pick.proofs.list_accepted.Goals.{then-accepts, else-accepts}
 
 pub loop-number-init : goal.loop-number-init
 unfolding passing
-loop-number-init c = c.new-numbers.ensures
+loop-number-init c = c.requires.none
 
 pub push-requires : goal.push-requires
 push-requires c =
     let few = passing_few (accepts (tables_lent c.args.t.now)) c.loop-number.number in
     let room : length c.loop-number.numbers.items < 576 =
-    rw c.loop-number.invariant (omega (arith, few, c.loop-number-test.true, c.count_at-total.ensures, c.requires.numberable.few)) in
+    rw c.loop-number.invariant (omega (arith, few, c.loop-number-test.true, c.count_at-total.ensures, c.requires.scanned.numberable.few)) in
     search rules
 
 pub loop-number-preserved : goal.loop-number-preserved
