@@ -1,10 +1,11 @@
 -- The search for a key, by its word, and the blocks of entries that it passes over.
-use Rattle.std.specs.Prelude.{ℕ, ◌+◌, ◌*◌, ◌≡◌, Bool, true, false, List, get_or, eqb}
+use Rattle.std.specs.Prelude.{ℕ, ◌+◌, ◌*◌, ◌≤◌, ◌≡◌, refl, Bool, true, false, List, get_or, eqb}
 use Rattle.std.proofs.Common.{sym, ap, ◌∙◌, arith}
 use Rattle.ranges.specs.Tests.{by-test, not-both}
 use Rattle.ranges.specs.All.{any_below}
 use Rattle.ranges.specs.AllLaws.{any_at, any_of}
 use Rattle.ranges.specs.First.{first_below}
+use Rattle.ranges.specs.FirstLaws.{Sought, sought-all}
 use Rattle.ranges.specs.Words.{equal_from}
 use Rattle.keys.specs.declared.Key.{Key}
 use Rattle.keys.specs.Keys.{key_word}
@@ -28,6 +29,12 @@ block-none log word tag many none =
     let key : equals (entry_width * a.0) ≡ true = ap (λ (m : ℕ). eqb (get_or log m 0) word) place ∙ a.2 in
     absurd (not-both (any_at equals (entry_width * many) (entry_width * a.0) (omega (arith, a.1)) key) (sym none)))
     (λ e. e)
+
+-- so the search goes on behind the block
+pub block-passed : (log : List ℕ) (word n tag many : ℕ) → Sought (bearer log word) n tag → tag + many ≤ n →
+    any_below (equal_from log (entry_width * tag) word) (entry_width * many) ≡ false → Sought (bearer log word) n (tag + many)
+block-passed log word n tag many s room none =
+    sought-all (bearer log word) (λ i. bearer log word (tag + i)) n tag many (λ i. refl) s room (block-none log word tag many (sym none))
 
 pub bearer_of : (log : List ℕ) (n : ℕ) (key : Key) {word r : ℕ} → word ≡ key_word key → r ≡ first_below (bearer log word) n →
     r ≡ first_entry log key n

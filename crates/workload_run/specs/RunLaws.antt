@@ -13,7 +13,7 @@ use Rattle.workload.specs.Next.{Next}
 use Rattle.workload.specs.Next as next
 use Rattle.workload.specs.Load.{next_step}
 use Rattle.workload_run.specs.Load.{Refused}
-use Rattle.workload_run.specs.Run.{step_width, step_words, after_pick, take_step, Running, running, begun, listed_next}
+use Rattle.workload_run.specs.Run.{step_width, step_words, after_pick, take_step, Running, running, begun, gone_on, listed_next}
 use Rattle.workload_run.specs.Run.{pick_one, load, Loaded, loaded, ended, play_load}
 
 -- what a pick keeps
@@ -34,6 +34,17 @@ list_length (next.Given seed x) at list = row-length step_width list at (step_wo
 pub pick-length : (x : Running) → length (pick_one x).list ≡ length x.list
 unfolding pick_one
 pick-length x = list_length (take_step x.tables x.progress.seed).next x.progress.given x.list
+
+-- one step more is given, or none and all stays
+gone_on_lem : {C : Type 0} (n : Next) (x : Running) → ((gone_on n x.progress).given ≡ x.progress.given + 1 → C) →
+    (running (gone_on n x.progress) (listed_next n x.progress.given x.list) (after_pick n x.tables) ≡ x → C) → C
+gone_on_lem (next.Refused n) x more stays = stays refl
+gone_on_lem next.End x more stays = stays refl
+gone_on_lem (next.Given seed s) x more stays = more refl
+
+pub by_pick : {C : Type 0} (x : Running) → ((pick_one x).progress.given ≡ x.progress.given + 1 → C) → (pick_one x ≡ x → C) → C
+unfolding pick_one take_step
+by_pick x more stays = gone_on_lem (next_step x.tables x.progress.seed) x more stays
 
 -- where a pick changes nothing, no later one does
 pub stays : (x : Running) {y : Running} (n : ℕ) → y ≡ load n x → pick_one y ≡ y → (m : ℕ) → n ≤ m → y ≡ load m x
