@@ -97,7 +97,7 @@ fn begin_fault(
     Ok(())
 }
 
-// A WRITE: its mask, and how many setpoints are given.
+// A WRITE, by its mask and how many setpoints are given: the causes of the numbers 3 to 7 in their order.
 pub fn write_fault(
     counts: &[u32],
     clients: &[u32],
@@ -118,7 +118,7 @@ pub fn write_fault(
     )
 }
 
-// A READ: its mask.
+// A READ, by its mask: the causes of the numbers 3 to 7 in their order.
 pub fn read_fault(counts: &[u32], clients: &[u32], client: u32, mask: u32) -> Result<(), Refusal>
     requires { Judged counts.now clients.now }
     ensures { (links keys values log writes reads : List ℕ) → fault_of result ≡ read_fault client mask (tables_of counts.now clients.now links keys values log writes reads) }

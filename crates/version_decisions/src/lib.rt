@@ -19,7 +19,7 @@ pub fn readable_of(held: usize, places: usize) -> usize
     held.min(places.min(PLACES))
 }
 
-// Whether a version may be appended. Refused by 2 where the table is too short for a server, then by 8 where no place is left.
+// Whether a version may be appended. Refused by 2 or 8: by 2 where the table is too short for a server, then by 8 where no place is left.
 #[tactic(auto, unfolding(version_records::specs::Table::append_number))]
 pub fn may_append(held: usize, places: usize) -> Result<(), Refusal>
     ensures { fault_of result ≡ append_number held places }
